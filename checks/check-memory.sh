@@ -2,8 +2,8 @@
 # Usage: checks/check-memory.sh
 # Makes the calls of `sfv_memory` once for each memory request that they make, and fails this request. Prints for each
 # call how many of its requests make it run out of memory, and how many requests the calls can do without. The status
-# is 1 if a call answers otherwise, faults or hangs, and 2 if the program does not run. It needs `rt`, but no C
-# compiler.
+# is 1 if a call answers otherwise, faults or hangs, or if the calls make more requests than they need today. It is 2 if
+# the program does not run. It needs `rt`, but no C compiler.
 cd "$(dirname "$0")/../crates/sfv_memory" || exit 2
 if ! command -v rt >/dev/null; then
     echo 'check-memory: there is no rt' >&2
@@ -23,7 +23,9 @@ done
 rt try --steps 1 --fail-alloc 1000 --cases "$room/cases" </dev/null >"$room/log" 2>&1
 
 # `rt try` prints for each case the program's line, and then how the run ended.
-awk -v most="$most" '
+# `needed` and `spared` are the numbers of requests today, and of those that the calls can do without. More of them are a
+# needless request in some call.
+awk -v most="$most" -v needed=466 -v spared=24 '
     { lines = lines $0 "\n" }
     / is out of memory$/ { answer = "call " $2 }
     / made nevertheless$/ { answer = "usual" }
@@ -54,5 +56,9 @@ awk -v most="$most" '
         for (call = 0; call < calls; call++)
             print "call " call ": " count["call " call] + 0
         print calls " calls make " request - 1 " requests, and can do without " count["usual"] + 0 " of them"
+        if (request - 1 > needed || count["usual"] > spared) {
+            print "these are more than " needed " requests, or more than " spared " of the latter"
+            failed = 1
+        }
         exit failed
     }' "$room/log"

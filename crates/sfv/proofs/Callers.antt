@@ -1,7 +1,7 @@
 -- Lemmas for callers. They lead from a value to the text, from a visitor's run to the field, and from a written text to
 -- its parsed value. Callers cite them from here.
-use Rattle.std.proofs.Common.{◌≡◌, ℕ, List, [], ◌∷◌, ◌++◌, true, cond, Result, Ok, Err, refl, sym, ◌∙◌, ap, subst}
-use Rattle.std.proofs.Common.{inl, inr}
+use Rattle.std.proofs.Common.{◌≡◌, ℕ, List, [], ◌∷◌, ◌++◌, true, cond, Result, Ok, Err, refl, sym, ◌∙◌, ap, subst, inl}
+use Rattle.std.proofs.Common.{inr}
 use Rattle.std.specs.Prelude.{fold}
 use Rattle.sfv_spec.specs.Events.{TreeEvent, events}
 use Rattle.sfv_base.specs.declared.error.ParseError.TheVariants as parse_errors
@@ -30,20 +30,17 @@ use Rattle.sfv_spec.specs.declared.error_kind.ErrorKind.{ErrorKind}
 use Rattle.sfv_base.specs.declared.error.Error.{Error}
 use Rattle.sfv_base.specs.Errors.{index_of, kind_of, out_of_memory}
 use Rattle.sfv_tree.specs.Trees.{list_tree, dictionary_tree}
-use Rattle.sfv_tree.specs.Builders.{list_state, list_step, dictionary_state}
-use Rattle.sfv_tree.specs.Builders.{ListAdds, DictionaryAdds}
+use Rattle.sfv_tree.specs.Builders.{list_state, list_step, dictionary_state, ListAdds, DictionaryAdds, dictionary_step}
 use Rattle.sfv_tree.specs.Seeds.{MemberHasSeed}
 use Rattle.sfv_tree.specs.declared.hash_seed.HashSeed.{HashSeed}
-use Rattle.sfv_tree.specs.Builders.{dictionary_step}
 use Rattle.sfv_tree.specs.declared.parsed.ListEntry.{ListEntry}
 use Rattle.sfv_tree.specs.declared.visitor.list_builder.ListBuilder.{ListBuilder}
 use Rattle.sfv_tree.specs.declared.visitor.dictionary_builder.DictionaryBuilder.{DictionaryBuilder}
 use Rattle.sfv_base.specs.declared.error.ParseError.{ParseError}
 use Rattle.sfv_tree.specs.declared.visitor.Visitor.{Ghosts as Visitor}
 use Rattle.sfv.specs.declared.parser.Parser.{Parser}
-use Rattle.sfv.specs.Parsers.{version_of, input_of}
-use Rattle.sfv.specs.Parsers.{IsParseError, IsAnswerBy, IsSyntaxErrorBy, IsVisitorErrorBy, ReceivesFirstBy}
-use Rattle.sfv.specs.Parsers.{ReceivesAsReadBy, ReadsBy, ReadsItemBy}
+use Rattle.sfv.specs.Parsers.{version_of, input_of, IsParseError, IsAnswerBy, IsSyntaxErrorBy, IsVisitorErrorBy}
+use Rattle.sfv.specs.Parsers.{ReceivesFirstBy, ReceivesAsReadBy, ReadsBy, ReadsItemBy}
 use Rattle.sfv.specs.parser.Visits.{ReturnsAfter}
 use Rattle.sfv.proofs.built.Items.{insert_entry-entered}
 use Rattle.sfv.proofs.built.Lists.{built_list_after}
@@ -109,7 +106,8 @@ pub use Rattle.sfv_spec.proofs.Runs.{IsInside, member_inside}
 -- member, after the rest of an item after its bare item, and after the rest of an inner list after its start.
 -- `last_read`: the final value comes from the last member of the key in the ordered dictionary. `on_ok`: a fact holds
 -- on success.
-pub use Rattle.sfv.proofs.LastRead.{on_ok, fold_entries, IsIdle, member_passed, item_passed, inner_list_passed, last_read}
+pub use Rattle.sfv.proofs.LastRead.{on_ok, fold_entries, IsIdle, member_passed, item_passed, inner_list_passed}
+pub use Rattle.sfv.proofs.LastRead.{last_read}
 -- The state after parameters, if each step leads to the state of one parameter more (`parameters_kept`, `state_kept`).
 -- A function of a key's last pair, after one more pair (`of_pushed`). `written_is_read`: the text of calls for an
 -- ordered value parses back under both versions, if RFC 8941 has the value.
@@ -140,7 +138,8 @@ pub use Rattle.sfv.proofs.built.Items.{built as item_built, built_fails as item_
 -- The builder of a list or dictionary returns the parsed value, if it held no member. Each member was passed to the
 -- builder, or hashes under its seed (`list_adds`). If the passed members hash under the seed, all do (`list_seeded`).
 pub use Rattle.sfv.proofs.built.Lists.{built_list as list_built, list_adds, list_seeded, no_list_held}
-pub use Rattle.sfv.proofs.built.Dictionaries.{built_dictionary as dictionary_built, dictionary_adds, dictionary_seeded, no_entry_held}
+pub use Rattle.sfv.proofs.built.Dictionaries.{built_dictionary as dictionary_built, dictionary_adds, dictionary_seeded}
+pub use Rattle.sfv.proofs.built.Dictionaries.{no_entry_held}
 
 -- the member of a key in a parsed dictionary is the last member of the key in the text, with ordered parameters
 pub member_read : (version : Version) (t : List ℕ) (value : List (List ℕ × RawMember)) (key : List ℕ)

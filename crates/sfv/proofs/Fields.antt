@@ -1,22 +1,17 @@
 -- Lemmas that lead from a visitor's result to the clause of a field crate in one step. `Callers` re-exports them.
-use Rattle.std.proofs.Common.{◌≡◌, ℕ, List, [], ◌∷◌, true, false, cond, Option, Some, None, Bool, refl, sym, ap, ◌∙◌}
-use Rattle.std.proofs.Common.{ℤ, IsTrue, ◌++◌, Result, Ok, Err, subst}
-use Rattle.std.proofs.Common.{append_assoc}
-use Rattle.std.specs.Prelude.{OnOk}
+use Rattle.std.proofs.Common.{◌≡◌, ℕ, List, [], ◌∷◌, true, false, cond, Option, Some, None, Bool, refl, sym, ap, ◌∙◌, ℤ}
+use Rattle.std.proofs.Common.{IsTrue, ◌++◌, Result, Ok, Err, subst, append_assoc}
+use Rattle.std.specs.Prelude.{OnOk, bytes_eq, fold, option_map, unwrap_or}
 use Rattle.std.proofs.lemmas.List.{append-nil}
-use Rattle.std.specs.Prelude.{bytes_eq, fold, option_map, unwrap_or}
 use Rattle.std.proofs.lemmas.Slice.Eq.{bytes_eq-Decides}
-use Rattle.sfv_spec.specs.Values.{RawField}
+use Rattle.sfv_spec.specs.Values.{RawField, BareValue, RawParameters, RawMember, IsFieldValue, integer, decimal, string}
+use Rattle.sfv_spec.specs.Values.{token, byte_sequence, boolean, date, display_string, Fits, fits_bare, bare_values}
 use Rattle.sfv_spec.specs.declared.field_kind.FieldKind.{FieldKind}
 use Rattle.sfv_spec.specs.declared.field_kind.FieldKind.TheVariants.{List as list_field, Dictionary as dictionary_field}
 use Rattle.sfv_spec.specs.declared.version.Version.{Version}
 use Rattle.sfv_spec.specs.declared.version.Version.TheVariants.{Rfc8941, Rfc9651}
-use Rattle.sfv_spec.specs.Values.{BareValue, RawParameters, RawMember, IsFieldValue}
-use Rattle.sfv_spec.specs.Values.{integer, decimal, string, token, byte_sequence, boolean, date, display_string}
-use Rattle.sfv_spec.specs.Values.{Fits, fits_bare}
 use Rattle.sfv_spec.specs.Events.{TreeEvent, entry, keyed_entry, begins_item, begins_inner_list, bare_item, parameter}
 use Rattle.sfv_spec.specs.Events.{inner_list_end, parameters_end, parameters_events, entry_events, keyed_events, events}
-use Rattle.sfv_spec.specs.Values.{bare_values}
 use Rattle.sfv_spec.specs.Ordered.{last_of, ordered, ordered_member}
 use Rattle.sfv_spec.specs.Statements.{IsParsedAs}
 use Rattle.sfv_spec.proofs.Structure.{one_field_lem}

@@ -1,11 +1,11 @@
 -- Where no field begins, the fault of its first part is that of the field.
-use Rattle.std.proofs.Common.{◌≡◌, ℕ, ◌≤◌, true, List, [], ◌∷◌, length, drop, Option, Some, None, Ok, Err, ap, subst, ◌∙◌}
+use Rattle.std.proofs.Common.{◌≡◌, ℕ, ◌≤◌, true, List, [], ◌∷◌, length, drop, Option, Some, None, Ok, Err, ap, subst}
+use Rattle.std.proofs.Common.{◌∙◌}
 use Rattle.std.specs.Prelude.{MatchOption, is_some, Result, IfErr}
 use Rattle.std.specs.declared.alloc.Global.{Global}
 use Rattle.std.proofs.lemmas.Result.{IfErr-weaker}
-use Rattle.sfv_spec.proofs.Marks.{left_parenthesis}
+use Rattle.sfv_spec.proofs.Marks.{left_parenthesis, is_space}
 use Rattle.sfv_spec.specs.Classes.{is_token_start}
-use Rattle.sfv_spec.proofs.Marks.{is_space}
 use Rattle.sfv_spec.specs.declared.field_kind.FieldKind.{FieldKind}
 use Rattle.sfv_spec.specs.declared.field_kind.FieldKind.TheVariants.{Item as item_field, List as list_field}
 use Rattle.sfv_spec.specs.declared.field_kind.FieldKind.TheVariants.{Dictionary as dictionary_field}

@@ -1,6 +1,7 @@
 -- The ends of parsing with a visitor, for its relations, a version and a text. Lemmas for callers are stated in these. A
 -- clause says the same of a visitor and a parser.
-use Rattle.std.proofs.Common.{◌≡◌, ℕ, List, [], ◌∷◌, ◌++◌, take, Some, Result, Ok, Err, refl, sym, subst, inl, inr, arith}
+use Rattle.std.proofs.Common.{◌≡◌, ℕ, List, [], ◌∷◌, ◌++◌, take, Some, Result, Ok, Err, refl, sym, subst, inl, inr}
+use Rattle.std.proofs.Common.{arith}
 use Rattle.std.specs.Prelude.{⊤, ◌⊎◌, map}
 use Rattle.std.specs.List.{FoldsTo, Contains}
 use Rattle.std.proofs.lemmas.List.Elements.{Contains-append_right}

@@ -17,9 +17,9 @@ pub use Rattle.sfv_spec.specs.Values.{Fits}
 pub use Rattle.sfv_spec.specs.Faults.{IsFaultAt}
 pub use Rattle.sfv_spec.specs.declared.error_kind.ErrorKind.{ErrorKind}
 -- events
-pub use Rattle.sfv_spec.specs.Events.{TreeEvent, entry, keyed_entry, begins_item, begins_inner_list, bare_item, parameter}
-pub use Rattle.sfv_spec.specs.Events.{parameters_end, inner_list_end, parameters_events, member_events, entry_events}
-pub use Rattle.sfv_spec.specs.Events.{keyed_events, events}
+pub use Rattle.sfv_spec.specs.Events.{TreeEvent, entry, keyed_entry, begins_item, begins_inner_list, bare_item}
+pub use Rattle.sfv_spec.specs.Events.{parameter, parameters_end, inner_list_end, parameters_events, member_events}
+pub use Rattle.sfv_spec.specs.Events.{entry_events, keyed_events, events}
 -- the values of Rust types
 pub use Rattle.sfv_base.specs.Numbers.{integer_of, thousandths_of, seconds_of}
 pub use Rattle.sfv_base.specs.Errors.{index_of, kind_of, out_of_memory}

@@ -1,23 +1,21 @@
 -- The input and the results of a parser.
-use Rattle.std.specs.Prelude.{◌≡◌, ◌≤◌, ⊤, ℕ, true, List, [], ◌∷◌, ◌++◌, codes, length, map, take, drop, Some, Result, ◌⊎◌}
-use Rattle.std.specs.Prelude.{◌↔◌, ◌==◌, ◌||◌, IfOk, IfErr, IsTrue, IsFalse, not}
+use Rattle.std.specs.Prelude.{◌≡◌, ◌≤◌, ⊤, ℕ, true, List, [], ◌∷◌, ◌++◌, codes, length, map, take, drop, Some, Result}
+use Rattle.std.specs.Prelude.{◌⊎◌, ◌↔◌, ◌==◌, ◌||◌, IfOk, IfErr, IsTrue, IsFalse, not}
 use Rattle.std.specs.List.{FoldsTo}
 use Rattle.std.specs.Borrow.{Bor}
-use Rattle.sfv_spec.specs.Values.{RawField}
+use Rattle.sfv_spec.specs.Values.{RawField, BareValue, boolean, RawItem, item, IsFieldValue}
 use Rattle.sfv_spec.specs.declared.field_kind.FieldKind.{FieldKind}
 use Rattle.sfv_spec.specs.declared.field_kind.FieldKind.TheVariants.{Item as item_field, List as list_field}
 use Rattle.sfv_spec.specs.declared.field_kind.FieldKind.TheVariants.{Dictionary as dictionary_field}
 use Rattle.sfv_spec.specs.declared.version.Version.{Version}
-use Rattle.sfv_spec.specs.Values.{BareValue, boolean, RawItem, item, IsFieldValue}
 use Rattle.sfv_spec.specs.Ascii.{byte}
 use Rattle.sfv_spec.specs.Texts.{RunOf, ◌⨾◌, IsJoining, begins_with}
 use Rattle.sfv_spec.specs.Classes.{is_key_inner}
 use Rattle.sfv_spec.specs.Grammar.{Spaces, Comma, IsBareText, IsKeyText, IsItemText, IsMemberText}
-use Rattle.sfv_spec.specs.Grammar.{IsDictionaryMemberText, IsFieldText, IsEnded, IsAccepted}
-use Rattle.sfv_spec.specs.Grammar.{BeginsWithLongest, BeginsWithComplete, HasField}
+use Rattle.sfv_spec.specs.Grammar.{IsDictionaryMemberText, IsFieldText, IsEnded, IsAccepted, BeginsWithLongest}
+use Rattle.sfv_spec.specs.Grammar.{BeginsWithComplete, HasField}
 use Rattle.sfv_spec.specs.Reach.{IsReach}
-use Rattle.sfv_spec.specs.Events.{TreeEvent, entry, keyed_entry, begins_item, bare_item, parameter}
-use Rattle.sfv_spec.specs.Events.{item_events, events}
+use Rattle.sfv_spec.specs.Events.{TreeEvent, entry, keyed_entry, begins_item, bare_item, parameter, item_events, events}
 use Rattle.sfv_spec.specs.Visiting.{BeginsEventsAfter}
 use Rattle.sfv_spec.specs.Faults.{IsFaultAt}
 use Rattle.sfv_spec.specs.declared.error_kind.ErrorKind.{ErrorKind}

@@ -1,15 +1,15 @@
 //! The field types: items, lists and dictionaries.
 
-ghost use Rattle.std.specs.Prelude.{◌≡◌, ◌≤◌, ◌↔◌, ℕ, List, Option, Some, option_map, IfOk, IfErr, OnOk, IsTrue, string_bytes, string_capacity};
+ghost use Rattle.std.specs.Prelude.{◌≡◌, ◌≤◌, ◌↔◌, ℕ, List, Option, Some, option_map, IfOk, IfErr, OnOk, IsTrue};
+ghost use Rattle.std.specs.Prelude.{string_bytes, string_capacity};
 ghost use Rattle.std.proofs.Common.{ap};
 ghost use Rattle.std.specs.declared.alloc.Global.{Global as Heap};
 ghost use Rattle.std.specs.declared.string.String.{String as Text};
-ghost use Rattle.sfv_spec.specs.Values.{RawField, HasMember};
+ghost use Rattle.sfv_spec.specs.Values.{RawField, HasMember, bare_values};
 ghost use Rattle.sfv_spec.specs.declared.field_kind.FieldKind.{FieldKind};
 ghost use Rattle.sfv_spec.specs.declared.field_kind.FieldKind.TheVariants.{Item as item_field, List as list_field};
 ghost use Rattle.sfv_spec.specs.declared.field_kind.FieldKind.TheVariants.{Dictionary as dictionary_field};
 ghost use Rattle.sfv_spec.specs.declared.version.Version.TheVariants.{Rfc9651};
-ghost use Rattle.sfv_spec.specs.Values.{bare_values};
 ghost use Rattle.sfv_spec.specs.Statements.{IsParsedAs, IsSerializedAs};
 ghost use Rattle.sfv_tree.specs.Trees.{item_tree, list_tree, dictionary_tree};
 ghost use Rattle.sfv_tree.specs.Seeds.{ItemHasSeed, ListHasSeed, DictionaryHasSeed};
@@ -21,8 +21,8 @@ ghost use Rattle.sfv.specs.Parsers.{input_of, version_of, IsParseError};
 ghost use Rattle.sfv.specs.Memory.{NeedsMemory};
 
 use crate::parser::{
-    Parser, expect_dictionary_start, expect_item_start, expect_list_start, parse_dictionary,
-    parse_item, parse_list,
+    Parser, expect_dictionary_start, expect_item_start, expect_list_start, parse_item,
+    parse_members,
 };
 use sfv_base::error::{Error, OutOfMemory};
 use sfv_spec::version::Version;
@@ -174,7 +174,7 @@ impl FieldType for List {
 
     fn parse(alloc: Global, parser: Parser<'_>) -> Result<List, Error> {
         expect_list_start(parser, alloc)?;
-        parse_list(parser, alloc)
+        parse_members::<List>(parser, alloc)
     }
 
     fn serialize(&self, alloc: Global) -> Result<Option<StdString>, OutOfMemory> {
@@ -212,7 +212,7 @@ impl FieldType for Dictionary {
 
     fn parse(alloc: Global, parser: Parser<'_>) -> Result<Dictionary, Error> {
         expect_dictionary_start(parser, alloc)?;
-        parse_dictionary(parser, alloc)
+        parse_members::<Dictionary>(parser, alloc)
     }
 
     fn serialize(&self, alloc: Global) -> Result<Option<StdString>, OutOfMemory> {

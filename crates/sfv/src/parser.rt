@@ -37,7 +37,7 @@ mod visit;
 use field::{parse_item_field, parse_members_field};
 pub(crate) use first_byte::{expect_dictionary_start, expect_item_start, expect_list_start};
 use member::{Entry, KeyedEntry};
-pub(crate) use tree::{parse_dictionary, parse_item, parse_list};
+pub(crate) use tree::{parse_item, parse_members};
 
 /// A parser for one input, under one version of the standard.
 ///
@@ -51,8 +51,8 @@ pub struct Parser<'de> {
 
 impl<'de> Parser<'de> {
     ghost use Rattle.sfv.specs.Parsers.{parser_of, input_of, version_of, IsParseError, IsAnswerBy, IsSyntaxErrorBy};
-    ghost use Rattle.sfv.specs.Parsers.{ReceivesBeforeErrorBy, IsVisitorErrorBy, ReceivesFirstBy};
-    ghost use Rattle.sfv.specs.Parsers.{ReceivesAsReadBy, ReadsBy, ReadsItemBy};
+    ghost use Rattle.sfv.specs.Parsers.{ReceivesBeforeErrorBy, IsVisitorErrorBy, ReceivesFirstBy, ReceivesAsReadBy};
+    ghost use Rattle.sfv.specs.Parsers.{ReadsBy, ReadsItemBy};
     ghost use Rattle.sfv.specs.Memory.{NeedsMark, NeedsMemory};
 
     /// Creates a parser for `input` under RFC 9651, with the library's hash seed.

@@ -3,13 +3,10 @@ use Rattle.std.specs.Prelude.{◌≡◌, ℕ, ◌-◌, ◌++◌, ◌==◌, List,
 use Rattle.std.specs.Prelude.{string_bytes, Option, Some, None}
 use Rattle.std.specs.declared.alloc.Global.{Global}
 use Rattle.std.specs.declared.string.String.{String}
-use Rattle.sfv.specs.Values.{RawField}
-use Rattle.sfv.specs.Types.{FieldKind, dictionary_field}
-use Rattle.sfv.specs.Types.{Version}
+use Rattle.sfv.specs.Values.{RawField, bare_values, Fits}
+use Rattle.sfv.specs.Types.{FieldKind, dictionary_field, Version}
 use Rattle.sfv.specs.Canonical.{canonical}
 use Rattle.sfv.specs.Statements.{IsParsedAs}
-use Rattle.sfv.specs.Values.{bare_values}
-use Rattle.sfv.specs.Values.{Fits}
 use Rattle.sfv.specs.Errors.{error_text}
 use Rattle.sfv.specs.Parsers.{IsParseError}
 use Rattle.sfv.specs.Versions.{IsSerializeError, serialize_error_text}

@@ -2,8 +2,7 @@
 use Rattle.std.specs.Prelude.{◌≡◌, ⊤, ℕ, List, [], ◌∷◌, ◌⊎◌, Option, IfSome, codes}
 use Rattle.std.specs.Int.{from_le_bytes, w64}
 use Rattle.std.specs.Io.KnownBytes.{Keeps, Appends}
-use Rattle.sfv.specs.Types.{Version}
-use Rattle.sfv.specs.Types.{item_field, list_field, dictionary_field}
+use Rattle.sfv.specs.Types.{Version, item_field, list_field, dictionary_field}
 use Rattle.sfv.specs.Types.versions as version
 use Rattle.sfv.specs.Types.{FieldKind}
 use Rattle.sfv_answers.specs.declared.run.Request.{Request}

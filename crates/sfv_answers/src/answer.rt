@@ -1,8 +1,8 @@
 //! The results of the program `sfv_tool` for an input.
 
 ghost use Rattle.std.specs.Prelude.{◌≡◌, ◌++◌, Some, IfOk, IfErr, codes, string_bytes};
-ghost use Rattle.sfv_answers.specs.Answers.{without_newline, text_or_empty, tool_fault_text};
-ghost use Rattle.sfv_answers.specs.Answers.{IsAnswer, IsToolFault, IsAnswerTo, IsFaultFor, IsPriorityAnswer, IsPriorityFault};
+ghost use Rattle.sfv_answers.specs.Answers.{without_newline, text_or_empty, tool_fault_text, IsAnswer, IsToolFault};
+ghost use Rattle.sfv_answers.specs.Answers.{IsAnswerTo, IsFaultFor, IsPriorityAnswer, IsPriorityFault};
 ghost use Rattle.sfv.specs.Parsers.{IsParseError};
 ghost use Rattle.sfv.specs.Statements.{IsParsedAs};
 ghost use Rattle.sfv.specs.Types.serialize_errors as serialize_errors;

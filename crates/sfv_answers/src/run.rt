@@ -1,7 +1,7 @@
 //! A run of the program `sfv_tool`.
 
-ghost use Rattle.std.specs.Prelude.{◌≡◌, ◌≢◌, ◌≤◌, ◌↔◌, IfSome, IfNone, IfOk, IfErr, OnOk, OnErr, IsTrue, map};
-ghost use Rattle.std.specs.Prelude.{codes, string_bytes};
+ghost use Rattle.std.specs.Prelude.{◌≡◌, ◌≢◌, ◌≤◌, ◌↔◌, IfSome, IfNone, IfOk, IfErr, OnOk, OnErr, IsTrue, map, codes};
+ghost use Rattle.std.specs.Prelude.{string_bytes};
 ghost use Rattle.std.specs.Io.KnownBytes.{Appends};
 ghost use Rattle.sfv_answers.specs.Runs.{Names, NamesNothing, Requests, IsAnswered, IsFailed, field_word, version_word};
 ghost use Rattle.std.specs.IoError.{error_kind};

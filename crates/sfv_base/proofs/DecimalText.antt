@@ -3,9 +3,8 @@ use Rattle.std.proofs.Common.{◌≡◌, ℕ, ◌+◌, ◌/◌, ◌%◌, ◌<◌
 use Rattle.std.specs.Prelude.{nat_abs, decimal}
 use Rattle.std.proofs.lemmas.Fmt.{decimal_digit}
 use Rattle.std.proofs.lemmas.Grind.{common_steps}
-use Rattle.sfv_spec.proofs.Marks.{digit_zero}
+use Rattle.sfv_spec.proofs.Marks.{digit_zero, minus_text}
 use Rattle.std.specs.Int.{is_negative}
-use Rattle.sfv_spec.proofs.Marks.{minus_text}
 use Rattle.sfv_spec.specs.Canonical.{decimal_text, fraction_digits}
 
 tenth : (f : ℕ) → f < 1000 → decimal (f / 100) ≡ (digit_zero + f / 100) ∷ []

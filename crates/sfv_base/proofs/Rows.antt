@@ -4,8 +4,7 @@ use Rattle.std.proofs.lemmas.Bool.{agree_below, agree_below_at, eqb-true}
 use Rattle.sfv_spec.specs.Classes.{is_string_byte, is_token_start, is_token_inner, is_key_start, is_key_inner}
 use Rattle.sfv_spec.specs.Classes.{is_lower_hexadecimal}
 use Rattle.sfv_spec.specs.Strings.{is_plain_in_display}
-use Rattle.sfv_spec.proofs.Marks.{is_plain_in_string}
-use Rattle.sfv_spec.proofs.Marks.{is_symbol}
+use Rattle.sfv_spec.proofs.Marks.{is_plain_in_string, is_symbol}
 use Rattle.sfv_base.specs.Digits.{digit_row}
 use Rattle.sfv_base.specs.Rows.{class_sum, run_class_sum}
 use Rattle.sfv_base.specs.declared.utils.TheConstants.{CLASSES, DIGITS}

@@ -4,8 +4,7 @@ use Rattle.std.specs.List.{count_by, range_with_len}
 use Rattle.sfv_spec.specs.Classes.{is_string_byte, is_token_start, is_token_inner, is_key_start, is_key_inner}
 use Rattle.sfv_spec.specs.Classes.{is_lower_hexadecimal}
 use Rattle.sfv_spec.specs.Strings.{is_plain_in_display}
-use Rattle.sfv_spec.proofs.Marks.{is_plain_in_string}
-use Rattle.sfv_spec.proofs.Marks.{is_symbol}
+use Rattle.sfv_spec.proofs.Marks.{is_plain_in_string, is_symbol}
 
 -- `n` for a byte of the class, and 0 for any other byte
 abbrev pub weight : ℕ → Bool → ℕ

@@ -6,8 +6,7 @@ ghost use Rattle.std.specs.List.{prefix_len};
 ghost use Rattle.sfv_spec.specs.Texts.{RunOf};
 ghost use Rattle.sfv_spec.specs.Classes.{is_string_byte, is_token_inner, is_key_inner};
 ghost use Rattle.sfv_spec.specs.Strings.{is_plain_in_display};
-ghost use Rattle.sfv_spec.proofs.Marks.{is_plain_in_string};
-ghost use Rattle.sfv_spec.proofs.Marks.{is_symbol};
+ghost use Rattle.sfv_spec.proofs.Marks.{is_plain_in_string, is_symbol};
 ghost use Rattle.sfv_base.specs.Lanes.{outside_mask, is_table_of};
 ghost use Rattle.sfv_base.specs.Rows.{run_class_sum};
 

@@ -12,7 +12,8 @@ use lib.Seq.{take-add}
 use Rattle.base64.specs.declared.decode.DecodeError.{DecodeError}
 use Rattle.base64.specs.declared.decode.DecodeError.TheVariants.{InvalidByte}
 use Rattle.base64.specs.declared.engine.DecodePaddingMode.TheVariants.{Indifferent}
-use Rattle.base64.specs.Decode.{or_else, symbol_error, group_error, groups_error, scan, scan_steps, scan_error, no_leftover}
+use Rattle.base64.specs.Decode.{or_else, symbol_error, group_error, groups_error, scan, scan_steps, scan_error}
+use Rattle.base64.specs.Decode.{no_leftover}
 use Rattle.base64.proofs.Decoding.{scan-cons_ok, scan-cons_err}
 use Rattle.sfv_spec.proofs.Marks.{is_symbol}
 use Rattle.sfv_model.specs.Content.{most_padding}

@@ -1,17 +1,19 @@
 -- What `base64` decodes, and the contents of byte sequences.
-use Rattle.std.proofs.Common.{◌≡◌, ℕ, ◌<◌, ◌≤◌, ◌+◌, ◌-◌, ◌*◌, ◌/◌, ◌%◌, true, false, List, [], ◌∷◌, ◌++◌, length, map, take}
-use Rattle.std.proofs.Common.{drop, replicate, append_assoc, refl, sym, ◌∙◌, ap, subst, arith, inl, inr}
-use Rattle.std.specs.Prelude.{◌==◌}
+use Rattle.std.proofs.Common.{◌≡◌, ℕ, ◌<◌, ◌≤◌, ◌+◌, ◌-◌, ◌*◌, ◌/◌, ◌%◌, true, false, List, [], ◌∷◌, ◌++◌, length, map}
+use Rattle.std.proofs.Common.{take, drop, replicate, append_assoc, refl, sym, ◌∙◌, ap, subst, arith, inl, inr}
+use Rattle.std.specs.Prelude.{◌==◌, ◌↔◌, IfOk, IfErr}
 use Rattle.std.specs.List.{list_all}
 use Rattle.std.specs.declared.option.Option.TheVariants.{None, Some}
 use Rattle.std.specs.declared.result.Result.TheVariants.{Ok, Err}
 use Rattle.std.proofs.lemmas.Bool.{cases_Bool, eqb-true, eqb-false, ne_eqb, cases_lt}
-use Rattle.std.proofs.lemmas.List.{length-append, length-replicate, length-drop, length-map, length-take-le, map-append, take-append-drop, take-append-le, drop-append-le, get_or-drop, nil_from_length}
+use Rattle.std.proofs.lemmas.List.{length-append, length-replicate, length-drop, length-map, length-take-le, map-append}
+use Rattle.std.proofs.lemmas.List.{take-append-drop, take-append-le, drop-append-le, get_or-drop, nil_from_length}
 use Rattle.base64.specs.declared.engine.general_purpose.GeneralPurpose.{GeneralPurpose}
 use Rattle.std.specs.declared.result.Result.{Result}
 use Rattle.base64.specs.declared.decode.DecodeError.{DecodeError}
 use Rattle.base64.specs.declared.engine.DecodePaddingMode.TheVariants.{Indifferent}
-use Rattle.base64.specs.Decode.{lone_error, groups_error, groups_bytes, scan_steps, decode_error, decoded_bytes, decode_outcome, groups_before_last}
+use Rattle.base64.specs.Decode.{lone_error, groups_error, groups_bytes, scan_steps, decode_error, decoded_bytes}
+use Rattle.base64.specs.Decode.{decode_outcome, groups_before_last}
 use Rattle.base64.specs.GeneralPurpose.{IsBytes, IsDecodeFailure, decode_of}
 use Rattle.base64.proofs.Tables.{are_tables_inverse, are_tables_padding}
 use Rattle.sfv_spec.specs.Base64.{IsBase64Text, symbol}
@@ -19,7 +21,6 @@ use Rattle.sfv_model.proofs.base64.Contents.{counted, well_formed, gives_the_byt
 use Rattle.sfv_model.proofs.base64.Shape.{are_symbols}
 use Rattle.std.specs.declared.option.Option.{Option}
 use Rattle.std.proofs.lemmas.List.Folds.{list_all-append}
-use Rattle.std.specs.Prelude.{◌↔◌, IfOk, IfErr}
 use Rattle.base64.specs.declared.decode.DecodeAllocError.{DecodeAllocError}
 use Rattle.base64.specs.declared.decode.DecodeAllocError.TheVariants.{DecodeError as Failed, OutOfMemory}
 use Rattle.sfv_spec.proofs.Marks.{is_symbol}

@@ -2,15 +2,14 @@
 use Rattle.std.proofs.Common.{◌≡◌, ℕ, List, [], ◌∷◌, ◌++◌, length, flat_map, refl, sym, ◌∙◌, ap, subst, append_assoc}
 use Rattle.std.proofs.Common.{true, Option, Some, None, MatchOption}
 use Rattle.std.proofs.lemmas.List.{append-nil}
-use Rattle.sfv.specs.Values.{boolean, RawParameters, RawItem}
+use Rattle.sfv.specs.Values.{boolean, RawParameters, RawItem, RawInnerList, RawMember, item, inner_list, RawField}
 use Rattle.sfv.specs.Types.{FieldKind, item_field, list_field, dictionary_field}
-use Rattle.sfv.specs.Values.{RawInnerList, RawMember, item, inner_list, RawField}
 use Rattle.sfv.specs.Events.{TreeEvent, entry, keyed_entry, begins_item, begins_inner_list, bare_item, parameter}
 use Rattle.sfv.specs.Events.{parameters_end, inner_list_end, parameters_events, item_events, inner_item_events}
 use Rattle.sfv.specs.Events.{member_events, entry_events, keyed_events, events}
 use Rattle.sfv_c.specs.Writing.{BeginsEvents}
-use Rattle.sfv_c.specs.RowEvents.{ParseState, ended, list_members, dictionary_members, member, value, parameters, items, after}
-use Rattle.sfv_c.specs.RowEvents.{stops, beginning}
+use Rattle.sfv_c.specs.RowEvents.{ParseState, ended, list_members, dictionary_members, member, value, parameters, items}
+use Rattle.sfv_c.specs.RowEvents.{after, stops, beginning}
 use Rattle.sfv_c.proofs.Valid.{AreValid, valid_field, valid_together}
 
 -- the events of an inner list after the one that begins it

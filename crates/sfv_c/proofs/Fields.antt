@@ -1,18 +1,15 @@
 -- Fields, their events and their rows.
-use Rattle.std.proofs.Common.{◌≡◌, ℕ, ◌<◌, List, [], ◌∷◌, ◌++◌, length, map, flat_map, refl, sym, subst}
-use Rattle.std.proofs.Common.{arith, Option, Result, Ok, Err}
+use Rattle.std.proofs.Common.{◌≡◌, ℕ, ◌<◌, List, [], ◌∷◌, ◌++◌, length, map, flat_map, refl, sym, subst, arith, Option}
+use Rattle.std.proofs.Common.{Result, Ok, Err}
 use Rattle.std.specs.Result.{IsErrAnd}
 use Rattle.std.proofs.lemmas.List.{length-append}
 use Rattle.std.specs.declared.alloc.Global.{Global}
 use Rattle.std.specs.declared.string.String as std_string
-use Rattle.sfv.specs.Values.{RawField, RawItem, RawMember, item, inner_list}
-use Rattle.sfv.specs.Types.{FieldKind, item_field, list_field, dictionary_field}
-use Rattle.sfv.specs.Types.{Version}
+use Rattle.sfv.specs.Values.{RawField, RawItem, RawMember, item, inner_list, bare_values}
+use Rattle.sfv.specs.Types.{FieldKind, item_field, list_field, dictionary_field, Version, MemberCalls, SerializeError}
 use Rattle.sfv.specs.Scripts.{member_of_calls, entry_of_calls}
 use Rattle.sfv.specs.Events.{TreeEvent, parameter, parameters_end, member_events, entry_events, keyed_events, events}
-use Rattle.sfv.specs.Values.{bare_values}
 use Rattle.sfv.specs.KeyText.{KeyRef}
-use Rattle.sfv.specs.Types.{MemberCalls, SerializeError}
 use Rattle.sfv.specs.Types.serialize_errors as errors
 use Rattle.sfv.specs.Versions.{IsSerializeError}
 use Rattle.sfv_c.specs.declared.rows.Row.{Row}

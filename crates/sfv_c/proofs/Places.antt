@@ -1,8 +1,8 @@
 -- Places, and the events of the parts of a field.
 use Rattle.std.proofs.Common.{◌≡◌, ℕ, List, [], ◌∷◌, ◌++◌, map, flat_map, refl, ◌∙◌, append_assoc}
 use Rattle.sfv.specs.Values.{RawParameters, RawItem, RawMember, item, inner_list}
-use Rattle.sfv.specs.Events.{TreeEvent, parameter, inner_list_end, parameters_events, item_events}
-use Rattle.sfv.specs.Events.{inner_item_events, member_events, entry_events, keyed_events}
+use Rattle.sfv.specs.Events.{TreeEvent, parameter, inner_list_end, parameters_events, item_events, inner_item_events}
+use Rattle.sfv.specs.Events.{member_events, entry_events, keyed_events}
 use Rattle.sfv_c.specs.RowEvents.{ParseState, list_members, dictionary_members, member, value, parameters, items, stops}
 
 pub stops_parameters : (p : ParseState) (ps : RawParameters) (es : List TreeEvent)

@@ -1,5 +1,6 @@
 -- Rows and the events that they are.
-use Rattle.std.proofs.Common.{◌≡◌, ℕ, ℤ, zero, suc, ◌+◌, ◌<◌, ◌≤◌, List, [], ◌∷◌, ◌++◌, length, take, refl, sym, ◌∙◌, ap, subst, arith, Option, Some, None}
+use Rattle.std.proofs.Common.{◌≡◌, ℕ, ℤ, zero, suc, ◌+◌, ◌<◌, ◌≤◌, List, [], ◌∷◌, ◌++◌, length, take, refl, sym, ◌∙◌}
+use Rattle.std.proofs.Common.{ap, subst, arith, Option, Some, None}
 use Rattle.sfv.specs.Events.{TreeEvent, keyed_entry, bare_item, parameter}
 use Rattle.sfv.specs.KeyText.{KeyRef}
 use Rattle.sfv.specs.Types.{ParamCall}

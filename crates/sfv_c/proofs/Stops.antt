@@ -1,18 +1,18 @@
 -- Where the reading of rows stops.
-use Rattle.std.proofs.Common.{◌≡◌, ℕ, List, [], ◌∷◌, ◌++◌, length, map, flat_map, refl, sym, ◌∙◌, ap, subst}
-use Rattle.std.proofs.Common.{arith, append_assoc, Bool, true, false, IsTrue, ◌==◌, Option, Some, None}
-use Rattle.std.proofs.Common.{Result, Ok, Err}
+use Rattle.std.proofs.Common.{◌≡◌, ℕ, List, [], ◌∷◌, ◌++◌, length, map, flat_map, refl, sym, ◌∙◌, ap, subst, arith}
+use Rattle.std.proofs.Common.{append_assoc, Bool, true, false, IsTrue, ◌==◌, Option, Some, None, Result, Ok, Err}
 use Rattle.std.specs.Result.{IsErrAnd, IfErr}
 use Rattle.std.proofs.lemmas.Bool.Decides.{nat_tests}
 use Rattle.std.proofs.lemmas.List.{append-nil, map-append}
 use Rattle.std.proofs.lemmas.Grind.{flat_map-append}
 use Rattle.std.proofs.lemmas.List.Elements.{filter-append}
 use Rattle.sfv.specs.Events.{TreeEvent, entry, keyed_entry, begins_item, item_events, inner_item_events, member_events}
-use Rattle.sfv.specs.Events.{entry_events, keyed_events, begins_inner_list, bare_item, parameter, parameters_end, inner_list_end}
+use Rattle.sfv.specs.Events.{entry_events, keyed_events, begins_inner_list, bare_item, parameter, parameters_end}
+use Rattle.sfv.specs.Events.{inner_list_end}
 use Rattle.sfv.specs.Classes.{is_key}
 use Rattle.sfv.specs.Values.{BareValue, IsBareValue, RawParameters, RawItem, RawMember, item, inner_list}
-use Rattle.sfv.specs.Scripts.{item_of_calls, member_of_calls, entry_of_calls, is_written}
-use Rattle.sfv.specs.Scripts.{described_list, described_dictionary}
+use Rattle.sfv.specs.Scripts.{item_of_calls, member_of_calls, entry_of_calls, is_written, described_list}
+use Rattle.sfv.specs.Scripts.{described_dictionary}
 use Rattle.sfv.specs.KeyText.{KeyRef}
 use Rattle.sfv.specs.CheckedTexts.{text_of as key_text}
 use Rattle.sfv.specs.Types.{ItemCalls, MemberCalls}

@@ -2,11 +2,11 @@
 use Rattle.std.proofs.Common.{◌≡◌, ℕ, List, [], ◌∷◌, ◌++◌, flat_map, sym, ◌∙◌, ap, subst, append_assoc, None}
 use Rattle.std.specs.List.{AllByRecursion}
 use Rattle.std.proofs.lemmas.List.{append-nil}
-use Rattle.sfv.specs.Values.{RawParameters, RawItem, RawMember}
+use Rattle.sfv.specs.Values.{RawParameters, RawItem, RawMember, RawField, item, inner_list, AreParameters, IsItem}
+use Rattle.sfv.specs.Values.{IsMember, IsFieldValue}
 use Rattle.sfv.specs.Types.{FieldKind, item_field, list_field, dictionary_field}
-use Rattle.sfv.specs.Values.{RawField, item, inner_list, AreParameters, IsItem, IsMember, IsFieldValue}
-use Rattle.sfv.specs.Events.{TreeEvent, inner_list_end, parameters_events, item_events, inner_item_events, member_events}
-use Rattle.sfv.specs.Events.{entry_events, keyed_events, events}
+use Rattle.sfv.specs.Events.{TreeEvent, inner_list_end, parameters_events, item_events, inner_item_events}
+use Rattle.sfv.specs.Events.{member_events, entry_events, keyed_events, events}
 use Rattle.sfv_c.specs.RowEvents.{IsValidEvent, stops, beginning, value, ended, list_members, dictionary_members}
 use Rattle.sfv_c.proofs.Places.{stops_item, stops_list, stops_dictionary}
 

@@ -1,18 +1,14 @@
 -- The results of the C calls.
 use Rattle.std.specs.Prelude.{◌≡◌, ◌<◌, ℕ, List, length, drop, ◌++◌, Option, Some, None, Result, Ok, Err, MatchOption}
-use Rattle.sfv.specs.Values.{RawField, HasMember}
-use Rattle.sfv.specs.Types.{FieldKind}
-use Rattle.sfv.specs.Types.{Version}
+use Rattle.sfv.specs.Values.{RawField, HasMember, bare_values}
+use Rattle.sfv.specs.Types.{FieldKind, Version, Error, ErrorKind}
 use Rattle.sfv.specs.Grammar.{IsAccepted}
-use Rattle.sfv.specs.Values.{bare_values}
 use Rattle.sfv.specs.Statements.{IsParsedAs, IsSerializedAs}
 use Rattle.sfv.specs.Parsers.{IsParseError}
 use Rattle.sfv.specs.Memory.{HoldsMark, NeedsMemory}
 use Rattle.sfv.specs.Messages.{message_of}
 use Rattle.sfv.specs.Errors.{kind_of, index_of, out_of_memory}
 use Rattle.sfv.specs.Versions.{IsSerializeError}
-use Rattle.sfv.specs.Types.{Error}
-use Rattle.sfv.specs.Types.{ErrorKind}
 use Rattle.sfv.specs.Types.serialize_errors as serialize_errors
 use Rattle.sfv_c.specs.declared.answer.Answer.{Answer}
 use Rattle.sfv_c.specs.declared.answer.Written.{Written}

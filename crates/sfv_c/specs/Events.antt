@@ -1,11 +1,9 @@
 -- Events that are written into the caller's memory during parsing, as far as they fit.
-use Rattle.std.specs.Prelude.{◌≡◌, ℕ, ◌+◌, ◌-◌, ◌^◌, min, List, length, take, drop, ◌++◌, Result, Ok, Err, nat_lt, nat_le, ◌&&◌}
-use Rattle.std.specs.Prelude.{if◌then◌else◌, slice_set, fold}
-use Rattle.sfv.specs.Types.{FieldKind}
-use Rattle.sfv.specs.Types.{Version}
+use Rattle.std.specs.Prelude.{◌≡◌, ℕ, ◌+◌, ◌-◌, ◌^◌, min, List, length, take, drop, ◌++◌, Result, Ok, Err, nat_lt}
+use Rattle.std.specs.Prelude.{nat_le, ◌&&◌, if◌then◌else◌, slice_set, fold}
+use Rattle.sfv.specs.Types.{FieldKind, Version, Error}
 use Rattle.sfv.specs.Grammar.{HasField}
 use Rattle.sfv.specs.Events.{TreeEvent, events}
-use Rattle.sfv.specs.Types.{Error}
 use Rattle.sfv_c.specs.declared.answer.Answer.{Answer}
 use Rattle.sfv_c.specs.declared.rows.Row.{Row}
 use Rattle.sfv_c.specs.declared.events.RowBuffer.{RowBuffer}

@@ -1,12 +1,10 @@
 -- Events that are collected first, and then copied into the caller's memory, all or none.
-use Rattle.std.specs.Prelude.{◌≡◌, ℕ, List, [], ◌∷◌, length, drop, ◌++◌, Result, Ok, Err, nat_le, ◌&&◌}
-use Rattle.std.specs.Prelude.{if◌then◌else◌, fold}
-use Rattle.sfv.specs.Types.{FieldKind}
-use Rattle.sfv.specs.Types.{Version}
+use Rattle.std.specs.Prelude.{◌≡◌, ℕ, List, [], ◌∷◌, length, drop, ◌++◌, Result, Ok, Err, nat_le, ◌&&◌, if◌then◌else◌}
+use Rattle.std.specs.Prelude.{fold}
+use Rattle.sfv.specs.Types.{FieldKind, Version, Error}
 use Rattle.sfv.specs.Grammar.{HasField}
 use Rattle.sfv.specs.Events.{TreeEvent, events}
 use Rattle.sfv.specs.Parsers.{IsParseError}
-use Rattle.sfv.specs.Types.{Error}
 use Rattle.sfv_c.specs.declared.answer.Answer.{Answer}
 use Rattle.sfv_c.specs.declared.rows.Row.{Row}
 use Rattle.sfv_c.specs.declared.events_whole.Collector.{Collector}

@@ -1,9 +1,6 @@
 -- The numbers of field types, versions and kinds in C.
 use Rattle.std.specs.Prelude.{◌≡◌, ℕ, Option, Some, None, ◌==◌, if◌then◌else◌}
-use Rattle.sfv.specs.Types.{FieldKind, item_field, list_field, dictionary_field}
-use Rattle.sfv.specs.Types.{Version}
-use Rattle.sfv.specs.Types.{BareItemType}
-use Rattle.sfv.specs.Types.{ErrorKind}
+use Rattle.sfv.specs.Types.{FieldKind, item_field, list_field, dictionary_field, Version, BareItemType, ErrorKind}
 use Rattle.sfv.specs.Types.error_kinds as kinds
 use Rattle.sfv.specs.Types.bare_item_types as types
 use Rattle.sfv.specs.Types.versions as versions

@@ -1,17 +1,15 @@
 -- The events of rows, and their order.
-use Rattle.std.specs.Prelude.{◌≡◌, MatchOption, ⊤, ℕ, List, [], ◌∷◌, ◌++◌, length, Bool, true, false, IsTrue, Option, Some, None}
-use Rattle.std.specs.Prelude.{if◌then◌else◌, Result, Ok, Err, option_map, string_bytes}
+use Rattle.std.specs.Prelude.{◌≡◌, MatchOption, ⊤, ℕ, List, [], ◌∷◌, ◌++◌, length, Bool, true, false, IsTrue, Option}
+use Rattle.std.specs.Prelude.{Some, None, if◌then◌else◌, Result, Ok, Err, option_map, string_bytes}
 use Rattle.std.specs.Borrow.{Bor}
 use Rattle.sfv.specs.Values.{RawField, BareValue, IsBareValue}
-use Rattle.sfv.specs.Types.{FieldKind, item_field, list_field, dictionary_field}
-use Rattle.sfv.specs.Types.{Version}
+use Rattle.sfv.specs.Types.{FieldKind, item_field, list_field, dictionary_field, Version, GenericBareItem, ParamCall}
 use Rattle.sfv.specs.Classes.{is_key}
 use Rattle.sfv.specs.Events.{TreeEvent, entry, keyed_entry, begins_item, begins_inner_list, bare_item, parameter}
 use Rattle.sfv.specs.Events.{parameters_end, inner_list_end}
 use Rattle.sfv.specs.BareItems.{ref_value}
 use Rattle.sfv.specs.StringText.{StringRef}
 use Rattle.sfv.specs.TokenText.{TokenRef}
-use Rattle.sfv.specs.Types.{GenericBareItem, ParamCall}
 use Rattle.sfv.specs.KeyText.{KeyRef}
 use Rattle.sfv.specs.CheckedTexts.{text_of}
 use Rattle.sfv_c.specs.Rows.{ValueNumbers, EventNumbers, value_numbers}

@@ -1,17 +1,14 @@
 -- Rows that are written as a text.
-use Rattle.std.specs.Prelude.{◌≡◌, ℕ, ◌+◌, ◌≤◌, ◌<◌, List, ◌++◌, length, take, drop, Option, Some, None, Result, Ok, Err}
+use Rattle.std.specs.Prelude.{◌≡◌, ℕ, ◌+◌, ◌≤◌, ◌<◌, List, ◌++◌, length, take, drop, Option, Some, None, Result, Ok}
+use Rattle.std.specs.Prelude.{Err}
 use Rattle.std.specs.List.{AllZip}
-use Rattle.sfv.specs.Values.{RawField, IsFieldValue, HasMember}
-use Rattle.sfv.specs.Types.{FieldKind}
-use Rattle.sfv.specs.Types.{Version}
+use Rattle.sfv.specs.Values.{RawField, IsFieldValue, HasMember, bare_values, Fits}
+use Rattle.sfv.specs.Types.{FieldKind, Version, BareItemType}
 use Rattle.sfv.specs.Events.{TreeEvent, events}
-use Rattle.sfv.specs.Values.{bare_values}
 use Rattle.sfv.specs.Ordered.{ordered}
 use Rattle.sfv.specs.Canonical.{canonical}
-use Rattle.sfv.specs.Values.{Fits}
 use Rattle.sfv.specs.Statements.{IsParsedAs}
 use Rattle.sfv.specs.Versions.{IsSerializeError}
-use Rattle.sfv.specs.Types.{BareItemType}
 use Rattle.sfv.specs.Types.serialize_errors as errors
 use Rattle.sfv_c.specs.Answers.{PutsText, outcome_answer}
 use Rattle.sfv_c.specs.declared.answer.Answer.{Answer}

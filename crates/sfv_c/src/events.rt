@@ -4,7 +4,8 @@ ghost use Rattle.std.specs.Prelude.{◌≡◌, IfOk, IfErr};
 ghost use Rattle.sfv.specs.Parsers.{input_of, version_of};
 ghost use Rattle.sfv_c.specs.Answers.{IsReadingError};
 ghost use Rattle.sfv_c.specs.Rows.{lent_numbers};
-ghost use Rattle.sfv_c.specs.Events.{memory_of, keep_bytes, keep_row, keep_numbers, keep_event, IsVisitedAs, AreCounted, IsEvents};
+ghost use Rattle.sfv_c.specs.Events.{memory_of, keep_bytes, keep_row, keep_numbers, keep_event, IsVisitedAs};
+ghost use Rattle.sfv_c.specs.Events.{AreCounted, IsEvents};
 
 use crate::answer::{Answer, OK, TOO_SMALL};
 use crate::reading::{read, syntax_of};

@@ -3,7 +3,8 @@
 ghost use Rattle.std.specs.Prelude.{◌≡◌, ⊤, OnOk, IfOk, IfErr};
 ghost use Rattle.sfv.specs.Parsers.{input_of, version_of, IsParseError};
 ghost use Rattle.sfv_c.specs.Rows.{lent_numbers};
-ghost use Rattle.sfv_c.specs.EventsWhole.{collected_of, nothing, collect_numbers, collect, AreEvents, copied, PutsEvents};
+ghost use Rattle.sfv_c.specs.EventsWhole.{collected_of, nothing, collect_numbers, collect, AreEvents, copied};
+ghost use Rattle.sfv_c.specs.EventsWhole.{PutsEvents};
 
 use crate::answer::{Answer, OK, TOO_SMALL};
 use crate::reading::read;

@@ -2,12 +2,12 @@
 
 ghost use Rattle.std.specs.Prelude.{IsTrue, ◌≡◌, ◌++◌, ◌∷◌, [], map, flat_map, IfOk, IfErr};
 ghost use Rattle.sfv.specs.Types.{item_field, list_field, dictionary_field};
-ghost use Rattle.sfv.specs.Events.{begins_inner_list, parameters_events, item_events, inner_item_events, member_events, inner_list_end};
-ghost use Rattle.sfv.specs.Scripts.{param_of_call, item_of_calls, member_of_calls, entry_of_calls};
-ghost use Rattle.sfv.specs.Scripts.{is_written, described_list, described_dictionary};
+ghost use Rattle.sfv.specs.Events.{begins_inner_list, parameters_events, item_events, inner_item_events, member_events};
+ghost use Rattle.sfv.specs.Events.{inner_list_end};
+ghost use Rattle.sfv.specs.Scripts.{param_of_call, item_of_calls, member_of_calls, entry_of_calls, is_written};
+ghost use Rattle.sfv.specs.Scripts.{described_list, described_dictionary};
 ghost use Rattle.sfv_c.specs.Writing.{IsRowOf, AreRowsOfField};
-ghost use Rattle.sfv_c.specs.RowEvents.{ParseState, beginning, member, value, parameters, items};
-ghost use Rattle.sfv_c.specs.RowEvents.{Reads, IsStop};
+ghost use Rattle.sfv_c.specs.RowEvents.{ParseState, beginning, member, value, parameters, items, Reads, IsStop};
 
 use crate::row_event::{is_plain, keyed_entry_at, parameter_at, value_at};
 use crate::rows::{ENTRY, INNER_LIST, INNER_LIST_END, ITEM, PARAMETERS_END, Row};

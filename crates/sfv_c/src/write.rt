@@ -1,8 +1,7 @@
 //! Rows that are written as a text.
 
 ghost use Rattle.std.specs.Prelude.{◌≡◌, ℕ, List, length};
-ghost use Rattle.sfv.specs.Types.{FieldKind, item_field, list_field, dictionary_field};
-ghost use Rattle.sfv.specs.Types.{Version};
+ghost use Rattle.sfv.specs.Types.{FieldKind, item_field, list_field, dictionary_field, Version};
 ghost use Rattle.sfv_c.specs.declared.rows.Row.{Row};
 ghost use Rattle.sfv_c.specs.RowEvents.{beginning, IsTextMade, IsStop};
 ghost use Rattle.sfv_c.specs.Writing.{IsWrite, IsWriteOutcome, IsWriteFault};

@@ -1,8 +1,8 @@
 -- The visitor of the example finds what the ordered dictionary holds.
 use Rattle.std.specs.Prelude.{◌≡◌, ℕ, List, Bool, true, false, Option, Some, None, Result, Ok, Err, bytes_eq, fold}
 use Rattle.std.specs.Prelude.{if◌then◌else◌}
-use Rattle.sfv.specs.Field.{RawParameters, RawMember, item, inner_list, dictionary_field, last_of}
-use Rattle.sfv.specs.Field.{ordered, ordered_member, events, member_events, keyed_events}
+use Rattle.sfv.specs.Field.{RawParameters, RawMember, item, inner_list, dictionary_field, last_of, ordered}
+use Rattle.sfv.specs.Field.{ordered_member, events, member_events, keyed_events}
 use Rattle.std.proofs.Common.{cond, refl, ap, ◌∙◌, inl, inr}
 use Rattle.std.proofs.lemmas.Bool.{cases_Bool}
 use Rattle.sfv.proofs.Callers.{of_pushed, parameters_kept, last_of-collapse, IsIdle, idle_by, member_passed}

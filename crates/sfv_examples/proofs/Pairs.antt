@@ -2,11 +2,9 @@
 use Rattle.std.proofs.Common.{◌≡◌, [], ◌∷◌, inl, inr, Result}
 use Rattle.std.specs.Prelude.{IfErr, IsErrAnd}
 use Rattle.std.proofs.lemmas.Result.{err_from_is_err_and}
-use Rattle.sfv.specs.Values.{BareValue}
-use Rattle.sfv.specs.Types.{Version}
-use Rattle.sfv.specs.Values.{AllFit}
+use Rattle.sfv.specs.Values.{BareValue, AllFit}
+use Rattle.sfv.specs.Types.{Version, SerializeError}
 use Rattle.sfv.specs.Versions.{IsSerializeError}
-use Rattle.sfv.specs.Types.{SerializeError}
 use Rattle.sfv.proofs.Callers.{names_front, names_after}
 use Rattle.sfv_examples.specs.Pairs.{IsPairError}
 

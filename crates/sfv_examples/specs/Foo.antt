@@ -1,14 +1,11 @@
 -- Definitions for an example field: a color and a flag.
-use Rattle.std.specs.Prelude.{◌≡◌, ℕ, List, Bool, false, Option, Some, None, Result, Ok, Err, bytes_eq}
-use Rattle.std.specs.Prelude.{if◌then◌else◌}
+use Rattle.std.specs.Prelude.{◌≡◌, ℕ, List, Bool, false, Option, Some, None, Result, Ok, Err, bytes_eq, if◌then◌else◌}
 use Rattle.std.specs.Prelude.{codes}
 use Rattle.sfv.specs.Values.{BareValue, token, boolean, RawMember, item, inner_list}
-use Rattle.sfv.specs.Types.{dictionary_field}
-use Rattle.sfv.specs.Types.{Version}
+use Rattle.sfv.specs.Types.{dictionary_field, Version, ParseError}
 use Rattle.sfv.specs.Ordered.{last_of}
 use Rattle.sfv.specs.Statements.{IsParsedAs}
 use Rattle.sfv.specs.Parsers.{IsParseError}
-use Rattle.sfv.specs.Types.{ParseError}
 use Rattle.sfv.specs.Types.parse_errors.{Syntax, Visitor}
 use Rattle.sfv_examples.specs.declared.foo.Color.{Color}
 use Rattle.sfv_examples.specs.declared.foo.Color.TheVariants as colors

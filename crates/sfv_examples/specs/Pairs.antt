@@ -2,12 +2,10 @@
 use Rattle.std.specs.Prelude.{◌≡◌, ◌⊎◌, ℕ, List, [], ◌∷◌, ◌++◌, codes}
 use Rattle.sfv.specs.BareItems.{ref_value}
 use Rattle.sfv_examples.specs.Uses.{LentBareItem}
-use Rattle.sfv.specs.Values.{BareValue}
-use Rattle.sfv.specs.Types.{Version}
+use Rattle.sfv.specs.Values.{BareValue, AllFit}
+use Rattle.sfv.specs.Types.{Version, SerializeError}
 use Rattle.sfv.specs.Canonical.{bare_text}
-use Rattle.sfv.specs.Values.{AllFit}
 use Rattle.sfv.specs.Versions.{NamesFirstUnfit}
-use Rattle.sfv.specs.Types.{SerializeError}
 use Rattle.sfv.specs.Types.serialize_errors as errors
 
 -- the text of a list with these two members

@@ -1,7 +1,7 @@
 -- The integers of inner lists.
 use Rattle.std.specs.Prelude.{◌≡◌, ℕ, ℤ, List, Option, Some, None, fold, filter_map}
-use Rattle.sfv_readers.specs.Field.{Version, list_field, BareValue, integer}
-use Rattle.sfv_readers.specs.Field.{RawItem, RawMember, IsParsedAs, Head, of_item, of_inner_list, head_of}
+use Rattle.sfv_readers.specs.Field.{Version, list_field, BareValue, integer, RawItem, RawMember, IsParsedAs, Head}
+use Rattle.sfv_readers.specs.Field.{of_item, of_inner_list, head_of}
 
 abbrev pub integer_in : BareValue → Option ℤ
 integer_in (integer z) = Some z

@@ -7,12 +7,10 @@ use Rattle.std.specs.declared.string.String.{String}
 use Rattle.std.specs.List.{repeat}
 use Rattle.sfv.specs.Ascii.{byte}
 use Rattle.sfv.specs.Texts.{RunOf}
-use Rattle.sfv.specs.Values.{BareValue, integer}
-use Rattle.sfv.specs.Types.{FieldKind, item_field, list_field, dictionary_field}
-use Rattle.sfv.specs.Types.{Rfc9651}
-use Rattle.sfv.specs.Values.{string, token}
-use Rattle.sfv.specs.Values.{RawField, HasMember, RawParameters, RawItem, RawMember}
+use Rattle.sfv.specs.Values.{BareValue, integer, string, token, RawField, HasMember, RawParameters, RawItem, RawMember}
 use Rattle.sfv.specs.Values.{item, inner_list}
+use Rattle.sfv.specs.Types.{FieldKind, item_field, list_field, dictionary_field, Rfc9651, Sink, ParseError, OutOfMemory}
+use Rattle.sfv.specs.Types.{ErrorKind, ItemFault}
 use Rattle.sfv.specs.Grammar.{IsFieldText, IsAccepted, BeginsWithLongest, BeginsWithComplete}
 use Rattle.sfv.specs.Ordered.{ordered, last_of}
 use Rattle.sfv.specs.Statements.{IsParsedAs, IsSerializedAs}
@@ -22,19 +20,15 @@ use Rattle.sfv.specs.TokenText.{TokenRef}
 use Rattle.sfv.specs.StringText.{StringRef}
 use Rattle.sfv.specs.Canonical.{item_text, inner_list_text, dictionary_member_text}
 use Rattle.sfv.specs.Serializers.{Parts, HasAppendedNext}
-use Rattle.sfv.specs.Types.{Sink}
 use Rattle.sfv.specs.BareItems.{bare_value, ref_value, input_value, read_text, is_borrowed_string}
 use Rattle.sfv.specs.Trees.{OwnedBareItem}
 use Rattle.sfv.specs.Events.{TreeEvent, keyed_entry}
-use Rattle.sfv.specs.Types.{ParseError, OutOfMemory}
 use Rattle.sfv.specs.Types.parse_errors.{Syntax, Visitor}
 use Rattle.sfv.specs.Parsers.{IsParseError}
 use Rattle.sfv_examples.specs.declared.visiting.TooMany.{TooMany}
 use Rattle.sfv.specs.Faults.{IsFaultAt}
-use Rattle.sfv.specs.Types.{ErrorKind}
 use Rattle.sfv.specs.Errors.{out_of_memory}
 use Rattle.sfv.specs.ProvidedVisitors.{ReadBareItem, IsWrongType}
-use Rattle.sfv.specs.Types.{ItemFault}
 use Rattle.sfv.specs.Types.bare_item_types as kinds
 use Rattle.sfv.specs.Types.{GenericBareItem, StringFromInput}
 use Rattle.sfv.specs.Messages.{message_of}

@@ -2,16 +2,15 @@
 
 ghost use Rattle.std.specs.Prelude.{◌≡◌, ⊤, IfOk, IfErr, MatchResult};
 ghost use Rattle.sfv.specs.Values.{BareValue, RawItem};
-ghost use Rattle.sfv.specs.Types.{item_field, list_field, dictionary_field};
-ghost use Rattle.sfv.specs.Types.{Rfc9651};
+ghost use Rattle.sfv.specs.Types.{item_field, list_field, dictionary_field, Rfc9651};
 ghost use Rattle.sfv.specs.Grammar.{IsFieldText, BeginsWithComplete};
 ghost use Rattle.sfv.specs.Statements.{IsParsedAs};
 ghost use Rattle.sfv.specs.Trees.{item_tree, list_tree, dictionary_tree};
 ghost use Rattle.sfv.specs.HashSeeds.{library_seed};
 ghost use Rattle.sfv.specs.Seeds.{ItemHasSeed, ListHasSeed, DictionaryHasSeed};
 ghost use Rattle.sfv.specs.Types.item_faults as item_faults;
-ghost use Rattle.sfv_examples.specs.Uses.{ExpectsItem, RejectsOther, HasBareItem, FailsAtFirst, IsReadError, IsExpectError, GivesToken, RefusesOther};
-ghost use Rattle.sfv_examples.specs.Uses.{IsLentString};
+ghost use Rattle.sfv_examples.specs.Uses.{ExpectsItem, RejectsOther, HasBareItem, FailsAtFirst, IsReadError};
+ghost use Rattle.sfv_examples.specs.Uses.{IsExpectError, GivesToken, RefusesOther, IsLentString};
 
 use sfv::visitor::{ExpectedItem, ItemFault};
 use sfv::{Dictionary, Item, List, OutOfMemory, ParseError, Parser, StringFromInput, TokenRef};

@@ -1,8 +1,7 @@
 //! Parsing of a field to a value.
 
 ghost use Rattle.std.specs.Prelude.{◌≡◌, IsNone, IfOk, IfErr, IfSome, option_copied, option_map, string_bytes};
-ghost use Rattle.sfv.specs.Types.{item_field, list_field, dictionary_field};
-ghost use Rattle.sfv.specs.Types.{Rfc9651, Rfc8941};
+ghost use Rattle.sfv.specs.Types.{item_field, list_field, dictionary_field, Rfc9651, Rfc8941};
 ghost use Rattle.sfv.specs.Grammar.{IsAccepted};
 ghost use Rattle.sfv.specs.Ordered.{last_of};
 ghost use Rattle.sfv.specs.Statements.{IsParsedAs};
@@ -12,8 +11,8 @@ ghost use Rattle.sfv.specs.CheckedTexts.{text_of};
 ghost use Rattle.sfv.specs.Parsers.{IsParseError};
 ghost use Rattle.sfv.specs.NumberValues.{integer_of};
 ghost use Rattle.sfv.specs.Seeds.{ListHasSeed, DictionaryHasSeed};
-ghost use Rattle.sfv_examples.specs.Uses.{IsExplained, HasIntegerOr, parameters_of, param_in, HasParam};
-ghost use Rattle.sfv_examples.specs.Uses.{IsListOfBoth, IsDictionaryOfBoth, IsOfOneLine, IsErrorOfLines};
+ghost use Rattle.sfv_examples.specs.Uses.{IsExplained, HasIntegerOr, parameters_of, param_in, HasParam, IsListOfBoth};
+ghost use Rattle.sfv_examples.specs.Uses.{IsDictionaryOfBoth, IsOfOneLine, IsErrorOfLines};
 
 use sfv::visitor::{DictionaryBuilder, ListBuilder};
 use sfv::{

@@ -13,8 +13,8 @@ ghost use Rattle.sfv.specs.CheckedTexts.{text_of};
 ghost use Rattle.sfv.specs.Written.{keyed_text, with_separators};
 ghost use Rattle.sfv.specs.Serializers.{lent_sequence, HasAppended, HasAppendedNext, GrowsSequence, KeepsSequence};
 ghost use Rattle.sfv.specs.Serializers.{sequence_sink, is_empty_so_far};
-ghost use Rattle.sfv_examples.specs.Uses.{item_of_one, item_of_two, pair_of, example_dictionary, Adds};
-ghost use Rattle.sfv_examples.specs.Uses.{AddsMember, AddsItem, pair_text, empty_text, named_text};
+ghost use Rattle.sfv_examples.specs.Uses.{item_of_one, item_of_two, pair_of, example_dictionary, Adds, AddsMember};
+ghost use Rattle.sfv_examples.specs.Uses.{AddsItem, pair_text, empty_text, named_text};
 
 use crate::writing::write_item;
 use sfv::script::{MemberCalls, run_list};

@@ -3,8 +3,7 @@
 ghost use Rattle.std.specs.Prelude.{map, ◌≡◌, ◌∷◌, ◌++◌, [], false, OnOk, IfOk, IfErr, codes, string_bytes};
 ghost use Rattle.sfv.specs.Types.{list_field};
 ghost use Rattle.sfv.specs.Ordered.{ordered};
-ghost use Rattle.sfv.specs.Values.{bare_values};
-ghost use Rattle.sfv.specs.Values.{AllFit};
+ghost use Rattle.sfv.specs.Values.{bare_values, AllFit};
 ghost use Rattle.sfv.specs.BareItems.{ref_value};
 ghost use Rattle.sfv.specs.Trees.{list_tree};
 ghost use Rattle.sfv.specs.Scripts.{member_of_calls, described_list};

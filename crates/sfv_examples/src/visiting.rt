@@ -1,8 +1,7 @@
 //! Parsing of a field with a visitor, without a value.
 
 ghost use Rattle.std.specs.Prelude.{◌≡◌, ⊤, ◌≤◌, IsSome, IfOk, IfErr, OnOk};
-ghost use Rattle.sfv.specs.Types.{item_field, dictionary_field};
-ghost use Rattle.sfv.specs.Types.{Rfc9651};
+ghost use Rattle.sfv.specs.Types.{item_field, dictionary_field, Rfc9651};
 ghost use Rattle.sfv.specs.Grammar.{IsAccepted};
 ghost use Rattle.sfv.specs.EventRuns.{key_in};
 ghost use Rattle.sfv_examples.specs.Uses.{counts, HasMembers, IsCountError, IsMemoryError};

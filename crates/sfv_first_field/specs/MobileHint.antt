@@ -1,8 +1,7 @@
 -- The field Sec-CH-UA-Mobile, which is an item.
 use Rattle.std.specs.Prelude.{◌≡◌, ◌≢◌, ℕ, List, Bool}
 use Rattle.sfv.specs.Values.{boolean, RawItem}
-use Rattle.sfv.specs.Types.{item_field}
-use Rattle.sfv.specs.Types.{Rfc9651}
+use Rattle.sfv.specs.Types.{item_field, Rfc9651}
 use Rattle.sfv.specs.Parsers.{IsParseError}
 use Rattle.sfv.specs.Memory.{NeedsMemory}
 use Rattle.sfv.specs.Statements.{IsParsedAs}

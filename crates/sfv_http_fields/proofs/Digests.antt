@@ -4,18 +4,16 @@ use Rattle.std.specs.Prelude.{Option, Some, None, option_map, Result, Ok, Err, I
 use Rattle.std.specs.declared.alloc.Global.{Global}
 use Rattle.std.specs.declared.string.String.{String}
 use Rattle.sfv.specs.Values.{RawMember, item, inner_list}
-use Rattle.sfv.specs.Types.{dictionary_field}
-use Rattle.sfv.specs.Types.{Rfc9651}
+use Rattle.sfv.specs.Types.{dictionary_field, Rfc9651, Error}
 use Rattle.sfv.specs.Ordered.{last_of, ordered, ordered_member}
 use Rattle.sfv.specs.Statements.{IsParsedAs, IsSerializedAs}
 use Rattle.sfv.proofs.Callers.{last_of-ordered}
-use Rattle.sfv_http_fields.specs.ContentDigests.{Members, sha_256_key, sha_512_key, bytes_in, last_bytes, Digests, digests_in}
-use Rattle.sfv_http_fields.specs.ContentDigests.{AreDigests, HasWrongType, IsDictionary, IsContentDigest, HasDigests}
-use Rattle.sfv_http_fields.specs.ContentDigests.{IsDigestError, ReturnsDigests, digest_members}
+use Rattle.sfv_http_fields.specs.ContentDigests.{Members, sha_256_key, sha_512_key, bytes_in, last_bytes, Digests}
+use Rattle.sfv_http_fields.specs.ContentDigests.{digests_in, AreDigests, HasWrongType, IsDictionary, IsContentDigest}
+use Rattle.sfv_http_fields.specs.ContentDigests.{HasDigests, IsDigestError, ReturnsDigests, digest_members}
 use Rattle.sfv_http_fields.specs.ContentDigests.{NeedsMarkFor}
 use Rattle.sfv_readers.specs.Field.{IsReadBy, NeedsMarkUnless}
 use Rattle.sfv_readers.proofs.Memory.{mark_needed}
-use Rattle.sfv.specs.Types.{Error}
 use Rattle.sfv_http_fields.specs.DigestSteps.{Held, held_of, held_value, HoldsDigests, HoldsWrongType, GivesDigests}
 use Rattle.sfv_http_fields.specs.declared.content_digest.DigestError.TheVariants as errors
 use Rattle.sfv_http_fields.specs.declared.content_digest.reading.LastMembers.{LastMembers}

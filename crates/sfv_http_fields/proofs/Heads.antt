@@ -29,10 +29,3 @@ request_text name input headers head text found same = (
   found.1.reads,
   same ∙ ap (text_of_lines name) found.1.fields ∙ ap (joined (codes ", ")) (lines_of_fields name found.0.fields),
 )
-
--- they lie in the whole input
-pub all_within : (input : List ℕ) (headers : List HeaderSpan) (len count : ℕ) → IsSectionWithin input headers len count
-    → All (IsHeaderWithin (length input)) (take count headers)
-all_within input headers len count within = All-weaker (IsHeaderWithin len) (IsHeaderWithin (length input))
-    (λ header h. ((h.0.0, omega (arith, within.len_fits, h.0.1)), (h.1.0, omega (arith, within.len_fits, h.1.1))))
-    (take count headers) within.headers_fit

@@ -1,12 +1,10 @@
 -- What is written of a priority is read as it, under both versions.
-use Rattle.std.proofs.Common.{◌≡◌, ℕ, ◌+◌, ◌≤◌, ◌<◌, List, [], ◌∷◌, ◌++◌, Bool, true, false, refl, subst}
-use Rattle.std.proofs.Common.{arith}
+use Rattle.std.proofs.Common.{◌≡◌, ℕ, ◌+◌, ◌≤◌, ◌<◌, List, [], ◌∷◌, ◌++◌, Bool, true, false, refl, subst, arith}
 use Rattle.std.specs.Prelude.{nat_le, ◌==◌, ◌^◌, codes, if◌then◌else◌}
 use Rattle.std.proofs.lemmas.Fmt.{decimal_digit}
 use Rattle.sfv.specs.Ascii.{byte}
 use Rattle.sfv.specs.Texts.{joined}
-use Rattle.sfv.specs.Types.{dictionary_field}
-use Rattle.sfv.specs.Types.{Version, Rfc8941}
+use Rattle.sfv.specs.Types.{dictionary_field, Version, Rfc8941}
 use Rattle.sfv.specs.Ordered.{last_of}
 use Rattle.sfv.specs.Canonical.{canonical}
 use Rattle.sfv.specs.Values.{Fits, IsFieldValue}

@@ -1,7 +1,7 @@
 -- The written text parses back to the intermediary.
 use Rattle.std.specs.Prelude.{◌≡◌, ◌≤◌, ◌++◌, ℕ, List, [], true, Some, nat_le, pos}
-use Rattle.sfv_readers.specs.Field.{Version, Rfc8941, list_field, RawMember, integer, Fits, IsParsedAs, canonical, last_of}
-use Rattle.sfv_readers.specs.Field.{text_of as token_text}
+use Rattle.sfv_readers.specs.Field.{Version, Rfc8941, list_field, RawMember, integer, Fits, IsParsedAs, canonical}
+use Rattle.sfv_readers.specs.Field.{last_of, text_of as token_text}
 use Rattle.sfv.specs.TokenText.{TokenRef}
 use Rattle.sfv.specs.Values.{IsItem}
 use Rattle.sfv.proofs.Callers.{read_back_either, ordered_same}

@@ -3,8 +3,7 @@ use Rattle.std.specs.Prelude.{◌≡◌, ℕ, ℤ, List, Bool, true, false, ◌&
 use Rattle.std.specs.Prelude.{if◌then◌else◌}
 use Rattle.std.specs.Option.{option_or}
 use Rattle.sfv.specs.Values.{BareValue, integer, string, token, boolean, RawMember, item, inner_list}
-use Rattle.sfv.specs.Types.{list_field}
-use Rattle.sfv.specs.Types.{Version}
+use Rattle.sfv.specs.Types.{list_field, Version}
 use Rattle.sfv.specs.Ordered.{last_of}
 use Rattle.sfv.specs.NumberValues.{integer_of}
 use Rattle.sfv.specs.Statements.{IsParsedAs}

@@ -1,12 +1,11 @@
 -- The Content-Digest field (RFC 9530, section 2): a Dictionary. A key names a hash algorithm, and its value is the
 -- digest by this algorithm, as a Byte Sequence.
-use Rattle.std.specs.Prelude.{◌≡◌, ⊤, ℕ, List, [], ◌∷◌, ◌++◌, ◌⊎◌, codes, Option, Some, None, option_map}
-use Rattle.std.specs.Prelude.{Result, MatchResult, MatchOption}
+use Rattle.std.specs.Prelude.{◌≡◌, ⊤, ℕ, List, [], ◌∷◌, ◌++◌, ◌⊎◌, codes, Option, Some, None, option_map, Result}
+use Rattle.std.specs.Prelude.{MatchResult, MatchOption}
 use Rattle.std.specs.declared.alloc.Global.{Global}
 use Rattle.std.specs.declared.vec.Vec.{Vec}
 use Rattle.sfv.specs.Values.{BareValue, byte_sequence, RawMember, item, inner_list}
-use Rattle.sfv.specs.Types.{dictionary_field}
-use Rattle.sfv.specs.Types.{Rfc9651}
+use Rattle.sfv.specs.Types.{dictionary_field, Rfc9651}
 use Rattle.sfv.specs.Grammar.{IsFieldText}
 use Rattle.sfv.specs.Ordered.{last_of}
 use Rattle.sfv.specs.Errors.{out_of_memory}

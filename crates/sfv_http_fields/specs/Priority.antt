@@ -4,8 +4,7 @@ use Rattle.std.specs.Prelude.{pos, codes}
 use Rattle.sfv.specs.Ascii.{byte}
 use Rattle.sfv.specs.Texts.{joined}
 use Rattle.sfv.specs.Values.{BareValue, integer, boolean, RawMember, item}
-use Rattle.sfv.specs.Types.{dictionary_field}
-use Rattle.sfv.specs.Types.{Version}
+use Rattle.sfv.specs.Types.{dictionary_field, Version}
 use Rattle.sfv.specs.Ordered.{last_of}
 use Rattle.sfv.specs.Statements.{IsParsedAs}
 pub use Rattle.sfv_readers.specs.Field.{ErrorNeedsMark}

@@ -8,8 +8,7 @@ use Rattle.httparse.specs.declared.spans.RequestSpans.{RequestSpans}
 use Rattle.httparse.specs.declared.Error.{Error}
 use Rattle.httparse.specs.declared.Error.TheVariants.{TooManyHeaders}
 use Rattle.sfv.specs.Texts.{joined}
-use Rattle.sfv.specs.Types.{dictionary_field}
-use Rattle.sfv.specs.Types.{Version}
+use Rattle.sfv.specs.Types.{dictionary_field, Version}
 use Rattle.sfv.specs.Errors.{out_of_memory, error_text}
 use Rattle.sfv.specs.Parsers.{IsParseError}
 use Rattle.sfv_http_fields.specs.Priority.{PriorityValue, IsPriorityOf}

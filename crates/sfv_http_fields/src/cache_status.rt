@@ -5,7 +5,8 @@
 
 ghost use Rattle.std.specs.Prelude.{◌≡◌, Some, IfOk, IfErr, option_map};
 ghost use Rattle.sfv_readers.specs.Field.{list_field, ref_value, integer_of, IsParseError, ErrorNeedsMark};
-ghost use Rattle.sfv_http_fields.specs.CacheStatus.{names_cache, is_true, integer_in, hit_value, last_hit_of, IsLastHitOf};
+ghost use Rattle.sfv_http_fields.specs.CacheStatus.{names_cache, is_true, integer_in, hit_value, last_hit_of};
+ghost use Rattle.sfv_http_fields.specs.CacheStatus.{IsLastHitOf};
 
 use sfv::{
     BareItemFromInput, Error, GenericBareItem, Integer, KeyRef, OutOfMemory, RefBareItem, Version,

@@ -4,15 +4,14 @@
 //! The contracts of `read`, `write` and `reread` follow from the library's clauses by `proofs/Digests.antt`. `read`
 //! uses a `DictionaryReader`, and moves the bytes into the result.
 
-ghost use Rattle.std.specs.Prelude.{◌≡◌, ◌≢◌, ◌↔◌, None, IfOk, IfErr, IfSome, OnOk, OnErr};
-ghost use Rattle.std.specs.Prelude.{string_bytes};
+ghost use Rattle.std.specs.Prelude.{◌≡◌, ◌≢◌, ◌↔◌, None, IfOk, IfErr, IfSome, OnOk, OnErr, string_bytes};
 ghost use Rattle.sfv.specs.Types.{dictionary_field};
 ghost use Rattle.sfv.specs.Written.{IsSerialized};
 ghost use Rattle.sfv.specs.Errors.{out_of_memory};
 ghost use Rattle.sfv.specs.CheckedTexts.{text_of};
 ghost use Rattle.sfv.specs.Trees.{member_tree, dictionary_tree};
-ghost use Rattle.sfv_http_fields.specs.ContentDigests.{digest_bytes, digests_in, no_digests, HasDigests, AreSameDigests};
-ghost use Rattle.sfv_http_fields.specs.ContentDigests.{bytes_member, digest_members};
+ghost use Rattle.sfv_http_fields.specs.ContentDigests.{digest_bytes, digests_in, no_digests, HasDigests};
+ghost use Rattle.sfv_http_fields.specs.ContentDigests.{AreSameDigests, bytes_member, digest_members};
 ghost use Rattle.sfv_http_fields.specs.DigestSteps.{entered};
 ghost use Rattle.sfv_http_fields.specs.declared.content_digest.DigestError.TheVariants as errors;
 

@@ -14,6 +14,7 @@ mod calls;
 mod copies;
 mod reading;
 mod scripts;
+mod visiting;
 mod writing;
 
 use crate::calls::{CALLS, perform};

@@ -1,9 +1,7 @@
 -- A bare item that stands first in the text of an item is read, whatever follows where it ends.
-use Rattle.std.proofs.Common.{◌≡◌, List, [], ◌++◌, length, take, drop, Ok, ℕ, refl, sym, ap, subst, ◌∙◌, append_assoc}
-use Rattle.std.proofs.Common.{arith}
+use Rattle.std.proofs.Common.{◌≡◌, List, [], ◌++◌, length, take, drop, Ok, ℕ, refl, sym, ap, ◌∙◌, append_assoc, arith}
 use Rattle.std.proofs.lemmas.List.{append-nil, take_at, take-append-drop, length-append, length-take-le}
-use Rattle.sfv_spec.proofs.Marks.{space}
-use Rattle.sfv_spec.proofs.Marks.{is_space}
+use Rattle.sfv_spec.proofs.Marks.{space, is_space}
 use Rattle.sfv_spec.specs.Values.{BareValue}
 use Rattle.sfv_spec.specs.declared.version.Version.{Version}
 use Rattle.sfv_spec.specs.Texts.{IsLongestBeginning}
@@ -40,9 +38,8 @@ pub longest_read : (version : Version) (t : List ℕ) (value : BareValue) (rest 
     → IsLongestBeginning (λ d. (any : BareValue) × IsBareText version any d) (h.front ++ rest) (length h.front)
 longest_read version t value rest h = record {
   within = omega (arith, length-append h.front rest);
-  holds = (value, subst (IsBareText version value) (sym (take_at h.front rest (length h.front) refl)) h.means);
-  longest = λ m more within w.
-      let some : (any : BareValue) × IsBareText version any (take m (h.front ++ rest)) = w in
+  holds = (value, rw (take_at h.front rest (length h.front) refl) h.means);
+  longest = λ m more within w. let some = w in
       let short = h.longest (take m (h.front ++ rest)) (drop m (h.front ++ rest))
       (h.text ∙ sym (take-append-drop m (h.front ++ rest))) some in
       omega (arith, more, short, length-take-le m (h.front ++ rest) within);

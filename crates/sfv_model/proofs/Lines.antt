@@ -5,9 +5,10 @@ use Rattle.std.specs.List.{list_all}
 use Rattle.std.proofs.lemmas.Bool.{and_parts, and_from}
 use Rattle.sfv_spec.specs.Ascii.{byte}
 use Rattle.sfv_spec.specs.Texts.{◌⨾◌}
-use Rattle.sfv_spec.specs.Grammar.{Spaces, OptionalWhitespace, Comma, AreMembersText, IsMemberText, IsDictionaryMemberText}
+use Rattle.sfv_spec.specs.Grammar.{Spaces, OptionalWhitespace, Comma, AreMembersText, IsMemberText}
+use Rattle.sfv_spec.specs.Grammar.{IsDictionaryMemberText}
 use Rattle.sfv_spec.specs.Statements.{JoinedLines}
-use Rattle.sfv_model.proofs.texts.Joining.{joining_append, joining_into}
+use Rattle.sfv_model.proofs.texts.Joining.{joining_append, joining_into, in_turn}
 
 spaces_are_whitespace : (t : List ℕ) → Spaces t → OptionalWhitespace t
 spaces_are_whitespace [] h = refl
@@ -33,21 +34,10 @@ members_join P (x ∷ xs) (y ∷ ys) s t m n h k =
       back = codes ", " ++ k.front;
       text = append_assoc h.second.back (codes ", ") k.front;
       first = h.second.second;
-      second = record {
-        front = codes ",";
-        back = codes " " ++ k.front;
-        text = refl;
-        first = refl;
-        second = spaces_are_whitespace (codes " " ++ k.front) k.first;
-      };
+      second = in_turn (codes ",") (codes " " ++ k.front) refl (spaces_are_whitespace (codes " " ++ k.front) k.first);
     } in
-    let next : (Comma ⨾ P y) ((h.second.back ++ codes ", " ++ k.front) ++ q.front) = record {
-      front = h.second.back ++ codes ", " ++ k.front;
-      back = q.front;
-      text = refl;
-      first = comma;
-      second = q.first;
-    } in
+    let next : (Comma ⨾ P y) ((h.second.back ++ codes ", " ++ k.front) ++ q.front) = in_turn
+    (h.second.back ++ codes ", " ++ k.front) q.front comma q.first in
     let rest = joining_append (λ z. Comma ⨾ P z) xs (y ∷ ys) p.back
     (((h.second.back ++ codes ", " ++ k.front) ++ q.front) ++ q.back) p.second
     (joining_into (λ z. Comma ⨾ P z) y ys ((h.second.back ++ codes ", " ++ k.front) ++ q.front) q.back next q.second) in
@@ -57,19 +47,9 @@ members_join P (x ∷ xs) (y ∷ ys) s t m n h k =
       text = regroup s h.back h.second.front p.front p.back h.second.back t k.back k.second.front q.front q.back
           k.second.back (codes ", ") h.front k.front h.text h.second.text p.text k.text k.second.text q.text;
       first = h.first;
-      second = record {
-        front = p.front ++ (p.back ++ (((h.second.back ++ codes ", " ++ k.front) ++ q.front) ++ q.back));
-        back = k.second.back;
-        text = refl;
-        first = record {
-          front = p.front;
-          back = p.back ++ (((h.second.back ++ codes ", " ++ k.front) ++ q.front) ++ q.back);
-          text = refl;
-          first = p.first;
-          second = rest;
-        };
-        second = k.second.second;
-      };
+      second = in_turn (p.front ++ (p.back ++ (((h.second.back ++ codes ", " ++ k.front) ++ q.front) ++ q.back)))
+          k.second.back (in_turn p.front (p.back ++ (((h.second.back ++ codes ", " ++ k.front) ++ q.front) ++ q.back))
+          p.first rest) k.second.second;
     }
 
 pub joined_lines_lem : JoinedLines

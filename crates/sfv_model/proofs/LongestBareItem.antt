@@ -1,21 +1,20 @@
 -- A bare item is read as the longest text of one.
-use Rattle.std.proofs.Common.{◌≡◌, ℕ, ◌≤◌, true, false, List, [], ◌∷◌, ◌++◌, length, Ok, refl, sym, ap, subst, ◌∙◌}
-use Rattle.std.proofs.Common.{arith, inl, inr}
-use Rattle.std.specs.Prelude.{◌==◌, not, ◌⊎◌, codes}
-use Rattle.std.specs.List.{list_all}
-use Rattle.std.proofs.lemmas.Bool.{or_cases, eqb-true, and_parts, not-true, true≢false}
+use Rattle.sfv_model.proofs.sound.Combinators.{sound_at}
+use Rattle.sfv_model.proofs.base64.Lone.{found_in}
+use Rattle.std.proofs.Common.{◌≡◌, ℕ, ◌≤◌, List, [], ◌∷◌, ◌++◌, length, Ok, refl, sym, ap, subst, ◌∙◌, arith, inl, inr}
+use Rattle.std.specs.Prelude.{not, ◌⊎◌, codes}
+use Rattle.std.proofs.lemmas.Bool.{not-true}
 use Rattle.std.proofs.lemmas.List.{append-nil, append_cancel_right, length-append}
-use Rattle.sfv_spec.specs.Classes.{is_one_of, is_token_inner}
+use Rattle.sfv_spec.specs.Classes.{is_token_inner}
 use Rattle.sfv_spec.specs.Values.{BareValue}
 use Rattle.sfv_spec.specs.declared.version.Version.{Version}
 use Rattle.sfv_spec.specs.Grammar.{IsBareText, IsEnded}
-use Rattle.sfv_model.specs.Judgements.{Reached, Lasts}
+use Rattle.sfv_model.specs.Judgements.{Lasts}
 use Rattle.sfv_model.specs.Reader.{Apart, first}
 use Rattle.sfv_model.specs.Bare.{bare_at}
 use Rattle.sfv_model.specs.Claims.{BeginsWithBare, BareIsExact}
-use Rattle.sfv_model.proofs.sound.Combinators.{Somewhere}
 use Rattle.sfv_model.proofs.complete.Combinators.{Apart-nil, Apart-cons}
-use Rattle.sfv_model.proofs.sound.Bare.{BareGoes, Sound-bare}
+use Rattle.sfv_model.proofs.sound.Bare.{Sound-bare}
 use Rattle.sfv_model.proofs.local.Bare.{Local-bare}
 use Rattle.sfv_model.proofs.complete.Bare.{bare_complete}
 
@@ -24,8 +23,7 @@ use Rattle.sfv_model.proofs.complete.Bare.{bare_complete}
 module _ (version : Version) where
   -- a text of a value is read to its end
   read_whole : (v : BareValue) (s : List ℕ) → IsBareText version v s → bare_at version s ≡ Ok (v, [])
-  read_whole v s h = ap (bare_at version) (sym (append-nil s))
-      ∙ bare_complete version v s [] h (Apart-nil is_token_inner)
+  read_whole v s h = cc (append-nil s, bare_complete version v s [] h (Apart-nil is_token_inner))
 
   -- the reader stops where it did, if the text is cut off further on
   no_longer : (p rest : List ℕ) (v w : BareValue) (more after : List ℕ)
@@ -66,34 +64,23 @@ begins_on version t v rest s parts means l =
       longest = λ longer after e w. elim (parted s rest longer after (sym parts ∙ e)) [
         | inl m ↦ m
         | inr m ↦
-            let none = no_longer version l.0 rest v w.0 m.0 after l.2 m.2 (subst (IsBareText version w.0) (m.1
-            ∙ ap (λ (p : List ℕ). p ++ m.0) (sym same)) w.1) in
+            let none = no_longer version l.0 rest v w.0 m.0 after l.2 m.2
+            (rw (← m.1 ∙ ap (λ (p : List ℕ). p ++ m.0) (sym same)) w.1) in
             omega (arith, ap (length {A = ℕ}) m.1, length-append s m.0, ap (length {A = ℕ}) none)
       ];
     }
 
 -- ---- what ends a bare item
 
-none_of : (bytes : List ℕ) (c : ℕ) → list_all (λ b. not (is_token_inner b)) bytes ≡ true → is_one_of bytes c ≡ true
-    → is_token_inner c ≡ false
-none_of [] c h e = absurd (true≢false (sym e))
-none_of (b ∷ bytes) c h e =
-    let p = and_parts (not (is_token_inner b)) (list_all (λ b. not (is_token_inner b)) bytes) h in
-    elim (or_cases (b == c) (is_one_of bytes c) e) as (λ x. is_token_inner c ≡ false) [
-      | inl i ↦
-          ap is_token_inner (sym (eqb-true b c i)) ∙ not-true (is_token_inner b) p.0
-      | inr i ↦ none_of bytes c p.1 i
-    ]
-
 pub ended_apart : (rest : List ℕ) → IsEnded rest → Apart is_token_inner rest
 ended_apart [] h = Apart-nil is_token_inner
-ended_apart (c ∷ rest) h = Apart-cons is_token_inner c rest (none_of (codes "; \t,)") c refl h)
+ended_apart (c ∷ rest) h = Apart-cons is_token_inner c rest (not-true (is_token_inner c)
+    (found_in (codes "; \t,)") (λ b. not (is_token_inner b)) c refl h))
 
 pub bare_is_exact : BareIsExact
 bare_is_exact = (
   (λ version t v rest e.
-      let h = subst (Reached (IsBareText version) (BareGoes version) (Somewhere (BareGoes version)) t) e
-      ((Sound-bare version).sound t) in
+      let h = sound_at (Sound-bare version) t (Ok (v, rest)) e in
       begins_on version t v rest h.0 h.1 h.2 (subst (Lasts (bare_at version) t) e ((Local-bare version).lasts t))),
   (λ version t fault e s rest parts w ended. let read = bare_complete version w.0 s rest w.1 (ended_apart rest ended) in
       let text = ap (bare_at version) parts in absurd cc),

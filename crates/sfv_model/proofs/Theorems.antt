@@ -1,19 +1,18 @@
 -- The reader of fields and the grammar agree; where a fault is exact no field goes on.
 use Rattle.std.proofs.Common.{◌≡◌, ℕ, ◌+◌, ◌<◌, true, false, List, [], ◌∷◌, ◌++◌, length, take, drop, Some, Ok, Err}
-use Rattle.std.proofs.Common.{refl, sym, ap, subst, ◌∙◌, append_assoc, arith, inl, inr}
+use Rattle.std.proofs.Common.{refl, sym, ap, ◌∙◌, append_assoc, arith, inl, inr}
 use Rattle.std.proofs.lemmas.List.{append-nil, append_cancel_right, length-append, take_at, drop_at}
 use Rattle.std.proofs.lemmas.Bool.{cases_Bool}
 use Rattle.sfv_spec.specs.declared.field_kind.FieldKind.{FieldKind}
 use Rattle.sfv_spec.specs.declared.version.Version.{Version}
-use Rattle.sfv_spec.specs.Grammar.{IsFieldText}
-use Rattle.sfv_spec.specs.Events.{TreeEvent, events}
-use Rattle.sfv_spec.specs.Reach.{BeginsAccepted, IsReach}
+use Rattle.sfv_spec.specs.Events.{TreeEvent}
+use Rattle.sfv_spec.specs.Reach.{IsReach}
 use Rattle.sfv_spec.specs.declared.error_kind.ErrorKind.TheVariants.{TrailingCharactersAfterParsedValue}
 use Rattle.sfv_spec.proofs.Reached.{reach_before, reach_end}
 use Rattle.sfv_spec.proofs.Valid.{accepted_is_value_lem}
 use Rattle.sfv_model.specs.Judgements.{Reached, Lasts, Local}
 use Rattle.sfv_model.specs.Reader.{has_rule, first, Fault, Answer, Reader}
-use Rattle.sfv_model.specs.Fields.{whole_field_at, ending, read_field}
+use Rattle.sfv_model.specs.Fields.{ending, read_field}
 use Rattle.sfv_model.specs.Claims.{ReadIsAccepted, FaultIsPlaced}
 use Rattle.sfv_model.proofs.sound.Combinators.{Somewhere, Goes, Reads}
 use Rattle.sfv_model.proofs.sound.Fields.{Sound-field}
@@ -24,16 +23,15 @@ use Rattle.sfv_model.proofs.complete.Fields.{field_complete}
 abbrev pub Starts : {A : Type 0} → (A → List ℕ → Type 0) → List ℕ → Type 0
 Starts {A} P u = (more : List ℕ) × ((v : A) × P v (u ++ more))
 
-module _ {A : Type 0} (f : Reader A) (P : A → List ℕ → Type 0) (parts : A
-    → List TreeEvent) (s : Reads f P (Goes P parts)) (l : Local f) (again : (v : A) (t : List ℕ) → P v t
-    → f t ≡ Ok (v, [])) where
+module _ {A : Type 0} {f : Reader A} {P : A → List ℕ → Type 0} {parts : A → List TreeEvent}
+    (s : Reads f P (Goes P parts)) (l : Local f) (again : (v : A) (t : List ℕ) → P v t → f t ≡ Ok (v, [])) where
   pub complete : (v : A) (t : List ℕ) → P v t → ending parts (f t) ≡ Ok v
   complete v t i = rw (again v t i) refl
 
   sound_on : (v : A) (t : List ℕ) (a : Answer A) → Reached P (Goes P parts) (Somewhere (Goes P parts)) t a
       → ending parts a ≡ Ok v → P v t
   sound_on v t (Ok (w, [])) h e = let same : w ≡ v = cc in
-      subst (λ (v : A). P v t) same (subst (P w) (sym (h.1 ∙ append-nil h.0)) h.2)
+      rw (← same) (rw (h.1 ∙ append-nil h.0) h.2)
   sound_on v t (Ok (w, c ∷ r)) h e = absurd cc
   sound_on v t (Err x) h e = absurd cc
 
@@ -48,8 +46,7 @@ module _ {A : Type 0} (f : Reader A) (P : A → List ℕ → Type 0) (parts : A
     pub no_further : (c : ℕ) (q : List ℕ) → rest ≡ c ∷ q → Starts P (front ++ c ∷ []) → ⊥
 
   none_so : (p : List ℕ) (c : ℕ) → ((d : List ℕ) (v : A) → f (p ++ c ∷ d) ≡ Ok (v, []) → ⊥) → Starts P (p ++ c ∷ []) → ⊥
-  none_so p c never b = never b.0 b.1.0 (ap f (sym (append_assoc p (c ∷ []) b.0))
-      ∙ again b.1.0 ((p ++ c ∷ []) ++ b.0) b.1.1)
+  none_so p c never b = never b.0 b.1.0 (cc (append_assoc p (c ∷ []) b.0, again b.1.0 ((p ++ c ∷ []) ++ b.0) b.1.1))
 
   at_trailing : (t : List ℕ) (v : A) (c : ℕ) (q : List ℕ)
       → Reached P (Goes P parts) (Somewhere (Goes P parts)) t (Ok (v, c ∷ q)) → Lasts f t (Ok (v, c ∷ q))
@@ -58,7 +55,7 @@ module _ {A : Type 0} (f : Reader A) (P : A → List ℕ → Type 0) (parts : A
     front = m.0;
     parted = m.1;
     begins = let same : h.0 ≡ m.0 = append_cancel_right h.0 m.0 (c ∷ q) (sym h.1 ∙ m.1) in
-        ([], (v, subst (P v) (sym (append-nil m.0)) (subst (P v) same h.2)));
+        ([], (v, rw (append-nil m.0) (rw (← same) h.2)));
     no_further = λ b o e. let same : c ≡ b = cc in none_so m.0 b (λ d w i.
         let g : f (m.0 ++ b ∷ d) ≡ Ok (v, b ∷ d) = m.2 (b ∷ d) (ap (λ (n : ℕ). Some n) (sym same)) in
         let pairs : (w, []) ≡ (v, b ∷ d) = cc in
@@ -74,7 +71,7 @@ module _ {A : Type 0} (f : Reader A) (P : A → List ℕ → Type 0) (parts : A
         front = w.0;
         parted = w.1;
         begins = let same : g.front ≡ w.0 = append_cancel_right g.front w.0 x.rest (sym g.parts ∙ w.1) in
-            subst (Starts P) same (g.more, (g.holds.0, g.holds.1));
+            rw (← same) (g.more, (g.holds.0, g.holds.1));
         no_further = λ b o e. none_so w.0 b (λ d v i. let k = w.2 (b ∷ d) (sym (ap first e)) in let fault = k.1 in
             absurd cc);
       }
@@ -85,10 +82,10 @@ module _ {A : Type 0} (f : Reader A) (P : A → List ℕ → Type 0) (parts : A
   reaches_on t e (Ok (v, c ∷ q)) h m i exact =
       let same : record { kind = TrailingCharactersAfterParsedValue; exact = true; rest = c ∷ q; events = parts v }
       ≡ e = cc in
-      subst (Reaches t) (ap (λ (e : Fault). e.rest) same) (at_trailing t v c q h m)
+      rw (← ap (λ (e : Fault). e.rest) same) (at_trailing t v c q h m)
   reaches_on t e (Err x) h m i exact =
       let same : x ≡ e = cc in
-      subst (Reaches t) (ap (λ (e : Fault). e.rest) same) (at_fault t x (ap (λ (e : Fault). e.exact) same ∙ exact) h m)
+      rw (← ap (λ (e : Fault). e.rest) same) (at_fault t x (ap (λ (e : Fault). e.exact) same ∙ exact) h m)
 
   pub reaches : (t : List ℕ) (e : Fault) → ending parts (f t) ≡ Err e → e.exact ≡ true → Reaches t e.rest
   reaches t e i exact = reaches_on t e (f t) (s.sound t) (l.lasts t) i exact
@@ -106,16 +103,12 @@ module _ {A : Type 0} (f : Reader A) (P : A → List ℕ → Type 0) (parts : A
   emitted_on t e (Ok (v, c ∷ q)) h i =
       let same : record { kind = TrailingCharactersAfterParsedValue; exact = true; rest = c ∷ q; events = parts v }
       ≡ e = cc in (
-        subst (Somewhere (Goes P parts)) (ap (λ (e : Fault). e.events) same) (
-          h.0,
-          (v, h.2, ([], sym (append-nil (parts v)))),
-        ),
-        λ x. let y : true ≡ false = ap (λ (e : Fault). e.exact) same
-            ∙ x in absurd cc,
+        rw (← ap (λ (e : Fault). e.events) same) (h.0, (v, h.2, ([], sym (append-nil (parts v))))),
+        λ x. let y : true ≡ false = cc in absurd cc,
       )
   emitted_on t e (Err x) h i =
       let same : x ≡ e = cc in (
-        subst (Somewhere (Goes P parts)) (ap (λ (e : Fault). e.events) same) (emitted_at t x h),
+        rw (← ap (λ (e : Fault). e.events) same) (emitted_at t x h),
         λ y. ap has_rule (ap (λ (e : Fault). e.kind) (sym same)) ∙ (h.1 (ap (λ (e : Fault). e.exact) same ∙ y)).1,
       )
 
@@ -126,8 +119,8 @@ module _ {A : Type 0} (f : Reader A) (P : A → List ℕ → Type 0) (parts : A
 -- ---- fields
 
 abbrev FieldReaches : Version → FieldKind → List ℕ → List ℕ → Type 0
-FieldReaches version kind t rest = Reaches (whole_field_at version kind) (IsFieldText version kind) (events kind)
-    (Sound-field version kind) (Local-field version kind) (field_complete version kind) t rest
+FieldReaches version kind t rest =
+    Reaches (Sound-field version kind) (Local-field version kind) (field_complete version kind) t rest
 
 -- as an index
 reach_of : (version : Version) (kind : FieldKind) (t rest : List ℕ) → FieldReaches version kind t rest
@@ -135,35 +128,30 @@ reach_of : (version : Version) (kind : FieldKind) (t rest : List ℕ) → FieldR
 reach_of version kind t [] r = (
   length t,
   ap (drop (length t)) (sym (append-nil t)) ∙ drop_at t [] _ refl,
-  reach_end version kind t (subst (BeginsAccepted version kind) (sym (r.parted ∙ append-nil r.front)) r.begins),
+  reach_end version kind t (rw (r.parted ∙ append-nil r.front) r.begins),
 )
 reach_of version kind t (c ∷ q) r =
     let n : ℕ = length r.front in
     let lt : n < length t = omega (arith, ap length r.parted, length-append r.front (c ∷ q)) in
     let begun : take n t ≡ r.front = ap (take n) r.parted ∙ take_at r.front (c ∷ q) _ refl in
     let more : t ≡ (r.front ++ c ∷ []) ++ q = r.parted ∙ sym (append_assoc r.front (c ∷ []) q) in
-    let longer : take (n + 1) t ≡ r.front ++ c ∷ [] = ap (take (n + 1)) more
-    ∙ take_at (r.front ++ c ∷ []) q (n + 1) (length-append r.front (c ∷ [])) in (
+    let longer = ap (take (n + 1)) more ∙ take_at (r.front ++ c ∷ []) q (n + 1) (length-append r.front (c ∷ [])) in (
       n,
       ap (drop n) r.parted ∙ drop_at r.front (c ∷ q) _ refl,
-      reach_before version kind t n lt (subst (BeginsAccepted version kind) (sym begun) r.begins)
-          (λ b. r.no_further c q refl (subst (BeginsAccepted version kind) longer b)),
+      reach_before version kind t n lt (rw begun r.begins) (λ b. r.no_further c q refl (rw (← longer) b)),
     )
 
 pub read_is_accepted : ReadIsAccepted
 unfolding read_field
 read_is_accepted version kind t raw = (
-  (λ e. sound (whole_field_at version kind) (IsFieldText version kind) (events kind) (Sound-field version kind)
-      (Local-field version kind) (field_complete version kind) raw t e),
-  (λ h. complete (whole_field_at version kind) (IsFieldText version kind) (events kind) (Sound-field version kind)
-      (Local-field version kind) (field_complete version kind) raw t h),
+  sound (Sound-field version kind) (Local-field version kind) (field_complete version kind) raw t,
+  complete (Sound-field version kind) (Local-field version kind) (field_complete version kind) raw t,
 )
 
 pub fault_is_placed : FaultIsPlaced
 unfolding read_field
 fault_is_placed version kind t e i =
-    let w = emitted (whole_field_at version kind) (IsFieldText version kind) (events kind) (Sound-field version kind)
-    (Local-field version kind) (field_complete version kind) t e i in
+    let w = emitted (Sound-field version kind) (Local-field version kind) (field_complete version kind) t e i in
     let g = w.0.1 in
     record {
       emitted = record {
@@ -172,7 +160,7 @@ fault_is_placed version kind t e i =
         more = g.2.0;
         all = g.2.1;
       };
-      exact = λ x. reach_of version kind t e.rest (reaches (whole_field_at version kind) (IsFieldText version kind)
-          (events kind) (Sound-field version kind) (Local-field version kind) (field_complete version kind) t e i x);
+      exact = λ x. reach_of version kind t e.rest
+          (reaches (Sound-field version kind) (Local-field version kind) (field_complete version kind) t e i x);
       ruled = w.1;
     }

@@ -1,10 +1,11 @@
 -- The faults of bare items have kinds of their own, and that something stands after a whole field is the fault of
 -- no reader, but of the ending alone.
-use Rattle.std.proofs.Common.{◌≡◌, ℕ, zero, suc, Bool, true, false, cond, List, [], ◌∷◌, ◌++◌, Option, Some}
-use Rattle.std.proofs.Common.{length, None, Ok, Err, refl, sym, ap, subst, ◌∙◌, inl, inr}
+use Rattle.std.proofs.lemmas.Bool.{cases_Bool}
+use Rattle.std.proofs.Common.{◌≡◌, ℕ, zero, suc, Bool, true, false, cond, List, [], ◌∷◌, ◌++◌, Option, Some, length}
+use Rattle.std.proofs.Common.{None, Ok, Err, refl, ap, subst, ◌∙◌, inl, inr}
 use Rattle.std.specs.Prelude.{⊤}
 use Rattle.sfv_spec.specs.Classes.{is_key_start, is_key_inner}
-use Rattle.sfv_spec.specs.Values.{RawField, BareValue}
+use Rattle.sfv_spec.specs.Values.{RawField}
 use Rattle.sfv_spec.specs.declared.field_kind.FieldKind.{FieldKind}
 use Rattle.sfv_spec.specs.declared.version.Version.{Version}
 use Rattle.sfv_spec.specs.declared.version.Version.TheVariants.{Rfc8941, Rfc9651}
@@ -13,8 +14,8 @@ use Rattle.sfv_spec.specs.Events.{TreeEvent, events}
 use Rattle.sfv_spec.specs.declared.error_kind.ErrorKind.{ErrorKind}
 use Rattle.sfv_spec.specs.declared.error_kind.ErrorKind.TheVariants.{TrailingCharactersAfterMember, TrailingComma}
 use Rattle.sfv_spec.specs.declared.error_kind.ErrorKind.TheVariants.{TrailingCharactersAfterParsedValue}
-use Rattle.sfv_spec.specs.declared.error_kind.ErrorKind.TheVariants.{ExpectedInnerListDelimiter}
-use Rattle.sfv_spec.specs.declared.error_kind.ErrorKind.TheVariants.{UnterminatedInnerList, ExpectedStartOfKey}
+use Rattle.sfv_spec.specs.declared.error_kind.ErrorKind.TheVariants.{ExpectedInnerListDelimiter, UnterminatedInnerList}
+use Rattle.sfv_spec.specs.declared.error_kind.ErrorKind.TheVariants.{ExpectedStartOfKey}
 use Rattle.sfv_model.specs.Claims.{IsBytesFault}
 use Rattle.sfv_model.specs.Judgements.{Reached}
 use Rattle.sfv_model.specs.Reader.{Fault, Answer, Reader, at_reach, by_rule, and_then, give, fail, ruled, ◌>>=◌, bind}
@@ -32,7 +33,7 @@ use Rattle.sfv_model.proofs.faults.Combinators.{Rules, Rules-give, Rules-steady,
 use Rattle.sfv_model.proofs.faults.Combinators.{Rules-back, fault_at, fail_at}
 use Rattle.sfv_model.proofs.faults.ByteSequences.{bytes_fault}
 use Rattle.sfv_model.proofs.faults.Quoted.{string_fault, display_fault}
-use Rattle.sfv_model.proofs.places.Calls.{Leaf, bare, key, leaf_at, like_self}
+use Rattle.sfv_model.proofs.places.Calls.{Value, Leaf, bare, key, leaf_at, like_self}
 use Rattle.sfv_model.proofs.places.FaultsOfCalls.{faulty, Met, Elsewhere, Found, called, elsewhere}
 use Rattle.sfv_model.proofs.places.CallsOfReaders.{Ever, walk-field}
 
@@ -69,7 +70,7 @@ Shuns-led es f h = Rules-led es f _ h
 bind_on : {A B : Type 0} (g : A → Reader B) (a : Answer A) (e : Fault) → ((x : Fault) → a ≡ Err x → IsOther x.kind)
     → ((v : A) → Shuns (g v)) → and_then a g ≡ Err e → IsOther e.kind
 bind_on g (Ok x) e h k i = (k x.0).rules x.1 e i
-bind_on g (Err x) e h k i = let same : x ≡ e = cc in subst (λ (e : Fault). IsOther e.kind) same (h x refl)
+bind_on g (Err x) e h k i = let same : x ≡ e = cc in rw (← same) (h x refl)
 
 pub Shuns-bind : {A B : Type 0} (f : Reader A) (g : A → Reader B) → Shuns f → ((v : A) → Shuns (g v)) → Shuns (f >>= g)
 unfolding bind
@@ -154,8 +155,8 @@ pub Shuns-display : Shuns display_at
 Shuns-display = record { rules = λ t e i. display_kind e.kind t e.rest (display_fault t e i).0 }
 
 bytes_kind : (t : List ℕ) (e : Fault) → IsBytesFault t e → IsOther e.kind
-bytes_kind t e (inl h) = subst (λ (e : Fault). IsOther e.kind) (sym h.1) tt
-bytes_kind t e (inr h) = subst (λ (e : Fault). IsOther e.kind) (sym h.5) tt
+bytes_kind t e (inl h) = rw h.1 tt
+bytes_kind t e (inr h) = rw h.5 tt
 
 pub Shuns-bytes : Shuns bytes_at
 Shuns-bytes = record { rules = λ t e i. bytes_kind t e (bytes_fault t e i) }
@@ -194,41 +195,33 @@ Shuns-item version = search (shuns_rules, Shuns-bare, Shuns-parameters) depth 40
 pub key_fault : (t : List ℕ) (e : Fault) → key_at t ≡ Err e → at_reach ExpectedStartOfKey t ≡ e
 unfolding key_at fail branch give
 key_fault [] e i = cc
-key_fault (c ∷ r) e i = on (is_key_start c) i
-  where
-    none : (v r : List ℕ) → give v r ≡ Err e → ⊥
-    none v r j = absurd cc
-
-    on : (b : Bool) → cond b ((span is_key_inner >>= λ cs. give (c ∷ cs)) r) (Err (at_reach ExpectedStartOfKey
-        (c ∷ r)))
-        ≡ Err e → at_reach ExpectedStartOfKey (c ∷ r) ≡ e
-    on false j = cc
-    on true j =
-        let m = (Steady-span is_key_inner).steady r in
-        let read = bind_complete (span is_key_inner) (λ cs. give (c ∷ cs)) r m.2 m.1 m.3 in
-        absurd (none (c ∷ m.1) m.2 (sym read ∙ j))
+key_fault (c ∷ r) e i = elim (cases_Bool (is_key_start c)) [
+  | inl y ↦
+      let m = (Steady-span is_key_inner).steady r in
+      let read = bind_complete (span is_key_inner) (λ cs. give (c ∷ cs)) r m.2 m.1 m.3 in
+      let j = rw (y, read) at i in absurd cc
+  | inr n ↦ let j = rw n at i in cc
+]
 
 -- ---- whole fields
 
 -- where a fault of the readers of a field comes from
 pub comes_from : (version : Version) (kind : FieldKind) (t : List ℕ) (x : Fault) → whole_field_at version kind t ≡ Err x
     → Found version (faulty x) (whole_field_at version kind) Ever t
-comes_from version kind t x i = (walk-field version (faulty x) kind).walk t
-    (subst (λ (a : Answer (RawField kind)). Met (faulty x) t a) (sym i) (like_self x))
+comes_from version kind t x i = (walk-field version (faulty x) kind).walk t (rw i (like_self x))
+
+Shuns-leaf : (version : Version) (leaf : Leaf) → Shuns (leaf_at version leaf)
+Shuns-leaf version bare = Shuns-bare version
+Shuns-leaf version key = Shuns-key
 
 -- it is another one than that something stands after the field
 of_no_field : (version : Version) (t : List ℕ) (leaf : Leaf) (e : Fault)
     → Met (faulty e) t (leaf_at version leaf t) → ¬ (e.kind ≡ TrailingCharactersAfterParsedValue)
-of_no_field version t bare e m k = on (bare_at version t) refl m
+of_no_field version t leaf e m k = on (leaf_at version leaf t) refl m
   where
-    on : (a : Answer BareValue) → bare_at version t ≡ a → Met (faulty e) t a → ⊥
+    on : (a : Answer (Value leaf)) → leaf_at version leaf t ≡ a → Met (faulty e) t a → ⊥
     on (Ok x) i m = m
-    on (Err x) i m = subst IsOther (m.kind ∙ k) ((Shuns-bare version).rules t x i)
-of_no_field version t key e m k = on (key_at t) refl m
-  where
-    on : (a : Answer (List ℕ)) → key_at t ≡ a → Met (faulty e) t a → ⊥
-    on (Ok x) i m = m
-    on (Err x) i m = subst IsOther (m.kind ∙ k) (Shuns-key.rules t x i)
+    on (Err x) i m = subst IsOther (m.kind ∙ k) ((Shuns-leaf version leaf).rules t x i)
 
 read_otherwise : (version : Version) (kind : FieldKind) (t : List ℕ) (e : Fault) → whole_field_at version kind t ≡ Err e
     → ¬ (e.kind ≡ TrailingCharactersAfterParsedValue)
@@ -258,7 +251,6 @@ read_before version kind t f e k =
     on (Ok (v, [])) i h e = absurd cc
     on (Ok (v, c ∷ r)) i h e =
         let rest : c ∷ r ≡ f.rest = cc in
-        subst (ReadBefore version kind t) rest
-        (record { raw = v; front = h.0; text = h.1; means = h.2; read = i })
+        rw (← rest) (record { raw = v; front = h.0; text = h.1; means = h.2; read = i })
     on (Err x) i h e = let same : x ≡ f = cc in
         absurd (read_otherwise version kind t x i (ap (λ (x : Fault). x.kind) same ∙ k))

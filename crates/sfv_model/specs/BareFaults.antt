@@ -1,7 +1,6 @@
 -- The faults of a bare item, and their rows in the tables of faults.
 use Rattle.std.specs.Prelude.{◌≡◌, ℕ, ◌+◌, ◌-◌, true, false, List, ◌∷◌, ◌++◌, length, Err, ◌⊎◌, codes}
-use Rattle.sfv_spec.proofs.Marks.{asterisk}
-use Rattle.sfv_spec.proofs.Marks.{question_mark}
+use Rattle.sfv_spec.proofs.Marks.{asterisk, question_mark}
 use Rattle.sfv_spec.specs.Values.{BareValue}
 use Rattle.sfv_spec.specs.declared.field_kind.FieldKind.{FieldKind}
 use Rattle.sfv_spec.specs.declared.version.Version.{Version}

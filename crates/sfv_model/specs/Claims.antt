@@ -1,6 +1,6 @@
 -- The theorems on readers and the grammar.
-use Rattle.std.specs.Prelude.{◌≡◌, ◌↔◌, ℕ, ◌≤◌, ◌%◌, List, [], ◌∷◌, ◌++◌, length, take, drop, true, false}
-use Rattle.std.specs.Prelude.{Some, None, Ok, Err, ◌⊎◌}
+use Rattle.std.specs.Prelude.{◌≡◌, ◌↔◌, ℕ, ◌≤◌, ◌%◌, List, [], ◌∷◌, ◌++◌, length, take, drop, true, false, Some, None}
+use Rattle.std.specs.Prelude.{Ok, Err, ◌⊎◌}
 use Rattle.sfv_spec.proofs.Marks.{colon}
 use Rattle.sfv_spec.specs.Texts.{RunOf}
 use Rattle.sfv_spec.specs.Classes.{is_one_of}
@@ -8,7 +8,7 @@ use Rattle.sfv_spec.specs.Values.{RawField, BareValue}
 use Rattle.sfv_spec.specs.declared.field_kind.FieldKind.{FieldKind}
 use Rattle.sfv_spec.specs.declared.version.Version.{Version}
 use Rattle.sfv_spec.specs.Grammar.{IsBareText, IsFieldText, IsEnded}
-use Rattle.sfv_spec.specs.Events.{TreeEvent, events}
+use Rattle.sfv_spec.specs.Events.{events}
 use Rattle.sfv_spec.specs.Reach.{IsReach}
 use Rattle.sfv_spec.specs.Visiting.{BeginsEventsAfter}
 use Rattle.sfv_spec.specs.Base64.{IsBase64Text, symbols}

@@ -2,13 +2,10 @@
 use Rattle.std.specs.Prelude.{◌≡◌, ◌++◌, ℕ, zero, suc, ◌+◌, ◌-◌, ◌*◌, ◌/◌, ◌%◌, ◌==◌, List, [], ◌∷◌, length, drop, Bool}
 use Rattle.std.specs.Prelude.{not, ◌&&◌, if◌then◌else◌, Option, Some, None, Ok, Err, codes}
 use Rattle.std.specs.List.{list_any}
-use Rattle.sfv_spec.proofs.Marks.{digit_zero, digit_nine, colon, equals_sign, upper_a, upper_z}
-use Rattle.sfv_spec.proofs.Marks.{plus_sign}
-use Rattle.sfv_spec.proofs.Marks.{lower_a, lower_z}
+use Rattle.sfv_spec.proofs.Marks.{digit_zero, digit_nine, colon, equals_sign, upper_a, upper_z, plus_sign, lower_a}
+use Rattle.sfv_spec.proofs.Marks.{lower_z, is_between, is_symbol}
 use Rattle.sfv_spec.specs.Texts.{RunOf, Exactly, ◌⨾◌}
-use Rattle.sfv_spec.proofs.Marks.{is_between}
 use Rattle.sfv_spec.specs.Base64.{IsBase64Text}
-use Rattle.sfv_spec.proofs.Marks.{is_symbol}
 use Rattle.sfv_spec.specs.declared.error_kind.ErrorKind.TheVariants.{UnterminatedByteSequence, InvalidByteSequence}
 use Rattle.sfv_model.specs.Reader.{Fault, Answer, Reader, placed, by_rule}
 

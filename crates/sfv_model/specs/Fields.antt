@@ -1,7 +1,6 @@
 -- Readers of whole fields.
 use Rattle.std.specs.Prelude.{ℕ, true, List, [], ◌∷◌, Option, Some, None, Result, Ok, Err}
-use Rattle.sfv_spec.proofs.Marks.{comma}
-use Rattle.sfv_spec.proofs.Marks.{is_space, is_space_or_tab}
+use Rattle.sfv_spec.proofs.Marks.{comma, is_space, is_space_or_tab}
 use Rattle.sfv_spec.specs.Values.{RawField}
 use Rattle.sfv_spec.specs.declared.field_kind.FieldKind.{FieldKind}
 use Rattle.sfv_spec.specs.declared.field_kind.FieldKind.TheVariants.{Item as item_field, List as list_field}

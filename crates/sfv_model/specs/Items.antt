@@ -1,9 +1,7 @@
 -- Readers of keys, parameters and items.
 use Rattle.std.specs.Prelude.{ℕ, true, List, [], ◌∷◌, Option, Some, None}
-use Rattle.sfv_spec.proofs.Marks.{equals_sign}
-use Rattle.sfv_spec.proofs.Marks.{semicolon}
+use Rattle.sfv_spec.proofs.Marks.{equals_sign, semicolon, is_space}
 use Rattle.sfv_spec.specs.Classes.{is_key_start, is_key_inner}
-use Rattle.sfv_spec.proofs.Marks.{is_space}
 use Rattle.sfv_spec.specs.Values.{BareValue, boolean, RawParameters, RawItem}
 use Rattle.sfv_spec.specs.declared.version.Version.{Version}
 use Rattle.sfv_spec.specs.Events.{TreeEvent, bare_item, parameter}

@@ -1,13 +1,10 @@
 -- Readers of inner lists, and of members of lists and dictionaries.
 use Rattle.std.specs.Prelude.{ℕ, true, List, [], ◌∷◌, ◌++◌, flat_map, Option, Some, None}
-use Rattle.sfv_spec.proofs.Marks.{equals_sign}
-use Rattle.sfv_spec.proofs.Marks.{left_parenthesis, right_parenthesis}
-use Rattle.sfv_spec.proofs.Marks.{is_space}
+use Rattle.sfv_spec.proofs.Marks.{equals_sign, left_parenthesis, right_parenthesis, is_space, true_with}
 use Rattle.sfv_spec.specs.Values.{boolean, RawParameters, RawItem, RawMember, item, inner_list}
 use Rattle.sfv_spec.specs.declared.version.Version.{Version}
 use Rattle.sfv_spec.specs.Events.{TreeEvent, entry, keyed_entry, begins_item, begins_inner_list, bare_item}
 use Rattle.sfv_spec.specs.Events.{inner_list_end, inner_item_events}
-use Rattle.sfv_spec.proofs.Marks.{true_with}
 use Rattle.sfv_spec.specs.declared.error_kind.ErrorKind.TheVariants.{ExpectedInnerListDelimiter, UnterminatedInnerList}
 use Rattle.sfv_model.specs.Reader.{Reader, give, fail, ◌>>=◌, branch, ahead, led, one_and_more, span, byte, any}
 use Rattle.sfv_model.specs.Items.{key_at, parameters_at, item_at}

@@ -1,8 +1,7 @@
 -- The sources of a field's fault, and the places in it where a bare item or a key is parsed.
 use Rattle.std.specs.Prelude.{◌≡◌, ℕ, Bool, true, false, List, [], ◌++◌, drop, ◌⊎◌, ◌||◌, ◌==◌, not, IsTrue, Err, codes}
-use Rattle.sfv_spec.proofs.Marks.{left_parenthesis, right_parenthesis}
+use Rattle.sfv_spec.proofs.Marks.{left_parenthesis, right_parenthesis, is_space_or_tab}
 use Rattle.sfv_spec.specs.Texts.{begins_with}
-use Rattle.sfv_spec.proofs.Marks.{is_space_or_tab}
 use Rattle.sfv_spec.specs.declared.field_kind.FieldKind.{FieldKind}
 use Rattle.sfv_spec.specs.declared.version.Version.{Version}
 use Rattle.sfv_spec.specs.Grammar.{IsAccepted}

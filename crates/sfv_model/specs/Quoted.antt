@@ -4,14 +4,11 @@ use Rattle.std.specs.Prelude.{Ok, Err, IsFalse, IsUtf8, ◌==◌, if◌then◌el
 use Rattle.std.specs.List.{concat, AllZip}
 use Rattle.std.specs.Str.{is_utf8}
 use Rattle.std.specs.Str.Lossy.{utf8_valid_len}
-use Rattle.sfv_spec.proofs.Marks.{double_quote, percent_sign, backslash}
+use Rattle.sfv_spec.proofs.Marks.{double_quote, percent_sign, backslash, IsStringContent, IsDisplayContent}
 use Rattle.sfv_spec.specs.Texts.{RunOf, Exactly, ◌⨾◌}
 use Rattle.sfv_spec.specs.Classes.{is_string_byte, is_lower_hexadecimal}
-use Rattle.sfv_spec.specs.Strings.{is_escaped_in_string, IsStringPiece}
+use Rattle.sfv_spec.specs.Strings.{is_escaped_in_string, IsStringPiece, IsDisplayPiece}
 use Rattle.std.specs.Char.{digit_value as hexadecimal_value}
-use Rattle.sfv_spec.proofs.Marks.{IsStringContent}
-use Rattle.sfv_spec.specs.Strings.{IsDisplayPiece}
-use Rattle.sfv_spec.proofs.Marks.{IsDisplayContent}
 use Rattle.sfv_spec.specs.declared.error_kind.ErrorKind.{ErrorKind}
 use Rattle.sfv_spec.specs.declared.error_kind.ErrorKind.TheVariants.{InvalidStringCharacter, UnterminatedString}
 use Rattle.sfv_spec.specs.declared.error_kind.ErrorKind.TheVariants.{UnterminatedEscapeSequence, InvalidEscapeSequence}

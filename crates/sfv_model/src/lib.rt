@@ -2,8 +2,7 @@
 #![tactic(auto)]
 
 ghost use Rattle.sfv_model.specs.Claims.{ReadIsAccepted, EventsReach};
-ghost use Rattle.sfv_spec.specs.Statements.{FieldOrFault, FaultRejects, OneFault, RuledOrAtReach};
-ghost use Rattle.sfv_spec.specs.Statements.{JoinedLines};
+ghost use Rattle.sfv_spec.specs.Statements.{FieldOrFault, FaultRejects, OneFault, RuledOrAtReach, JoinedLines};
 
 /// The reader of a field accepts a text if and only if the grammar does, with the same value.
 pub fn read_is_accepted()

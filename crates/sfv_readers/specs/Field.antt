@@ -5,16 +5,13 @@ pub use Rattle.sfv.specs.Field.{display_string, RawParameters, RawItem, RawInner
 pub use Rattle.sfv.specs.Field.{RawField, IsFieldValue, HasMember, IsFieldText, IsAccepted}
 unfoldable pub use Rattle.sfv.specs.Field.{last_of}
 pub use Rattle.sfv.specs.Field.{ordered, ordered_member, IsParsedAs, IsValue, IsSerializedAs, canonical, Fits}
-pub use Rattle.sfv.specs.Field.{ErrorKind, IsFaultAt}
-pub use Rattle.sfv.specs.Field.{TreeEvent, entry, keyed_entry, begins_item, begins_inner_list, bare_item, parameter}
-pub use Rattle.sfv.specs.Field.{parameters_end, inner_list_end, parameters_events, member_events, entry_events}
-pub use Rattle.sfv.specs.Field.{keyed_events, events, integer_of, thousandths_of, seconds_of}
-pub use Rattle.sfv.specs.Field.{index_of, kind_of, out_of_memory, text_of}
-pub use Rattle.sfv.specs.Field.{bare_value, ref_value, input_value, read_text, plain_item}
-pub use Rattle.sfv.specs.Field.{item_tree, member_tree, list_tree, dictionary_tree, pairs_tree}
-pub use Rattle.sfv.specs.Field.{IsParseError, IsAnswerBy, IsSyntaxErrorBy, IsVisitorErrorBy}
-pub use Rattle.sfv.specs.Field.{item_of_calls, member_of_calls, described_list, described_dictionary}
-pub use Rattle.sfv.specs.Field.{AppendsOrKeeps, IsSerialized}
+pub use Rattle.sfv.specs.Field.{ErrorKind, IsFaultAt, TreeEvent, entry, keyed_entry, begins_item, begins_inner_list}
+pub use Rattle.sfv.specs.Field.{bare_item, parameter, parameters_end, inner_list_end, parameters_events, member_events}
+pub use Rattle.sfv.specs.Field.{entry_events, keyed_events, events, integer_of, thousandths_of, seconds_of, index_of}
+pub use Rattle.sfv.specs.Field.{kind_of, out_of_memory, text_of, bare_value, ref_value, input_value, read_text}
+pub use Rattle.sfv.specs.Field.{plain_item, item_tree, member_tree, list_tree, dictionary_tree, pairs_tree}
+pub use Rattle.sfv.specs.Field.{IsParseError, IsAnswerBy, IsSyntaxErrorBy, IsVisitorErrorBy, item_of_calls}
+pub use Rattle.sfv.specs.Field.{member_of_calls, described_list, described_dictionary, AppendsOrKeeps, IsSerialized}
 -- members and their parts
 pub use Rattle.sfv_readers.specs.Words.{Head, of_item, of_inner_list, member_of, head_of, parameters_of, raw_item, put}
 pub use Rattle.sfv_readers.specs.Words.{IsReadBy, ErrorNeedsMark, NeedsMarkUnless}

@@ -3,7 +3,8 @@ use Rattle.std.specs.Prelude.{◌≡◌, ⊤, ℕ, List, [], ◌∷◌, ◌++◌
 use Rattle.sfv_spec.specs.Values.{BareValue, RawItem, RawParameters, RawMember}
 use Rattle.sfv_spec.specs.Events.{TreeEvent, entry, keyed_entry, begins_item, begins_inner_list, bare_item, parameter}
 use Rattle.sfv_spec.specs.Events.{parameters_end, inner_list_end}
-use Rattle.sfv_readers.specs.Words.{Head, of_item, of_inner_list, member_of, head_of, parameters_of, raw_item, put, IsIgnored}
+use Rattle.sfv_readers.specs.Words.{Head, of_item, of_inner_list, member_of, head_of, parameters_of, raw_item, put}
+use Rattle.sfv_readers.specs.Words.{IsIgnored}
 use Rattle.sfv_readers.specs.declared.list.ListVisitor.{ListVisitor}
 use Rattle.sfv_readers.specs.declared.dictionary.DictionaryVisitor.{DictionaryVisitor}
 

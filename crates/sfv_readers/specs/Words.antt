@@ -1,9 +1,8 @@
 -- Definitions for readers: the head of a member, its parameters, and a pair that is put into a map.
 use Rattle.std.specs.Prelude.{◌≡◌, ℕ, List, [], ◌∷◌, ◌++◌, ◌⊎◌}
-use Rattle.sfv_spec.specs.Values.{RawField, BareValue, RawItem, RawParameters, RawMember, item}
+use Rattle.sfv_spec.specs.Values.{RawField, BareValue, RawItem, RawParameters, RawMember, item, inner_list}
 use Rattle.sfv_spec.specs.declared.field_kind.FieldKind.{FieldKind}
 use Rattle.sfv_spec.specs.declared.version.Version.{Version}
-use Rattle.sfv_spec.specs.Values.{inner_list}
 use Rattle.sfv_spec.specs.Ordered.{collapse}
 use Rattle.sfv_spec.specs.Statements.{IsParsedAs}
 use Rattle.sfv_base.specs.declared.error.Error.{Error}

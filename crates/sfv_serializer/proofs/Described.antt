@@ -1,6 +1,6 @@
 -- What the calls of a script describe, by their members and by their steps.
-use Rattle.std.proofs.Common.{◌≡◌, ℕ, ◌-◌, Bool, true, false, List, [], ◌∷◌, ◌++◌, length, map, take, drop, codes, refl, sym, ap, ◌∙◌}
-use Rattle.std.proofs.Common.{subst, arith}
+use Rattle.std.proofs.Common.{◌≡◌, ℕ, ◌-◌, Bool, true, false, List, [], ◌∷◌, ◌++◌, length, map, take, drop, codes, refl}
+use Rattle.std.proofs.Common.{sym, ap, ◌∙◌, subst, arith}
 use Rattle.std.specs.Prelude.{filter, if◌then◌else◌, flat_map, Result, Ok, Err, OnErr}
 use Rattle.std.specs.declared.string.String.{String}
 use Rattle.std.proofs.Math.Seq.{take-append_seam}
@@ -23,9 +23,9 @@ use Rattle.sfv_serializer.specs.declared.script.MemberCalls.{MemberCalls}
 use Rattle.sfv_serializer.specs.declared.script.MemberCalls.TheVariants as calls
 use Rattle.sfv_serializer.specs.Scripts.{item_of_calls, member_of_calls, entry_of_calls, is_written, described_list}
 use Rattle.sfv_serializer.specs.Scripts.{described_dictionary, LacksForListCall, LacksForEntryCall}
-use Rattle.sfv_serializer.specs.ScriptSteps.{supplied_member, member_calls, list_calls, dictionary_calls, list_described}
-use Rattle.sfv_serializer.specs.ScriptSteps.{dictionary_described, supplied_list, supplied_dictionary, added_text}
-use Rattle.sfv_serializer.specs.ScriptSteps.{added_text_of_pair, tried_list, tried_dictionary, LacksForTry}
+use Rattle.sfv_serializer.specs.ScriptSteps.{supplied_member, member_calls, list_calls, dictionary_calls}
+use Rattle.sfv_serializer.specs.ScriptSteps.{list_described, dictionary_described, supplied_list, supplied_dictionary}
+use Rattle.sfv_serializer.specs.ScriptSteps.{added_text, added_text_of_pair, tried_list, tried_dictionary, LacksForTry}
 use Rattle.sfv_serializer.proofs.Scripts.{named_inner}
 
 -- ---- examples: an item, an inner list that is abandoned or finished, and an item

@@ -4,3 +4,4 @@ pub mod Steps
 mod WhereFit
 mod Described
 pub mod Room
+mod Slices

@@ -1,6 +1,7 @@
 -- Room for the texts of calls, one after another.
-use Rattle.std.proofs.Common.{◌≡◌, ◌≤◌, ◌<◌, ◌+◌, ℕ, Bool, true, false, List, [], ◌∷◌, ◌++◌, length, get_or, map, take, drop, codes}
-use Rattle.std.proofs.Common.{refl, sym, ap, subst, ◌∙◌, arith, inl, inr, string_bytes, string_capacity, Result, Ok, Err}
+use Rattle.std.proofs.Common.{◌≡◌, ◌≤◌, ◌<◌, ◌+◌, ℕ, Bool, true, false, List, [], ◌∷◌, ◌++◌, length, get_or, map, take}
+use Rattle.std.proofs.Common.{drop, codes, refl, sym, ap, subst, ◌∙◌, arith, inl, inr, string_bytes, string_capacity}
+use Rattle.std.proofs.Common.{Result, Ok, Err}
 use Rattle.std.specs.Prelude.{Option, OnErr, filter_map, if◌then◌else◌}
 use Rattle.std.specs.declared.string.String.{String}
 use Rattle.std.proofs.Math.Seq.{drop-cons}

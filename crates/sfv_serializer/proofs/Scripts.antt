@@ -1,7 +1,6 @@
 -- Members are written call by call.
 use Rattle.std.proofs.Common.{◌≡◌, ◌≤◌, ℕ, ◌+◌, ◌<◌, Bool, true, false, List, [], ◌∷◌, ◌++◌, length, get_or, map, take}
-use Rattle.std.proofs.Common.{refl, sym, ap, subst, ◌∙◌, codes}
-use Rattle.std.proofs.Common.{append_assoc, arith, string_capacity}
+use Rattle.std.proofs.Common.{refl, sym, ap, subst, ◌∙◌, codes, append_assoc, arith, string_capacity}
 use Rattle.std.specs.Prelude.{Option, filter_map, Result, Ok, Err, OnOk, OnErr, string_bytes, string_len}
 use Rattle.std.specs.Borrow.{MutBor}
 use Rattle.std.specs.List.{AllByRecursion}
@@ -19,12 +18,13 @@ use Rattle.sfv_serializer.specs.declared.script.ItemCalls.{ItemCalls}
 use Rattle.sfv_serializer.specs.declared.script.ParamCall.{ParamCall}
 use Rattle.sfv_serializer.specs.declared.script.MemberCalls.{MemberCalls}
 use Rattle.sfv_serializer.specs.Scripts.{param_of_call, item_of_calls}
-use Rattle.sfv_serializer.specs.ScriptSteps.{inner_list_calls, member_calls, ended_text, WritesInner, WritesList, WritesDictionary}
+use Rattle.sfv_serializer.specs.ScriptSteps.{inner_list_calls, member_calls, ended_text, WritesInner, WritesList}
+use Rattle.sfv_serializer.specs.ScriptSteps.{WritesDictionary}
 use Rattle.sfv_serializer.specs.declared.sequence_kind.InnerListItems.{InnerListItems}
 use Rattle.sfv_serializer.specs.declared.sequence.SequenceSerializer.{SequenceSerializer}
 use Rattle.sfv_serializer.specs.declared.sink.Sink.{Ghosts as Sink}
-use Rattle.sfv_serializer.specs.Serializers.{HasAppended, KeepsSequence, GrowsSequence, Removes, lent_sequence, sequence_sink}
-use Rattle.sfv_serializer.specs.Serializers.{is_empty_so_far, length_before}
+use Rattle.sfv_serializer.specs.Serializers.{HasAppended, KeepsSequence, GrowsSequence, Removes, lent_sequence}
+use Rattle.sfv_serializer.specs.Serializers.{sequence_sink, is_empty_so_far, length_before}
 
 is_first_after-append : {A : Type 0} (b : Bool) (xs ys : List A)
     → is_first_after b (xs ++ ys) ≡ is_first_after (is_first_after b xs) ys

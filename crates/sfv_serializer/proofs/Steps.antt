@@ -1,6 +1,6 @@
 -- What is known after one more call: of the parameters that were written, and of a serializer.
-use Rattle.std.proofs.Common.{◌≡◌, ℕ, ◌+◌, ◌<◌, Bool, List, [], ◌++◌, length, get_or, map, take}
-use Rattle.std.proofs.Common.{sym, ap, subst, ◌∙◌, append_assoc}
+use Rattle.std.proofs.Common.{◌≡◌, ℕ, ◌+◌, ◌<◌, Bool, List, [], ◌++◌, length, get_or, map, take, sym, ap, subst, ◌∙◌}
+use Rattle.std.proofs.Common.{append_assoc}
 use Rattle.std.specs.Prelude.{IsTrue, string_bytes}
 use Rattle.std.proofs.lemmas.List.{append-nil}
 use Rattle.sfv_spec.specs.Classes.{is_key}

@@ -1,6 +1,6 @@
 -- Definitions of the private contracts of scripts: the calls of a member, and what they write.
-use Rattle.std.specs.Prelude.{◌++◌, [], ℕ, Bool, false, List, Option, Some, None, map, take, drop, codes, if◌then◌else◌, MatchBool}
-use Rattle.std.specs.Prelude.{option_map, filter_map}
+use Rattle.std.specs.Prelude.{◌++◌, [], ℕ, Bool, false, List, Option, Some, None, map, take, drop, codes, if◌then◌else◌}
+use Rattle.std.specs.Prelude.{MatchBool, option_map, filter_map}
 use Rattle.std.specs.declared.string.String.{String}
 use Rattle.sfv_spec.specs.Texts.{joined}
 use Rattle.sfv_spec.specs.declared.field_kind.FieldKind.{FieldKind}

@@ -3,12 +3,11 @@ use Rattle.std.specs.Prelude.{◌++◌, ◌-◌, [], ℕ, Bool, true, false, not
 use Rattle.std.specs.Prelude.{if◌then◌else◌}
 use Rattle.std.specs.declared.string.String.{String}
 use Rattle.sfv_spec.specs.Texts.{joined}
-use Rattle.sfv_spec.specs.Values.{BareValue, RawItem, RawMember, RawField, item, inner_list}
+use Rattle.sfv_spec.specs.Values.{BareValue, RawItem, RawMember, RawField, item, inner_list, Fits}
 use Rattle.sfv_spec.specs.declared.field_kind.FieldKind.{FieldKind}
 use Rattle.sfv_spec.specs.declared.field_kind.FieldKind.TheVariants.{List as list_field, Dictionary as dictionary_field}
 use Rattle.sfv_spec.specs.declared.version.Version.{Version}
 use Rattle.sfv_spec.specs.Canonical.{member_text, dictionary_member_text}
-use Rattle.sfv_spec.specs.Values.{Fits}
 use Rattle.sfv_values.specs.KeyText.{KeyRef}
 use Rattle.sfv_values.specs.CheckedTexts.{text_of}
 use Rattle.sfv_values.specs.BareItems.{ref_value}

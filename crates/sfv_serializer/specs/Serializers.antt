@@ -1,6 +1,6 @@
 -- The texts of serializers.
-use Rattle.std.specs.Prelude.{◌≡◌, ◌≤◌, ◌++◌, ℕ, Bool, true, false, List, [], codes, Option, Result}
-use Rattle.std.specs.Prelude.{string_bytes, string_len, string_capacity}
+use Rattle.std.specs.Prelude.{◌≡◌, ◌≤◌, ◌++◌, ℕ, Bool, true, false, List, [], codes, Option, Result, string_bytes}
+use Rattle.std.specs.Prelude.{string_len, string_capacity}
 use Rattle.std.specs.Borrow.{Bor, MutBor, RattleType, Fml, RestsIfErr}
 use Rattle.sfv_spec.specs.Canonical.{value_text}
 use Rattle.sfv_spec.specs.declared.version.Version.{Version}

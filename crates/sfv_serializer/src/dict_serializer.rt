@@ -8,10 +8,10 @@ ghost use Rattle.sfv_spec.specs.Values.{IsBareValue};
 ghost use Rattle.sfv_values.specs.BareItems.{ref_value};
 ghost use Rattle.sfv_values.specs.CheckedTexts.{text_of};
 ghost use Rattle.sfv_writer.specs.Versions.{OnOutOfMemory, ChecksVersionFirst, dictionary_members};
-ghost use Rattle.sfv_serializer.specs.Serializers.{KeepsSequence, KeepsAfterOne};
-ghost use Rattle.sfv_serializer.specs.Serializers.{sequence_version, params_sink, params_version};
-ghost use Rattle.sfv_serializer.specs.Serializers.{sequence_sink};
-ghost use Rattle.sfv_serializer.specs.Serializers.{WritesAll, FailsToWrite, AfterErrInner, AfterErr, HasAppendedItem, HasAppendedOpening, BeginsAfter, LacksNext, keyed};
+ghost use Rattle.sfv_serializer.specs.Serializers.{KeepsSequence, KeepsAfterOne, sequence_version, params_sink};
+ghost use Rattle.sfv_serializer.specs.Serializers.{params_version, sequence_sink, WritesAll, FailsToWrite};
+ghost use Rattle.sfv_serializer.specs.Serializers.{AfterErrInner, AfterErr, HasAppendedItem, HasAppendedOpening};
+ghost use Rattle.sfv_serializer.specs.Serializers.{BeginsAfter, LacksNext, keyed};
 ghost use Rattle.sfv_serializer.specs.contracts.sequence_kind.DictMembers.{the_row as dict_row};
 
 use crate::fragment::{KeyValue, KeyedInnerListStart};

@@ -1,13 +1,12 @@
-//! Fragments of a field that are appended completely or not at all.
-#![tactic(auto, using(sfv_writer::proofs::Written::cut_to))]
+//! The fragments of a field that serializers append.
 
-ghost use Rattle.std.specs.Prelude.{◌++◌, ⊤, ℕ, List, OnOk, IsTrue, codes};
+ghost use Rattle.std.specs.Prelude.{◌++◌, ⊤, IsTrue, codes};
 ghost use Rattle.sfv_spec.specs.Classes.{is_key, is_token};
 ghost use Rattle.sfv_spec.specs.Values.{IsBareValue};
 ghost use Rattle.sfv_spec.specs.Canonical.{bare_text};
 ghost use Rattle.sfv_values.specs.BareItems.{ref_value};
 ghost use Rattle.sfv_values.specs.CheckedTexts.{text_of};
-ghost use Rattle.sfv_writer.specs.Written.{AsksForRoom, Appends, AppendsOrKeeps, separator_before};
+ghost use Rattle.sfv_writer.specs.Written.{separator_before};
 ghost use Rattle.sfv_serializer.specs.Serializers.{keyed, param};
 
 use sfv_base::error::OutOfMemory;
@@ -15,43 +14,9 @@ use sfv_values::bare::RefBareItem;
 use sfv_values::key_ref::KeyRef;
 use sfv_values::token_ref::TokenRef;
 use sfv_writer::item::{serialize_bare_item, serialize_key, serialize_token, serialize_value};
-use sfv_writer::output::{serialize_separator, truncate_to};
+use sfv_writer::output::{Fragment, serialize_separator};
 use std::alloc::Allocator;
 use std::string::String as StdString;
-
-/// A fragment that is appended at once.
-// Everything that appends a fragment is inlined, from the serializer's call to the text, except the kinds of bare item
-// that `serialize_bare_item` calls. The fragment is then never built in memory, and a member takes 40 instructions
-// less.
-pub(crate) trait Fragment: Drop {
-    ghost text: { Self → List ℕ };
-
-    ghost is_valid: { Self → Type 0 };
-
-    /// Appends the fragment to `output`.
-    fn serialize<A: Allocator>(self, output: &mut StdString<A>) -> Result<(), OutOfMemory>
-        ensures text { Appends output.old output.new (text self) result }
-        ensures room { AsksForRoom output.old output.new (text self) result }
-        ensures valid { OnOk result (is_valid self) };
-}
-
-/// Appends a fragment. If memory runs out, `output` is unchanged.
-#[inline(always)]
-pub(crate) fn append<P: Fragment, A: Allocator>(
-    fragment: P,
-    output: &mut StdString<A>,
-) -> Result<(), OutOfMemory>
-    ensures text { AppendsOrKeeps output.old output.new (P.text fragment) result }
-    ensures room { AsksForRoom output.old output.new (P.text fragment) result }
-    ensures valid { OnOk result (P.is_valid fragment) }
-{
-    let len = output.len();
-    if let Err(error) = fragment.serialize(output) {
-        truncate_to(len, output);
-        return Err(error);
-    }
-    Ok(())
-}
 
 /// A fragment after a separator, except if it is the first.
 #[derive(Drop)]

@@ -8,14 +8,16 @@ ghost use Rattle.sfv_spec.specs.Canonical.{bare_text};
 ghost use Rattle.sfv_values.specs.BareItems.{ref_value};
 ghost use Rattle.sfv_writer.specs.Written.{LacksRoom};
 ghost use Rattle.sfv_writer.specs.Versions.{OnOutOfMemory, ChecksVersionFirst};
-ghost use Rattle.sfv_serializer.specs.Serializers.{TextAfterOneErr, ContinuesText, item_buffer, params_sink, item_version, params_version};
+ghost use Rattle.sfv_serializer.specs.Serializers.{TextAfterOneErr, ContinuesText, item_buffer, params_sink};
+ghost use Rattle.sfv_serializer.specs.Serializers.{item_version, params_version};
 
-use crate::fragment::{BareItemFragment, append};
+use crate::fragment::BareItemFragment;
 use crate::parameter_serializer::ParameterSerializer;
 use sfv_spec::version::Version;
 use sfv_values::bare::RefBareItem;
 use sfv_writer::capacity::prepare;
 use sfv_writer::invariants::bare_item_invariant;
+use sfv_writer::output::append;
 use sfv_writer::serialize_error::SerializeError;
 use sfv_writer::version_check::check_bare_item;
 use std::string::String as StdString;

@@ -4,9 +4,9 @@ ghost use Rattle.std.specs.Prelude.{◌≡◌, IfOk, IfErr, OnOk, OnErr, codes};
 ghost use Rattle.std.specs.Borrow.{sem};
 ghost use Rattle.std.specs.Iterator.{IsFinite};
 ghost use Rattle.sfv_writer.specs.Versions.{list_members};
-ghost use Rattle.sfv_serializer.specs.Serializers.{KeepsSequence};
-ghost use Rattle.sfv_serializer.specs.Serializers.{sequence_version, sequence_sink};
-ghost use Rattle.sfv_serializer.specs.Serializers.{WritesAll, FailsToWrite, AfterErrInner, HasAppendedOpening, BeginsAfter, LacksNext};
+ghost use Rattle.sfv_serializer.specs.Serializers.{KeepsSequence, sequence_version, sequence_sink, WritesAll};
+ghost use Rattle.sfv_serializer.specs.Serializers.{FailsToWrite, AfterErrInner, HasAppendedOpening, BeginsAfter};
+ghost use Rattle.sfv_serializer.specs.Serializers.{LacksNext};
 ghost use Rattle.sfv_serializer.specs.contracts.sequence_kind.ListMembers.{the_row as list_row};
 
 use crate::fragment::InnerListStart;

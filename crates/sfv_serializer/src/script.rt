@@ -1,31 +1,32 @@
 //! Lists of serializer calls, which are performed in order (RFC 9651, section 4.1).
 
-ghost use Rattle.std.specs.Prelude.{◌≡◌, ◌≤◌, ◌<◌, ◌↔◌, ◌∷◌, ◌++◌, [], ℕ, false, length, ⊤, IfOk, IfErr, OnOk, OnErr, IsTrue, MatchBool, map};
-ghost use Rattle.std.specs.Prelude.{codes, if◌then◌else◌, string_capacity};
+ghost use Rattle.std.specs.Prelude.{◌≡◌, ◌≤◌, ◌<◌, ◌↔◌, ◌∷◌, ◌++◌, [], ℕ, false, length, ⊤, IfOk, IfErr, OnOk, OnErr};
+ghost use Rattle.std.specs.Prelude.{IsTrue, MatchBool, map, codes, if◌then◌else◌, string_capacity};
 ghost use Rattle.std.specs.List.{AllByRecursion};
 ghost use Rattle.sfv_spec.specs.Classes.{is_key};
 ghost use Rattle.sfv_spec.specs.Texts.{joined};
-ghost use Rattle.sfv_spec.specs.Values.{item};
+ghost use Rattle.sfv_spec.specs.Values.{item, IsItem, AreParameters, IsFieldValue, HasMember, bare_values};
 ghost use Rattle.sfv_spec.specs.declared.field_kind.FieldKind.TheVariants.{Item as item_field, List as list_field};
 ghost use Rattle.sfv_spec.specs.declared.field_kind.FieldKind.TheVariants.{Dictionary as dictionary_field};
-ghost use Rattle.sfv_spec.specs.Values.{IsItem, AreParameters, IsFieldValue, HasMember};
 ghost use Rattle.sfv_spec.specs.declared.version.Version.TheVariants.{Rfc9651};
-ghost use Rattle.sfv_spec.specs.Values.{bare_values};
 ghost use Rattle.sfv_serializer.specs.Scripts.{param_of_call, item_of_calls, member_of_calls, entry_of_calls};
-ghost use Rattle.sfv_serializer.specs.Scripts.{described_list, described_dictionary, LacksForListCall, LacksForEntryCall, IsReadBackWhereFit};
-ghost use Rattle.sfv_serializer.specs.ScriptSteps.{described, member_calls, list_calls, dictionary_calls, list_described, dictionary_described};
-ghost use Rattle.sfv_serializer.specs.ScriptSteps.{tried_list, tried_dictionary, LacksForTry, added_text};
-ghost use Rattle.sfv_serializer.specs.ScriptSteps.{added_text_of_pair, ended_text, WritesInner, WritesList, WritesDictionary};
+ghost use Rattle.sfv_serializer.specs.Scripts.{described_list, described_dictionary, LacksForListCall};
+ghost use Rattle.sfv_serializer.specs.Scripts.{LacksForEntryCall, IsReadBackWhereFit};
+ghost use Rattle.sfv_serializer.specs.ScriptSteps.{described, member_calls, list_calls, dictionary_calls};
+ghost use Rattle.sfv_serializer.specs.ScriptSteps.{list_described, dictionary_described, tried_list, tried_dictionary};
+ghost use Rattle.sfv_serializer.specs.ScriptSteps.{LacksForTry, added_text, added_text_of_pair, ended_text};
+ghost use Rattle.sfv_serializer.specs.ScriptSteps.{WritesInner, WritesList, WritesDictionary};
 ghost use Rattle.sfv_spec.specs.Canonical.{canonical, item_text, dictionary_member_text};
 ghost use Rattle.sfv_values.specs.CheckedTexts.{text_of};
-ghost use Rattle.sfv_writer.specs.Written.{Appends, AppendsOrKeeps, AsksForRoom, LacksRoom, IsReadBack, separator_before, with_separators, is_first_after};
+ghost use Rattle.sfv_writer.specs.Written.{Appends, AppendsOrKeeps, AsksForRoom, LacksRoom, IsReadBack};
+ghost use Rattle.sfv_writer.specs.Written.{separator_before, with_separators, is_first_after};
 ghost use Rattle.sfv_writer.specs.Versions.{OnOutOfMemory, OnUnsupported, ChecksVersionFirst};
 ghost use Rattle.sfv_writer.specs.declared.serialize_error.SerializeError.TheVariants as errors;
-ghost use Rattle.sfv_serializer.specs.Serializers.{lent_sequence, HasAppended, HasAppendedNext, GrowsSequence, sequence_sink, is_empty_so_far};
-ghost use Rattle.sfv_serializer.specs.Serializers.{sequence_version, sequence_sink};
+ghost use Rattle.sfv_serializer.specs.Serializers.{lent_sequence, HasAppended, HasAppendedNext, GrowsSequence};
+ghost use Rattle.sfv_serializer.specs.Serializers.{sequence_sink, is_empty_so_far, sequence_version};
 
 use crate::dict_serializer::DictSerializer;
-use crate::fragment::{Fragment, InnerListStart, KeyedInnerListStart};
+use crate::fragment::{InnerListStart, KeyedInnerListStart};
 use crate::inner_list_serializer::InnerListSerializer;
 use crate::item_serializer::ItemSerializer;
 use crate::list_serializer::ListSerializer;
@@ -37,7 +38,7 @@ use sfv_base::error::OutOfMemory;
 use sfv_spec::version::Version;
 use sfv_values::bare::RefBareItem;
 use sfv_values::key_ref::KeyRef;
-use sfv_writer::output::truncate_to;
+use sfv_writer::output::{Fragment, truncate_to};
 use sfv_writer::serialize_error::{SerializeError, expect_out_of_memory};
 use std::string::String as StdString;
 

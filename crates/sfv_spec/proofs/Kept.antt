@@ -12,6 +12,7 @@ use Rattle.sfv_spec.specs.Values.{RawParameters, RawMember}
 use Rattle.sfv_spec.specs.declared.field_kind.FieldKind.TheVariants.{Dictionary as dictionary_field}
 use Rattle.sfv_spec.specs.Events.{TreeEvent, parameter, parameters_end, parameters_events, keyed_events, events}
 use Rattle.sfv_spec.specs.Ordered.{last_of}
+use Rattle.sfv_spec.proofs.Collapse.{or_none}
 use Rattle.sfv_spec.proofs.Runs.{IsInside}
 
 -- What is looked at is left alone by the pairs of other keys, and set by each pair of the key, wherever `holds` is true of
@@ -36,17 +37,13 @@ last_kept {A} {S} {X} holds step look key of other own ((k, v) ∷ pairs) s h = 
   | inr n ↦
       let here = other s k v h n in
       let rest = last_kept holds step look key of other own pairs (step s (k, v)) here.1 in
-      (rest.0 ∙ rw (n, here.0) (left (last_of key pairs)), rest.1)
+      (rest.0 ∙ rw (n, here.0, ← or_none (last_of key pairs)) refl, rest.1)
 ]
   where
     set : (o : Option A) → unwrap_or (option_map of o) (of v)
         ≡ unwrap_or (option_map of (option_or o (Some v))) (look s)
     set None = refl
     set (Some w) = refl
-
-    left : (o : Option A) → unwrap_or (option_map of o) (look s) ≡ unwrap_or (option_map of (option_or o None)) (look s)
-    left None = refl
-    left (Some w) = refl
 
 -- a dictionary's events are those of its members, one after the other
 pub fold_members : {S : Type 0} (step : S → TreeEvent → S) (raw : List (List ℕ × RawMember)) (s : S)

@@ -1,18 +1,18 @@
 -- The last pair of a key, for callers: in a text, in what was read of it, and split off.
-use Rattle.std.proofs.Common.{◌≡◌, ℕ, List, [], ◌∷◌, ◌++◌, map, refl, sym, ap, subst, ◌∙◌, Bool, true, false, cond, ◌||◌}
+use Rattle.std.proofs.Common.{◌≡◌, ℕ, List, [], ◌∷◌, ◌++◌, map, refl, ap, ◌∙◌, Bool, true, false, cond, ◌||◌, inl, inr}
 use Rattle.std.specs.Prelude.{bytes_eq, not, Option, Some, None, option_map}
 use Rattle.std.specs.Option.{option_or}
 use Rattle.std.specs.List.{list_any}
 use Rattle.std.specs.Map.{lookup}
 use Rattle.std.proofs.lemmas.Slice.Eq.{bytes_eq-Decides}
-use Rattle.std.proofs.lemmas.Bool.{and_parts, not-true}
+use Rattle.std.proofs.lemmas.Bool.{and_parts, not-true, cases_Bool}
 use Rattle.std.proofs.lemmas.Option.{same_Some}
 use Rattle.sfv_spec.specs.Values.{RawMember}
 use Rattle.sfv_spec.specs.declared.field_kind.FieldKind.TheVariants.{Dictionary as dictionary_field}
 use Rattle.sfv_spec.specs.Ordered.{last_of, collapse, ordered, ordered_member}
 use Rattle.sfv_spec.proofs.Repeats.{no_repeats}
 use Rattle.sfv_spec.proofs.Marks.{keys}
-use Rattle.sfv_spec.proofs.Collapse.{last_of-absent, last_of-collapse}
+use Rattle.sfv_spec.proofs.Collapse.{last_of-absent, last_of-collapse, or_none}
 
 -- the value of each pair by a function
 abbrev pub over : {A B : Type 0} → (A → B) → List (List ℕ × A) → List (List ℕ × B)
@@ -22,14 +22,13 @@ pub last_of-over : {A B : Type 0} (f : A → B) (key : List ℕ) (ps : List (Lis
     → last_of key (over f ps) ≡ option_map f (last_of key ps)
 unfolding last_of
 last_of-over f key [] = refl
-last_of-over {A} f key ((k, v) ∷ ps) = go (last_of key ps) (bytes_eq key k) (last_of-over f key ps)
+last_of-over {A} f key ((k, v) ∷ ps) = rw (last_of-over f key ps) (go (last_of key ps) (bytes_eq key k))
   where
-    go : (o : Option A) (b : Bool) → last_of key (over f ps) ≡ option_map f o
-        → option_or (last_of key (over f ps)) (cond b (Some (f v)) None)
+    go : (o : Option A) (b : Bool) → option_or (option_map f o) (cond b (Some (f v)) None)
         ≡ option_map f (option_or o (cond b (Some v) None))
-    go None true ih = rw ih refl
-    go None false ih = rw ih refl
-    go (Some x) b ih = rw ih refl
+    go None true = refl
+    go None false = refl
+    go (Some x) b = refl
 
 -- a dictionary that was read has under each key the last member of the text, its parameters ordered
 pub last_of-ordered : (key : List ℕ) (raw : List (List ℕ × RawMember))
@@ -42,14 +41,13 @@ pub none-last_of : {A : Type 0} (key : List ℕ) (ps : List (List ℕ × A)) →
     → list_any (bytes_eq key) (keys ps) ≡ false
 unfolding last_of
 none-last_of key [] h = refl
-none-last_of {A} key ((k, v) ∷ ps) h = go (none-last_of key ps) (bytes_eq key k) (last_of key ps) refl h
+none-last_of {A} key ((k, v) ∷ ps) h = go (last_of key ps) (bytes_eq key k) (none-last_of key ps) h
   where
-    go : (last_of key ps ≡ None → list_any (bytes_eq key) (keys ps) ≡ false) → (b : Bool) (o : Option A)
-        → last_of key ps ≡ o → option_or o (cond b (Some v) None) ≡ None
-        → (b || list_any (bytes_eq key) (keys ps)) ≡ false
-    go ih true None e h = absurd (cc)
-    go ih false None e h = ih e
-    go ih b (Some x) e h = absurd (cc)
+    go : (o : Option A) (b : Bool) → (o ≡ None → list_any (bytes_eq key) (keys ps) ≡ false)
+        → option_or o (cond b (Some v) None) ≡ None → (b || list_any (bytes_eq key) (keys ps)) ≡ false
+    go None false ih h = ih refl
+    go None true ih h = absurd (cc)
+    go (Some x) b ih h = absurd (cc)
 
 -- the pairs split at one of this key and value, and none after it has the key
 pub record IsLast {A : Type 0} (key : List ℕ) (v : A) (ps : List (List ℕ × A)) : Type 0 where
@@ -98,20 +96,11 @@ pub lookup-last_of : {A : Type 0} (key : List ℕ) (ps : List (List ℕ × A)) �
     → lookup (bytes_eq key) ps ≡ last_of key ps
 unfolding last_of
 lookup-last_of key [] h = refl
-lookup-last_of {A} key ((k, v) ∷ ps) h = go (lookup-last_of key ps parts.1) (bytes_eq key k) refl
-  where
-    parts : (not (list_any (bytes_eq k) (keys ps)) ≡ true) × (no_repeats (keys ps) ≡ true)
-    parts = and_parts (not (list_any (bytes_eq k) (keys ps))) (no_repeats (keys ps)) h
-
-    none : (o : Option A) → o ≡ option_or o None
-    none None = refl
-    none (Some x) = refl
-
-    go : lookup (bytes_eq key) ps ≡ last_of key ps → (b : Bool) → bytes_eq key k ≡ b
-        → cond b (Some v) (lookup (bytes_eq key) ps) ≡ option_or (last_of key ps) (cond b (Some v) None)
-    go ih true e = let absent : last_of k ps ≡ None =
-        last_of-absent k ps (not-true (list_any (bytes_eq k) (keys ps)) parts.0) in
-        let here : last_of key ps ≡ None =
-        subst (λ (x : List ℕ). last_of x ps ≡ None) (sym ((bytes_eq-Decides key k).0 e)) absent in
-        rw here refl
-    go ih false e = ih ∙ none (last_of key ps)
+lookup-last_of key ((k, v) ∷ ps) h =
+    let p = and_parts (not (list_any (bytes_eq k) (keys ps))) (no_repeats (keys ps)) h in
+    let absent = last_of-absent k ps (not-true (list_any (bytes_eq k) (keys ps)) p.0) in
+    let rest = lookup-last_of key ps p.1 in
+    elim (cases_Bool (bytes_eq key k)) [
+      | inl e ↦ let here = rw (← (bytes_eq-Decides key k).0 e) at absent in rw (e, here) refl
+      | inr e ↦ rw (e, rest) (or_none (last_of key ps))
+    ]

@@ -1,22 +1,23 @@
 -- The canonical text of a field is at most 8/5 as long as any text of it.
-use Rattle.std.proofs.Common.{◌≡◌, ℕ, zero, suc, ◌<◌, ◌≤◌, ◌+◌, ◌-◌, ◌*◌, ◌/◌, ◌%◌, ◌^◌, List, [], ◌∷◌, ◌++◌, length, map}
-use Rattle.std.proofs.Common.{refl, sym, ◌∙◌, ap, Bool, true, false, cond, inl, inr, arith, ℤ, pos, replicate}
-use Rattle.std.specs.Prelude.{not, ◌==◌, codes, flat_map, bytes_eq, filter, Option, Some, None, unwrap_or, decimal as decimal_digits}
-use Rattle.std.specs.Option.{option_or}
-use Rattle.std.specs.Char.{digit_char}
+use Rattle.std.proofs.Common.{◌≡◌, ℕ, zero, suc, ◌<◌, ◌≤◌, ◌+◌, ◌-◌, ◌*◌, ◌/◌, ◌%◌, ◌^◌, List, [], ◌∷◌, ◌++◌, length}
+use Rattle.std.proofs.Common.{map, refl, sym, ◌∙◌, ap, Bool, true, false, inl, inr, arith, ℤ, pos}
+use Rattle.std.specs.Prelude.{not, codes, flat_map, bytes_eq, filter, Option, Some, None, unwrap_or}
+use Rattle.std.specs.Prelude.{decimal as decimal_digits}
 use Rattle.std.specs.Fmt.{signed_decimal}
-use Rattle.std.proofs.lemmas.Bool.{eq-eqb, true≢false}
+use Rattle.std.proofs.lemmas.Bool.{true≢false}
+use Rattle.std.proofs.lemmas.Bool.Decides.{nat_tests}
 use Rattle.std.proofs.lemmas.Fmt.{length-decimal-le}
 use Rattle.std.proofs.lemmas.List.{length-append, length-map, length-replicate}
 use Rattle.std.proofs.lemmas.Slice.Eq.{bytes_eq-Decides}
 use Rattle.std.proofs.lemmas.Str.Parse.{digits_value_short}
-use Rattle.sfv_spec.specs.Ascii.{byte}
 use Rattle.sfv_spec.specs.Numbers.{AreDigits, place_value, signed, text_if, IsIntegerText, IsDecimalText}
 use Rattle.sfv_spec.specs.Canonical.{fraction_digits, decimal_text, string_piece, display_piece, bare_text, value_text, parameters_text, item_text, inner_list_text, member_text, dictionary_member_text, canonical}
-use Rattle.sfv_spec.specs.Base64.{IsBase64Text, base64_text, bits, symbol}
-use Rattle.sfv_spec.specs.Strings.{IsStringPiece, IsDisplayPiece, is_escaped_in_string, is_plain_in_display}
+use Rattle.sfv_spec.specs.Base64.{IsBase64Text, base64_text, bits}
+use Rattle.sfv_spec.specs.Strings.{IsStringPiece, IsDisplayPiece}
 use Rattle.sfv_spec.specs.Texts.{Exactly, ◌⨾◌, IsJoining, IsSeparated, joined}
-use Rattle.sfv_spec.specs.Values.{BareValue, integer, decimal, string, token, byte_sequence, boolean, date, display_string, RawParameters, RawItem, RawInnerList, RawMember, RawField, item, inner_list}
+use Rattle.sfv_spec.specs.Values.{BareValue, integer, decimal, string, token, byte_sequence, boolean, date}
+use Rattle.sfv_spec.specs.Values.{display_string, RawParameters, RawItem, RawInnerList, RawMember, RawField, item}
+use Rattle.sfv_spec.specs.Values.{inner_list}
 use Rattle.sfv_spec.specs.declared.version.Version.{Version}
 use Rattle.sfv_spec.specs.declared.field_kind.FieldKind.{FieldKind}
 use Rattle.sfv_spec.specs.declared.field_kind.FieldKind.TheVariants.{Item as item_field, List as list_field}
@@ -24,6 +25,9 @@ use Rattle.sfv_spec.specs.declared.field_kind.FieldKind.TheVariants.{Dictionary 
 use Rattle.sfv_spec.specs.Grammar.{IsBareText, IsValueText, IsKeyText, IsParameterText, IsParametersText, IsItemText, SomeSpaces, Comma, AreInnerItemsText, IsInnerListText, IsMemberText, IsMemberValueText, IsDictionaryMemberText, AreMembersText, IsFieldText}
 use Rattle.sfv_spec.specs.Ordered.{last_of, without, collapse, ordered_item, ordered_member, ordered}
 use Rattle.sfv_spec.proofs.Collapse.{last_of-collapse}
+use Rattle.sfv_spec.proofs.Last.{last_of-split}
+use Rattle.std.proofs.lemmas.Bool.{cond_both}
+use Rattle.std.proofs.lemmas.List.Elements.{filter-append}
 use Rattle.sfv_spec.proofs.Settled.{joining-cons}
 use Rattle.sfv_spec.proofs.Written.{numerals, not_negative}
 use Rattle.sfv_spec.proofs.Valid.{fraction_below}
@@ -49,7 +53,7 @@ integer_len z t h =
     let d = digits_len h.digits h.counted in
     let s = signed_len h.negative (place_value h.digits) in
     let l : length t ≡ length (text_if h.negative (codes "-")) + length h.digits =
-    ap (length {A = ℕ}) h.text ∙ length-append (text_if h.negative (codes "-")) h.digits in
+    ap (length {A = ℕ}) h.text ∙ length-append _ h.digits in
     let k : length (signed_decimal z) ≤ length t = rw h.value (omega (arith, d, s, l)) in
     (k, omega (arith, h.counted.0, l))
 
@@ -62,12 +66,7 @@ length-bits (suc k) n = ap suc (length-bits k n)
 
 pub length-all_bits : (k : ℕ) (ns : List ℕ) → length (flat_map (bits k) ns) ≡ k * length ns
 length-all_bits k [] = omega arith
-length-all_bits k (n ∷ ns) = omega (
-  arith,
-  length-append (bits k n) (flat_map (bits k) ns),
-  length-bits k n,
-  length-all_bits k ns,
-)
+length-all_bits k (n ∷ ns) = omega (arith, length-append {A = Bool}, length-bits k n, length-all_bits k ns)
 
 -- how long a text in Base64 is
 pub text_len : (bytes : List ℕ) → length (base64_text bytes) ≡ (length bytes + 2) / 3 * 4
@@ -80,12 +79,9 @@ text_len (a ∷ b ∷ c ∷ rest) = omega (arith, text_len rest)
 base64_len : (bytes t : List ℕ) → IsBase64Text bytes t → 5 * length (base64_text bytes) ≤ 8 * length t + 4
 base64_len bytes t h =
     let total : 6 * length h.values ≡ 8 * length bytes + length h.spare =
-    sym (length-all_bits 6 h.values) ∙ ap (length {A = Bool}) h.same_bits
-    ∙ length-append (flat_map (bits 8) bytes) h.spare ∙ ap (λ n. n + length h.spare) (length-all_bits 8 bytes) in
+    sym (length-all_bits 6 h.values) ∙ ap (length {A = Bool}) h.same_bits ∙ simp (length-append, length-all_bits) in
     let l : length t ≡ length h.values + h.padding =
-    ap (length {A = ℕ}) h.text ∙ length-append (map symbol h.values) (replicate h.padding (byte "="))
-    ∙ ap (λ n. n + length (replicate h.padding (byte "="))) (length-map h.values symbol)
-    ∙ ap (λ n. length h.values + n) (length-replicate h.padding (byte "=")) in
+    ap (length {A = ℕ}) h.text ∙ simp (length-append, length-map, length-replicate) in
     rw (text_len bytes) (omega (arith, total, l))
 
 -- ---- texts in pieces
@@ -99,77 +95,33 @@ joining_len : {A : Type 0} {P : A → List ℕ → Type 0} (f : A → List ℕ)
 joining_len f each [] t h = omega arith
 joining_len f each (x ∷ xs) t h =
     let j = joining-cons h in
-    omega (
-      arith,
-      each x j.front j.first,
-      joining_len f each xs j.back j.second,
-      parts_len j,
-      length-append (f x) (flat_map f xs),
-    )
+    let rest = joining_len f each xs j.back j.second in
+    omega (arith, each x j.front j.first, rest, parts_len j, length-append {A = ℕ})
 
 string_piece_len : (c : ℕ) (t : List ℕ) → IsStringPiece c t → length (string_piece c) ≤ length t
-string_piece_len c t h = go (is_escaped_in_string c) refl h
-  where
-    go : (b : Bool) → is_escaped_in_string c ≡ b → IsStringPiece c t → length (cond b (92 ∷ c ∷ []) (c ∷ [])) ≤ length t
-    go true e (inl k) = absurd (grind (arith, e, k.0))
-    go true e (inr k) = rw k.1 (omega arith)
-    go false e (inl k) = rw k.1 (omega arith)
-    go false e (inr k) = rw k.1 (omega arith)
+string_piece_len c t (inl k) = rw k.1 (grind (arith, k.0))
+string_piece_len c t (inr k) = rw k.1 (grind (arith, k.0))
 
 display_piece_len : (c : ℕ) (t : List ℕ) → IsDisplayPiece c t → length (display_piece c) ≤ length t
-display_piece_len c t h = go (is_plain_in_display c) refl h
-  where
-    go : (b : Bool) → is_plain_in_display c ≡ b → IsDisplayPiece c t
-        → length (cond b (c ∷ []) (byte "%" ∷ digit_char (c / 16) ∷ digit_char (c % 16) ∷ [])) ≤ length t
-    go true e (inl k) = rw k.1 (omega arith)
-    go true e (inr k) = rw k.4 (omega arith)
-    go false e (inl k) = absurd (grind (arith, e, k.0))
-    go false e (inr k) = rw k.4 (omega arith)
+display_piece_len c t (inl k) = rw (k.1, k.0) (omega arith)
+display_piece_len c t (inr k) = rw k.4 (grind (arith, nat_tests))
 
 -- a fraction has at most three digits, fewer if the last are zero
-fraction_any : (f : ℕ) → length (fraction_digits f) ≤ 3
-fraction_any f = go (f % 100 == 0) (f % 10 == 0)
-  where
-    go : (b c : Bool) → length (cond b ((byte "0" + f / 100) ∷ []) (cond c ((byte "0" + f / 100) ∷ (byte "0" + f / 10 % 10) ∷ [])
-        ((byte "0" + f / 100) ∷ (byte "0" + f / 10 % 10) ∷ (byte "0" + f % 10) ∷ []))) ≤ 3
-    go true c = omega arith
-    go false true = omega arith
-    go false false = omega arith
-
-fraction_tens : (f : ℕ) → f % 10 ≡ 0 → length (fraction_digits f) ≤ 2
-fraction_tens f e = rw (eq-eqb (f % 10) 0 e) (go (f % 100 == 0))
-  where
-    go : (b : Bool) → length (cond b ((byte "0" + f / 100) ∷ []) ((byte "0" + f / 100) ∷ (byte "0" + f / 10 % 10) ∷ [])) ≤ 2
-    go true = omega arith
-    go false = omega arith
-
-fraction_hundreds : (f : ℕ) → f % 100 ≡ 0 → length (fraction_digits f) ≤ 1
-fraction_hundreds f e = rw (eq-eqb (f % 100) 0 e) (omega arith)
-
 fraction_len : (ds : List ℕ) → AreDigits 1 3 ds
     → length (fraction_digits (place_value ds * 10 ^ (3 - length ds))) ≤ length ds
 fraction_len [] h = absurd (omega (arith, h.0))
-fraction_len (a ∷ []) h = fraction_hundreds (place_value (a ∷ []) * 100) (omega arith)
-fraction_len (a ∷ b ∷ []) h = fraction_tens (place_value (a ∷ b ∷ []) * 10) (omega arith)
-fraction_len (a ∷ b ∷ c ∷ ds) h = let k = fraction_any (place_value (a ∷ b ∷ c ∷ ds) * 10 ^ (3 - length (a ∷ b ∷ c ∷ ds))) in
-    omega (arith, k)
+fraction_len (a ∷ []) h = grind (arith, nat_tests)
+fraction_len (a ∷ b ∷ []) h = grind (arith, nat_tests)
+fraction_len (a ∷ b ∷ c ∷ ds) h = grind (arith, nat_tests)
 
 positive_len : (n : ℕ) → length (decimal_text (pos n))
     ≤ length (decimal_digits (n / 1000)) + 1 + length (fraction_digits (n % 1000))
-positive_len n =
-    let whole = decimal_digits (n / 1000) in
-    let l2 = length-append (whole ++ codes ".") (fraction_digits (n % 1000)) in
-    let l1 = length-append whole (codes ".") in
-    rw (not_negative n) (omega (arith, l1, l2))
+positive_len n = rw (not_negative n) (omega (arith, length-append {A = ℕ}))
 
 thousandths_len : (b : Bool) (n : ℕ) → length (decimal_text (signed b n))
     ≤ length (text_if b (codes "-")) + length (decimal_digits (n / 1000)) + 1 + length (fraction_digits (n % 1000))
 thousandths_len true zero = omega (arith, positive_len 0)
-thousandths_len true (suc n) =
-    let whole = decimal_digits (suc n / 1000) in
-    let l2 = length-append (codes "-" ++ whole ++ codes ".") (fraction_digits (suc n % 1000)) in
-    let l1 = length-append (codes "-" ++ whole) (codes ".") in
-    omega (arith, l1, l2)
+thousandths_len true (suc n) = simp length-append (omega arith)
 thousandths_len false n = omega (arith, positive_len n)
 
 decimal_len : (z : ℤ) (t : List ℕ) → IsDecimalText z t → (length (decimal_text z) ≤ length t) × (0 < length t)
@@ -184,22 +136,19 @@ decimal_len z t h =
     let s = thousandths_len h.negative n in
     let m : length (decimal_text (signed h.negative n)) ≤ length (text_if h.negative (codes "-"))
     + length (decimal_digits (place_value h.whole)) + 1 + length (fraction_digits f) = rw (w, r) at s in
-    let sign = text_if h.negative (codes "-") in
-    let l = ap (length {A = ℕ}) h.text in
-    let l3 = length-append (sign ++ h.whole ++ codes ".") h.fraction in
-    let l2 = length-append (sign ++ h.whole) (codes ".") in
-    let l1 = length-append sign h.whole in
-    let k : length (decimal_text z) ≤ length t = rw h.value (omega (arith, d, g, m, l, l1, l2, l3)) in
-    (k, omega (arith, l, l3, l2))
+    let l = simp length-append at (ap (length {A = ℕ}) h.text) in
+    let k : length (decimal_text z) ≤ length t = rw h.value (omega (arith, d, g, m, l)) in
+    (k, omega (arith, l))
 
 -- ---- bare items
 
-quoted_len : (mark : List ℕ) {P : List ℕ → Type 0} (t : List ℕ)
-    (h : (Exactly mark ⨾ P ⨾ Exactly (codes "\"")) t) → length t ≡ length mark + length h.second.front + 1
+one_len : (mark : List ℕ) {t : List ℕ} → Exactly mark t → length t ≡ length mark
+one_len mark h = ap (length {A = ℕ}) h
+
+quoted_len : (mark : List ℕ) {end : ℕ} {P : List ℕ → Type 0} (t : List ℕ)
+    (h : (Exactly mark ⨾ P ⨾ Exactly (end ∷ [])) t) → length t ≡ length mark + length h.second.front + 1
 quoted_len mark t h =
-    let a : length h.front ≡ length mark = ap (length {A = ℕ}) h.first in
-    let b : length h.second.back ≡ 1 = ap (length {A = ℕ}) h.second.second in
-    omega (arith, parts_len h, parts_len h.second, a, b)
+    omega (arith, parts_len h, parts_len h.second, one_len mark h.first, one_len (_ ∷ []) h.second.second)
 
 bare_len : (version : Version) (b : BareValue) (t : List ℕ) → IsBareText version b t
     → 5 * length (bare_text b) + 2 ≤ 8 * length t
@@ -207,46 +156,25 @@ bare_len version (integer z) t h = let l = integer_len z t h in omega (arith, l.
 bare_len version (decimal z) t h = let l = decimal_len z t h in omega (arith, l.0, l.1)
 bare_len version (string s) t h =
     let k = joining_len string_piece (λ c u p. omega (arith, string_piece_len c u p)) s h.second.front h.second.first in
-    omega (arith, k, quoted_len (codes "\"") t h, length-append (flat_map string_piece s) (codes "\""))
+    simp length-append (omega (arith, k, quoted_len (codes "\"") t h))
 bare_len version (token []) t h = absurd (true≢false (sym h.0))
 bare_len version (token (c ∷ cs)) t h = rw h.1 (omega arith)
 bare_len version (byte_sequence s) t h =
-    let a : length h.front ≡ 1 = ap (length {A = ℕ}) h.first in
-    let b : length h.second.back ≡ 1 = ap (length {A = ℕ}) h.second.second in
-    omega (
-      arith,
-      base64_len s h.second.front h.second.first,
-      parts_len h,
-      parts_len h.second,
-      a,
-      b,
-      length-append (base64_text s) (codes ":"),
-    )
+    simp length-append (omega (arith, base64_len s h.second.front h.second.first, quoted_len (codes ":") t h))
 bare_len version (boolean true) t h = rw h (omega arith)
 bare_len version (boolean false) t h = rw h (omega arith)
 bare_len version (date z) t h =
     let l = integer_len z h.1.back h.1.second in
-    let a : length h.1.front ≡ 1 = ap (length {A = ℕ}) h.1.first in
-    omega (arith, l.0, l.1, parts_len h.1, a)
+    omega (arith, l.0, l.1, parts_len h.1, one_len (codes "@") h.1.first)
 bare_len version (display_string s) t h =
     let k = joining_len display_piece (λ c u p. omega (arith, display_piece_len c u p)) s h.1.second.front h.1.second.first.0 in
-    omega (arith, k, quoted_len (codes "%\"") t h.1, length-append (flat_map display_piece s) (codes "\""))
+    simp length-append (omega (arith, k, quoted_len (codes "%\"") t h.1))
 
 -- ---- parameters, items and members
 
 value_short : (b : BareValue) → length (value_text b) ≤ 1 + length (bare_text b)
 value_short (boolean true) = omega arith
-value_short (boolean false) = omega arith
-value_short (integer z) = omega arith
-value_short (decimal z) = omega arith
-value_short (string s) = omega arith
-value_short (token s) = omega arith
-value_short (byte_sequence s) = omega arith
-value_short (date z) = omega arith
-value_short (display_string s) = omega arith
-
-one_len : (mark : List ℕ) {t : List ℕ} → Exactly mark t → length t ≡ length mark
-one_len mark h = ap (length {A = ℕ}) h
+value_short b = omega arith
 
 value_len : (version : Version) (b : BareValue) (t : List ℕ) → IsValueText version b t
     → 5 * length (value_text b) ≤ 8 * length t
@@ -261,7 +189,7 @@ value_len version b t (inr h) = omega (
 
 parameter_len : (version : Version) (p : List ℕ × BareValue) (t : List ℕ) → IsParameterText version p t
     → 5 * length (codes ";" ++ p.0 ++ value_text p.1) ≤ 8 * length t
-parameter_len version p t h = omega (
+parameter_len version p t h = simp length-append (omega (
   arith,
   parts_len h,
   one_len (codes ";") h.first,
@@ -269,8 +197,7 @@ parameter_len version p t h = omega (
   parts_len h.second.second,
   one_len p.0 h.second.second.first.1,
   value_len version p.1 h.second.second.back h.second.second.second,
-  length-append (codes ";" ++ p.0) (value_text p.1),
-)
+))
 
 parameters_len : (version : Version) (ps : RawParameters) (t : List ℕ) → IsParametersText version ps t
     → 5 * length (parameters_text ps) ≤ 8 * length t
@@ -283,20 +210,13 @@ item_len version i t h = omega (
   bare_len version i.bare h.front h.first,
   parameters_len version i.parameters h.back h.second,
   parts_len h,
-  length-append (bare_text i.bare) (parameters_text i.parameters),
+  length-append {A = ℕ},
 )
 
 joined_len : {A : Type 0} (separator : List ℕ) (f : A → List ℕ) (x : A) (xs : List A)
     → length (joined separator (map f (x ∷ xs))) ≡ length (f x) + length (flat_map (λ y. separator ++ f y) xs)
 joined_len separator f x [] = omega arith
-joined_len separator f x (y ∷ ys) = omega (
-  arith,
-  length-append (f x ++ separator) (joined separator (map f (y ∷ ys))),
-  length-append (f x) separator,
-  joined_len separator f y ys,
-  length-append (separator ++ f y) (flat_map (λ z. separator ++ f z) ys),
-  length-append separator (f y),
-)
+joined_len separator f x (y ∷ ys) = omega (arith, joined_len separator f y ys, length-append {A = ℕ})
 
 separated_len : {A : Type 0} {S : List ℕ → Type 0} {P : A → List ℕ → Type 0} (separator : List ℕ) (f : A → List ℕ)
     → length separator ≤ 2 → ((u : List ℕ) → S u → 1 ≤ length u)
@@ -312,7 +232,7 @@ separated_len separator f short some each x xs t h = omega (
     some k.front k.first,
     each y k.back k.second,
     parts_len k,
-    length-append separator (f y),
+    length-append {A = ℕ},
   )) xs h.back h.second,
   parts_len h,
 )
@@ -336,8 +256,7 @@ inner_list_len : (version : Version) (l : RawInnerList) (t : List ℕ) → IsInn
     → 5 * length (inner_list_text l) + 2 ≤ 8 * length t
 inner_list_len version l t h =
     let k = h.second.second in
-    let items = joined (codes " ") (map item_text l.items) in
-    omega (
+    simp length-append (omega (
       arith,
       parts_len h,
       one_len (codes "(") h.first,
@@ -347,9 +266,7 @@ inner_list_len version l t h =
       parts_len k.second,
       one_len (codes ")") k.second.first,
       parameters_len version l.parameters k.second.back k.second.second,
-      length-append (codes "(" ++ items ++ codes ")") (parameters_text l.parameters),
-      length-append (codes "(" ++ items) (codes ")"),
-    )
+    ))
 
 member_len : (version : Version) (m : RawMember) (t : List ℕ) → IsMemberText version m t
     → 5 * length (member_text m) + 2 ≤ 8 * length t
@@ -363,18 +280,8 @@ key_len (c ∷ cs) t h = (one_len (c ∷ cs) h.1, omega arith)
 -- after a key, the text of a member begins with at most one byte more
 entry_short : (key : List ℕ) (m : RawMember)
     → length (dictionary_member_text (key, m)) ≤ length key + 1 + length (member_text m)
-entry_short key (item i) = omega (
-  arith,
-  value_short i.bare,
-  length-append (key ++ value_text i.bare) (parameters_text i.parameters),
-  length-append key (value_text i.bare),
-  length-append (bare_text i.bare) (parameters_text i.parameters),
-)
-entry_short key (inner_list l) = omega (
-  arith,
-  length-append (key ++ codes "=") (inner_list_text l),
-  length-append key (codes "="),
-)
+entry_short key (item i) = simp length-append (omega (arith, value_short i.bare))
+entry_short key (inner_list l) = simp length-append (omega arith)
 
 entry_len : (version : Version) (m : List ℕ × RawMember) (t : List ℕ) → IsDictionaryMemberText version m t
     → 5 * length (dictionary_member_text m) + 2 ≤ 8 * length t
@@ -392,15 +299,8 @@ entry_len version m t h = go m.1 h.back h.second (parts_len h) (key_len m.0 h.fr
       l,
       key.0,
     )
-    go x u (inr k) l key = rw k.1 (omega (
-      arith,
-      parameters_len version k.0 u k.2,
-      length-append (m.0 ++ value_text (boolean true)) (parameters_text k.0),
-      length-append m.0 (value_text (boolean true)),
-      l,
-      key.0,
-      key.1,
-    ))
+    go x u (inr k) l key =
+        rw k.1 (omega (arith, parameters_len version k.0 u k.2, l, key.0, key.1, length-append {A = ℕ}))
 
 members_len : {A : Type 0} {P : A → List ℕ → Type 0} (f : A → List ℕ)
     → ((x : A) (t : List ℕ) → P x t → 5 * length (f x) + 2 ≤ 8 * length t) → (xs : List A) (t : List ℕ)
@@ -428,42 +328,31 @@ total w (x ∷ xs) = w x + total w xs
 
 flat_len : {A : Type 0} (f : A → List ℕ) (xs : List A) → length (flat_map f xs) ≡ total (λ x. length (f x)) xs
 flat_len f [] = refl
-flat_len f (x ∷ xs) = omega (arith, flat_len f xs, length-append (f x) (flat_map f xs))
+flat_len f (x ∷ xs) = omega (arith, flat_len f xs, length-append {A = ℕ})
+
+-- the total of two lists in a row is the sum of both
+total-append : {A : Type 0} (w : A → ℕ) (xs ys : List A) → total w (xs ++ ys) ≡ total w xs + total w ys
+total-append w [] ys = omega arith
+total-append w (x ∷ xs) ys = omega (arith, total-append w xs ys)
 
 filter_len : {A : Type 0} (w : A → ℕ) (test : A → Bool) (xs : List A) → total w (filter test xs) ≤ total w xs
 filter_len w test [] = omega arith
-filter_len {A} w test (x ∷ xs) = go (test x) (filter_len w test xs)
-  where
-    go : (b : Bool) → total w (filter test xs) ≤ total w xs
-        → total w (cond b (x ∷ filter test xs) (filter test xs)) ≤ w x + total w xs
-    go true h = omega (arith, h)
-    go false h = omega (arith, h)
+filter_len w test (x ∷ xs) =
+    let rest = filter_len w test xs in
+    cond_both (test x) (x ∷ filter test xs) (filter test xs) (λ ys. total w ys ≤ w x + total w xs) (λ _. omega arith)
+    (λ _. omega arith)
 
 -- the last pair of a key, and the pairs of other keys
 present_len : {A : Type 0} (w : List ℕ × A → ℕ) (k : List ℕ) (v : A) (es : List (List ℕ × A)) → last_of k es ≡ Some v
     → w (k, v) + total w (without k es) ≤ total w es
-unfolding last_of
-present_len w k v [] h = absurd (cc)
-present_len {A} w k v ((j, u) ∷ es) h = go (present_len w k v es) (last_of k es) refl (bytes_eq k j) refl h
-  where
-    go : (last_of k es ≡ Some v → w (k, v) + total w (without k es) ≤ total w es) → (o : Option A) → last_of k es ≡ o
-        → (b : Bool) → bytes_eq k j ≡ b
-        → option_or o (cond b (Some u) None) ≡ Some v
-        → w (k, v) + total w (without k ((j, u) ∷ es)) ≤ total w ((j, u) ∷ es)
-    go rest (Some x) e true f g =
-        let y : x ≡ v = cc in
-        let i = rest (e ∙ ap Some y) in
-        simp f (omega (arith, i))
-    go rest (Some x) e false f g =
-        let y : x ≡ v = cc in
-        let i = rest (e ∙ ap Some y) in
-        simp f (omega (arith, i))
-    go rest None e true f g =
-        let y : u ≡ v = cc in
-        let i = filter_len w (λ p. not (bytes_eq k p.0)) es in
-        let z : w (k, v) ≡ w (j, u) = cc (sym ((bytes_eq-Decides k j).0 f), sym y) in
-        simp f (omega (arith, i, z))
-    go rest None e false f g = absurd (cc)
+present_len w k v es h =
+    let l = last_of-split k v es h in
+    let here = (bytes_eq-Decides k k).1 refl in
+    rw l.split (simp (filter-append, total-append, here) (omega (
+      arith,
+      filter_len w (λ p. not (bytes_eq k p.0)) l.before,
+      filter_len w (λ p. not (bytes_eq k p.0)) l.after,
+    )))
 
 collapse_len : {A : Type 0} (w : List ℕ × A → ℕ) (ps : List (List ℕ × A)) → total w (collapse ps) ≤ total w ps
 unfolding collapse
@@ -481,12 +370,7 @@ ordered_parameters_len ps =
     omega (arith, flat_len f ps, flat_len f (collapse ps), collapse_len (λ p. length (f p)) ps)
 
 ordered_item_len : (i : RawItem) → length (item_text (ordered_item i)) ≤ length (item_text i)
-ordered_item_len i = omega (
-  arith,
-  ordered_parameters_len i.parameters,
-  length-append (bare_text i.bare) (parameters_text i.parameters),
-  length-append (bare_text i.bare) (parameters_text (collapse i.parameters)),
-)
+ordered_item_len i = omega (arith, ordered_parameters_len i.parameters, length-append {A = ℕ})
 
 map_len : {A : Type 0} (w : A → ℕ) (g : A → A) → ((x : A) → w (g x) ≤ w x) → (xs : List A)
     → total w (map g xs) ≤ total w xs
@@ -497,21 +381,21 @@ within_len : {A : Type 0} (separator : List ℕ) (f : A → List ℕ) → 1 ≤ 
     → total (λ x. length (separator ++ f x)) ys ≤ total (λ x. length (separator ++ f x)) xs
     → length (joined separator (map f ys)) ≤ length (joined separator (map f xs))
 within_len separator f some [] xs h = omega arith
-within_len separator f some (y ∷ ys) [] h = absurd (omega (arith, some, h, length-append separator (f y)))
-within_len separator f some (y ∷ ys) (x ∷ xs) h = omega (
-  arith,
-  h,
-  joined_len separator f y ys,
-  joined_len separator f x xs,
-  flat_len (λ z. separator ++ f z) ys,
-  flat_len (λ z. separator ++ f z) xs,
-  length-append separator (f y),
-  length-append separator (f x),
-)
+within_len separator f some (y ∷ ys) [] h = absurd (omega (arith, length-append separator (f y)))
+within_len separator f some (y ∷ ys) (x ∷ xs) h =
+    let g : _ → List ℕ = λ z. separator ++ f z in
+    omega (
+      arith,
+      joined_len separator f y ys,
+      joined_len separator f x xs,
+      flat_len g ys,
+      flat_len g xs,
+      length-append {A = ℕ},
+    )
 
 longer : {A : Type 0} (separator : List ℕ) (f : A → List ℕ) (x y : A) → length (f x) ≤ length (f y)
     → length (separator ++ f x) ≤ length (separator ++ f y)
-longer separator f x y h = omega (arith, h, length-append separator (f x), length-append separator (f y))
+longer separator f x y h = omega (arith, length-append {A = ℕ})
 
 mapped_len : {A : Type 0} (separator : List ℕ) (f : A → List ℕ) (g : A → A) → 1 ≤ length separator
     → ((x : A) → length (f (g x)) ≤ length (f x)) → (xs : List A)
@@ -522,17 +406,8 @@ mapped_len separator f g some each xs = within_len separator f some (map g xs) x
 ordered_inner_list_len : (l : RawInnerList) → length (member_text (ordered_member (inner_list l)))
     ≤ length (member_text (inner_list l))
 ordered_inner_list_len l =
-    let old = joined (codes " ") (map item_text l.items) in
-    let new = joined (codes " ") (map item_text (map ordered_item l.items)) in
-    omega (
-      arith,
-      mapped_len (codes " ") item_text ordered_item (omega arith) ordered_item_len l.items,
-      ordered_parameters_len l.parameters,
-      length-append (codes "(" ++ old ++ codes ")") (parameters_text l.parameters),
-      length-append (codes "(" ++ old) (codes ")"),
-      length-append (codes "(" ++ new ++ codes ")") (parameters_text (collapse l.parameters)),
-      length-append (codes "(" ++ new) (codes ")"),
-    )
+    let items = mapped_len (codes " ") item_text ordered_item (omega arith) ordered_item_len l.items in
+    simp length-append (omega (arith, items, ordered_parameters_len l.parameters))
 
 ordered_member_len : (m : RawMember) → length (member_text (ordered_member m)) ≤ length (member_text m)
 ordered_member_len (item i) = ordered_item_len i
@@ -540,18 +415,9 @@ ordered_member_len (inner_list l) = ordered_inner_list_len l
 
 ordered_entry_len : (key : List ℕ) (m : RawMember)
     → length (dictionary_member_text (key, ordered_member m)) ≤ length (dictionary_member_text (key, m))
-ordered_entry_len key (item i) = omega (
-  arith,
-  ordered_parameters_len i.parameters,
-  length-append (key ++ value_text i.bare) (parameters_text i.parameters),
-  length-append (key ++ value_text i.bare) (parameters_text (collapse i.parameters)),
-)
-ordered_entry_len key (inner_list l) = omega (
-  arith,
-  ordered_inner_list_len l,
-  length-append (key ++ codes "=") (member_text (inner_list l)),
-  length-append (key ++ codes "=") (member_text (ordered_member (inner_list l))),
-)
+ordered_entry_len key (item i) = simp length-append (omega (arith, ordered_parameters_len i.parameters))
+ordered_entry_len key (inner_list l) =
+    simp length-append (omega (arith, simp length-append at (ordered_inner_list_len l)))
 
 ordered_len : (kind : FieldKind) (raw : RawField kind)
     → length (canonical kind (ordered kind raw)) ≤ length (canonical kind raw)

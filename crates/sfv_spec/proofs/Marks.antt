@@ -121,9 +121,6 @@ is_digit = is_between digit_zero digit_nine
 abbrev pub is_lower_letter : ℕ → Bool
 is_lower_letter = is_between lower_a lower_z
 
-abbrev pub is_letter : ℕ → Bool
-is_letter c = is_between upper_a upper_z c || is_lower_letter c
-
 -- SP, and a byte of OWS
 abbrev pub is_space : ℕ → Bool
 is_space c = c == space

@@ -1,14 +1,14 @@
 -- What a visitor has done with the events of a field, for callers.
-use Rattle.std.proofs.Common.{◌≡◌, suc, List, [], ◌∷◌, ◌++◌, length, refl, sym, ap, subst, ◌∙◌, inl, inr, arith}
-use Rattle.std.specs.Prelude.{⊤, ℕ, Option, Some, None, fold, filter_map, flat_map, ◌⊎◌}
-use Rattle.std.specs.List.{FoldsTo, Contains, AllByRecursion}
-use Rattle.std.proofs.lemmas.List.Elements.{filter_map-append, Contains-append_right}
-use Rattle.sfv_spec.specs.Values.{RawParameters, RawItem, RawMember, item, inner_list}
+use Rattle.std.proofs.Common.{◌≡◌, suc, List, [], ◌∷◌, ◌++◌, length, refl, sym, ap, ◌∙◌}
+use Rattle.std.specs.Prelude.{⊤, ℕ, Option, Some, None, fold, filter_map, flat_map}
+use Rattle.std.specs.List.{FoldsTo, AllByRecursion}
+use Rattle.std.proofs.lemmas.List.Elements.{filter_map-append}
+use Rattle.sfv_spec.specs.Values.{RawParameters, RawMember, item, inner_list}
 use Rattle.sfv_spec.specs.declared.field_kind.FieldKind.TheVariants.{List as list_field, Dictionary as dictionary_field}
-use Rattle.sfv_spec.specs.Events.{TreeEvent, entry, keyed_entry, begins_item, begins_inner_list, bare_item}
-use Rattle.sfv_spec.specs.Events.{parameter, parameters_end, inner_list_end, parameters_events, inner_item_events}
+use Rattle.sfv_spec.specs.Events.{TreeEvent, entry, keyed_entry, inner_list_end, parameters_events, inner_item_events}
 use Rattle.sfv_spec.specs.Events.{member_events, events}
 use Rattle.sfv_spec.proofs.Marks.{keys}
+use Rattle.sfv_spec.proofs.Each.{each, each_append, each_flat_map}
 
 -- where each event is a step of the place, a run is all steps
 pub runs_fold : {S P : Type 0} (place : S → P) (step : P → TreeEvent → P) (es : List TreeEvent) (s last : S)
@@ -34,26 +34,17 @@ entry_in entry = Some tt
 entry_in e = None
 
 -- all events of a member but the one that leads it are such
-all_after : (xs ys : List TreeEvent) → AllByRecursion IsInside xs → AllByRecursion IsInside ys
-    → AllByRecursion IsInside (xs ++ ys)
-all_after [] ys h k = k
-all_after (x ∷ xs) ys h k = (h.0, all_after xs ys h.1 k)
-
 parameters_inside : (ps : RawParameters) → AllByRecursion IsInside (parameters_events ps)
 parameters_inside [] = (tt, tt)
 parameters_inside (p ∷ ps) = (tt, parameters_inside ps)
-
-items_inside : (xs : List RawItem) → AllByRecursion IsInside (flat_map inner_item_events xs)
-items_inside [] = tt
-items_inside (x ∷ xs) = all_after (inner_item_events x) (flat_map inner_item_events xs)
-    (tt, (tt, parameters_inside x.parameters)) (items_inside xs)
 
 pub member_inside : (m : RawMember) → AllByRecursion IsInside (member_events m)
 member_inside (item i) = (tt, (tt, parameters_inside i.parameters))
 member_inside (inner_list l) = (
   tt,
-  all_after (flat_map inner_item_events l.items) (inner_list_end ∷ parameters_events l.parameters)
-      (items_inside l.items) (tt, parameters_inside l.parameters),
+  each_append IsInside (flat_map inner_item_events l.items) (inner_list_end ∷ parameters_events l.parameters)
+      (each_flat_map IsInside inner_item_events l.items
+      (each (λ i. (tt, (tt, parameters_inside i.parameters))) l.items)) (tt, parameters_inside l.parameters),
 )
 
 -- what leads a member is given by no event within one
@@ -65,12 +56,7 @@ none_within lead none (e ∷ es) h = rw (none e h.0) (none_within lead none es h
 neither_inside : (e : TreeEvent) → IsInside e → (key_in e ≡ None) × (entry_in e ≡ None)
 neither_inside entry h = absurd h
 neither_inside (keyed_entry key) h = absurd h
-neither_inside begins_item h = (refl, refl)
-neither_inside begins_inner_list h = (refl, refl)
-neither_inside (bare_item value) h = (refl, refl)
-neither_inside (parameter key value) h = (refl, refl)
-neither_inside parameters_end h = (refl, refl)
-neither_inside inner_list_end h = (refl, refl)
+neither_inside e h = (refl, refl)
 
 -- the keys that are visited of a dictionary are its keys, a repeated one each time
 pub keys_in_events : (ms : List (List ℕ × RawMember)) → filter_map key_in (events dictionary_field ms) ≡ keys ms

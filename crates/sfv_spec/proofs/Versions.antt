@@ -3,35 +3,18 @@ use Rattle.std.proofs.Common.{◌≡◌, ℕ, List, [], ◌∷◌, inl, inr, ari
 use Rattle.std.proofs.lemmas.Bool.{cases_lt}
 use Rattle.std.specs.List.{AllZip}
 use Rattle.sfv_spec.specs.Texts.{◌⨾◌, IsJoining, IsSeparated, IsLongestBeginning}
-use Rattle.sfv_spec.specs.Values.{BareValue, integer}
+use Rattle.sfv_spec.specs.Values.{BareValue, date, display_string, RawParameters, RawItem, RawMember, item, inner_list}
 use Rattle.sfv_spec.specs.declared.field_kind.FieldKind.TheVariants.{Item as item_field, List as list_field}
 use Rattle.sfv_spec.specs.declared.field_kind.FieldKind.TheVariants.{Dictionary as dictionary_field}
 use Rattle.sfv_spec.specs.declared.version.Version.TheVariants.{Rfc8941, Rfc9651}
-use Rattle.sfv_spec.specs.Values.{decimal, string, token, byte_sequence, boolean, date, display_string, RawParameters}
-use Rattle.sfv_spec.specs.Values.{RawItem, RawMember, item, inner_list}
 use Rattle.sfv_spec.specs.Grammar.{SomeSpaces, Comma, IsBareText, IsValueText, IsParameterText, IsParametersText}
 use Rattle.sfv_spec.specs.Grammar.{IsItemText, AreInnerItemsText, IsMemberText, IsMemberValueText}
 use Rattle.sfv_spec.specs.Grammar.{IsDictionaryMemberText, AreMembersText}
 use Rattle.sfv_spec.specs.Statements.{NewerAccepts, OneReach}
-
-concatenation_within : {P Q P' Q' : List ℕ → Type 0} → ((t : List ℕ) → P t → P' t) → ((t : List ℕ) → Q t → Q' t)
-    → (t : List ℕ) → (P ⨾ Q) t → (P' ⨾ Q') t
-concatenation_within f g t h = record {
-  front = h.front;
-  back = h.back;
-  text = h.text;
-  first = f h.front h.first;
-  second = g h.back h.second;
-}
+use Rattle.sfv_spec.proofs.Settled.{parts_within}
 
 second_within : {P Q Q' : List ℕ → Type 0} → ((t : List ℕ) → Q t → Q' t) → (t : List ℕ) → (P ⨾ Q) t → (P ⨾ Q') t
-second_within g t h = record {
-  front = h.front;
-  back = h.back;
-  text = h.text;
-  first = h.first;
-  second = g h.back h.second;
-}
+second_within = parts_within (λ _ h. h)
 
 each_within : {A : Type 0} {P Q : A → List ℕ → Type 0} → ((x : A) (t : List ℕ) → P x t → Q x t)
     → (xs : List A) (ts : List (List ℕ)) → AllZip P xs ts → AllZip Q xs ts
@@ -47,17 +30,12 @@ joining_within f xs t h = record { pieces = h.pieces; text = h.text; each = each
 separated_within : {A : Type 0} {P Q : A → List ℕ → Type 0} (S : List ℕ → Type 0)
     → ((x : A) (t : List ℕ) → P x t → Q x t) → (xs : List A) (t : List ℕ) → IsSeparated S P xs t → IsSeparated S Q xs t
 separated_within S f [] t h = h
-separated_within S f (x ∷ xs) t h = concatenation_within (f x) (joining_within (λ y. second_within (f y)) xs) t h
+separated_within S f (x ∷ xs) t h = parts_within (f x) (joining_within (λ y. second_within (f y)) xs) t h
 
 bare_within : (b : BareValue) (t : List ℕ) → IsBareText Rfc8941 b t → IsBareText Rfc9651 b t
-bare_within (integer z) t h = h
-bare_within (decimal z) t h = h
-bare_within (string s) t h = h
-bare_within (token s) t h = h
-bare_within (byte_sequence s) t h = h
-bare_within (boolean s) t h = h
 bare_within (date z) t h = let e : Rfc8941 ≡ Rfc9651 = h.0 in absurd (cc)
 bare_within (display_string s) t h = let e : Rfc8941 ≡ Rfc9651 = h.0 in absurd (cc)
+bare_within b t h = h
 
 value_within : (v : BareValue) (t : List ℕ) → IsValueText Rfc8941 v t → IsValueText Rfc9651 v t
 value_within v t (inl h) = inl h
@@ -70,16 +48,16 @@ parameters_within : (ps : RawParameters) (t : List ℕ) → IsParametersText Rfc
 parameters_within = joining_within parameter_within
 
 item_within : (i : RawItem) (t : List ℕ) → IsItemText Rfc8941 i t → IsItemText Rfc9651 i t
-item_within i = concatenation_within (bare_within i.bare) (parameters_within i.parameters)
+item_within i = parts_within (bare_within i.bare) (parameters_within i.parameters)
 
 inner_items_within : (is : List RawItem) (t : List ℕ) → AreInnerItemsText Rfc8941 is t → AreInnerItemsText Rfc9651 is t
 inner_items_within [] t h = h
-inner_items_within (i ∷ is) t h = concatenation_within (separated_within SomeSpaces item_within (i ∷ is)) (λ _ g. g) t h
+inner_items_within (i ∷ is) t h = parts_within (separated_within SomeSpaces item_within (i ∷ is)) (λ _ g. g) t h
 
 member_within : (m : RawMember) (t : List ℕ) → IsMemberText Rfc8941 m t → IsMemberText Rfc9651 m t
 member_within (item i) t h = item_within i t h
 member_within (inner_list l) t h = second_within (second_within
-    (concatenation_within (inner_items_within l.items) (second_within (parameters_within l.parameters)))) t h
+    (parts_within (inner_items_within l.items) (second_within (parameters_within l.parameters)))) t h
 
 member_value_within : (m : RawMember) (t : List ℕ) → IsMemberValueText Rfc8941 m t → IsMemberValueText Rfc9651 m t
 member_value_within m t (inl h) = inl (second_within (member_within m) t h)
@@ -92,10 +70,10 @@ dictionary_member_within m = second_within (member_value_within m.1)
 members_within : {A : Type 0} {P Q : A → List ℕ → Type 0} → ((x : A) (t : List ℕ) → P x t → Q x t)
     → (xs : List A) (t : List ℕ) → AreMembersText P xs t → AreMembersText Q xs t
 members_within f [] t h = h
-members_within f (x ∷ xs) t h = second_within (concatenation_within (separated_within Comma f (x ∷ xs)) (λ _ g. g)) t h
+members_within f (x ∷ xs) t h = second_within (parts_within (separated_within Comma f (x ∷ xs)) (λ _ g. g)) t h
 
 pub newer_accepts_lem : NewerAccepts
-newer_accepts_lem item_field i t h = second_within (concatenation_within (item_within i) (λ _ g. g)) t h
+newer_accepts_lem item_field i t h = second_within (parts_within (item_within i) (λ _ g. g)) t h
 newer_accepts_lem list_field ms t h = members_within member_within ms t h
 newer_accepts_lem dictionary_field ms t h = members_within dictionary_member_within ms t h
 

@@ -12,9 +12,9 @@ use Rattle.sfv_spec.specs.declared.error_kind.ErrorKind.TheVariants.{Unterminate
 use Rattle.sfv_spec.specs.declared.error_kind.ErrorKind.TheVariants.{ExpectedDigit, TooManyDigits}
 use Rattle.sfv_spec.specs.declared.error_kind.ErrorKind.TheVariants.{TooManyDigitsBeforeDecimalPoint}
 use Rattle.sfv_spec.specs.declared.error_kind.ErrorKind.TheVariants.{TooManyDigitsAfterDecimalPoint}
-use Rattle.sfv_spec.specs.declared.error_kind.ErrorKind.TheVariants.{TrailingDecimalPoint}
-use Rattle.sfv_spec.specs.declared.error_kind.ErrorKind.TheVariants.{Rfc8941Date, NonIntegerDate, Rfc8941DisplayString}
-use Rattle.sfv_spec.specs.declared.error_kind.ErrorKind.TheVariants.{ExpectedQuote, InvalidUtf8InDisplayString}
+use Rattle.sfv_spec.specs.declared.error_kind.ErrorKind.TheVariants.{TrailingDecimalPoint, Rfc8941Date, NonIntegerDate}
+use Rattle.sfv_spec.specs.declared.error_kind.ErrorKind.TheVariants.{Rfc8941DisplayString, ExpectedQuote}
+use Rattle.sfv_spec.specs.declared.error_kind.ErrorKind.TheVariants.{InvalidUtf8InDisplayString}
 use Rattle.sfv_spec.specs.declared.error_kind.ErrorKind.TheVariants.{InvalidDisplayStringCharacter}
 use Rattle.sfv_spec.specs.declared.error_kind.ErrorKind.TheVariants.{UnterminatedDisplayString, ExpectedStartOfKey}
 

@@ -123,20 +123,36 @@ fn members(alloc: Global, text: &str, count: usize) -> Result<String, Fail> {
     Ok(all)
 }
 
-// Lists and inner lists of 1 to 65, of 4,000 and 4,001 members, with one and two parameters.
+/// The numbers of members: 1 to 65, 4,000, 4,001 and 12,345.
+fn count_of(place: usize) -> usize {
+    match place {
+        66 => 4_000,
+        67 => 4_001,
+        68 => 12_345,
+        _ => place,
+    }
+}
+
+// Lists and inner lists with one and two parameters.
 #[test]
 fn lists_have_little_unused_memory(rt: HostRuntime) -> Result<(), Fail> {
     let alloc = rt.alloc();
     let mut holds = true;
-    for place in 1..68usize {
-        let count = if place < 66 { place } else { place + 3_934 };
-        let items = repeated(alloc, "a;b", ", a;b", count - 1, "")?;
+    for place in 1..69 {
+        let count = count_of(place);
+        let items = repeated(alloc, "a;b", ", a;b", count.saturating_sub(1), "")?;
         holds &= are_lists_fit(alloc, items.as_str(), count);
-        let items = repeated(alloc, "a;b;c", ", a;b;c", count - 1, "")?;
+        let items = repeated(alloc, "a;b;c", ", a;b;c", count.saturating_sub(1), "")?;
         holds &= are_lists_fit(alloc, items.as_str(), count);
-        let lists = repeated(alloc, "(a;b 1;b;c);b;c", ", (a;b 1;b;c);b", count - 1, "")?;
+        let lists = repeated(
+            alloc,
+            "(a;b 1;b;c);b;c",
+            ", (a;b 1;b;c);b",
+            count.saturating_sub(1),
+            "",
+        )?;
         holds &= are_lists_fit(alloc, lists.as_str(), count);
-        let inner = repeated(alloc, "(a;b;c", " a;b", count - 1, ");b")?;
+        let inner = repeated(alloc, "(a;b;c", " a;b", count.saturating_sub(1), ");b")?;
         holds &= are_lists_fit(alloc, inner.as_str(), 1);
     }
     assert!(rt; holds);
@@ -147,29 +163,29 @@ fn lists_have_little_unused_memory(rt: HostRuntime) -> Result<(), Fail> {
 fn dictionaries_have_little_unused_memory(rt: HostRuntime) -> Result<(), Fail> {
     let alloc = rt.alloc();
     let mut holds = true;
-    for place in 1..68usize {
-        let count = if place < 66 { place } else { place + 3_934 };
+    for place in 1..69 {
+        let count = count_of(place);
         let items = members(alloc, ";b", count)?;
         holds &= are_dictionaries_fit(alloc, items.as_str(), count);
         let items = members(alloc, ";b;c", count)?;
         holds &= are_dictionaries_fit(alloc, items.as_str(), count);
         let lists = members(alloc, "=(a;b 1;b;c);b", count)?;
         holds &= are_dictionaries_fit(alloc, lists.as_str(), count);
-        let inner = repeated(alloc, "k=(a;b;c", " a;b", count - 1, ");b;c")?;
+        let inner = repeated(alloc, "k=(a;b;c", " a;b", count.saturating_sub(1), ");b;c")?;
         holds &= are_dictionaries_fit(alloc, inner.as_str(), 1);
     }
     assert!(rt; holds);
     Ok(())
 }
 
-// Without parameters, with one and with many, in a list, an inner list and a dictionary of up to 4,003 members.
+// Without parameters, with one and with many, in a list, an inner list and a dictionary of up to 12,348 members.
 #[test]
 fn parameters_have_little_unused_memory(rt: HostRuntime) -> Result<(), Fail> {
     let alloc = rt.alloc();
     let many = counted(alloc, "", ";k", "", "", 73)?;
     let end = format!(in alloc; ", (){many}, (a{many} b){many}, a{many}")?;
     let mut holds = true;
-    for &count in &[1, 3_997, 3_998, 3_999, 4_000, 4_001] {
+    for &count in &[1, 3_997, 3_998, 3_999, 4_000, 4_001, 12_345] {
         let list = repeated(alloc, "a", ", ()", count - 1, end.as_str())?;
         holds &= are_lists_fit(alloc, list.as_str(), count + 3);
         let inner = format!(in alloc; " a{many} b{many} c;d){many}")?;
@@ -186,10 +202,16 @@ fn parameters_have_little_unused_memory(rt: HostRuntime) -> Result<(), Fail> {
 }
 
 #[test]
+fn empty_fields_have_no_memory(rt: HostRuntime) {
+    assert!(rt; are_lists_fit(rt.alloc(), " ", 0));
+    assert!(rt; are_dictionaries_fit(rt.alloc(), " ", 0));
+}
+
+#[test]
 fn items_have_little_unused_memory(rt: HostRuntime) -> Result<(), Fail> {
     let alloc = rt.alloc();
     let mut holds = true;
-    for &count in &[0, 1, 9, 10, 18, 19, 36, 37, 1_000, 4_001] {
+    for &count in &[0, 1, 9, 10, 18, 19, 36, 37, 1_000, 4_001, 12_345] {
         let item = counted(alloc, "a", ";k", "", "", count)?;
         holds &= is_item_fit(alloc, item.as_str(), count);
     }

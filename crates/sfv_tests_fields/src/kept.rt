@@ -77,6 +77,9 @@ const GROWN: &[(&str, &str, &str, usize, &str, usize)] = &[
     ("item", ":", "aGkh", 8, ":", 64),
     ("item", ":", "aGkh", 25, ":", 102),
     ("item", ":", "aGkh", 1_000, "aA==:", 4_006),
+    ("item", ":", "aGkh", 25_000, "aA==:", 100_006),
+    ("item", "a", "b", 9_000, "", 9_001),
+    ("item", "\"", "a", 10_000, "\"", 20_002),
     ("list", "(", "a ", 100, "b)", 288),
     ("list", "a, :", "aGkh", 100, ":", 405),
     ("dict", "a=(", "b ", 100, "b)", 288),
@@ -265,7 +268,55 @@ fn a_text_with_exact_room_keeps_its_capacity(rt: HostRuntime) -> Result<(), Fail
             let room = text.len() + "X: ".len();
             holds &= capacity_after(alloc, field, "X: ", room, text.as_str()) == Some(room);
             holds &= capacity_appended(alloc, field, "X: ", room, text.as_str()) == Some(room);
+            let room = text.len();
+            holds &= capacity_after(alloc, field, "", room, text.as_str()) == Some(room);
+            holds &= capacity_appended(alloc, field, "", room, text.as_str()) == Some(room);
         }
+    }
+    assert!(rt; holds);
+    Ok(())
+}
+
+// A part that does not fit must make the text grow, whatever byte it begins at.
+#[test]
+fn a_text_grows_at_each_byte(rt: HostRuntime) -> Result<(), Fail> {
+    let alloc = rt.alloc();
+    let mut holds = true;
+    for &(field, place) in PLACES {
+        for &value in VALUES {
+            let text = filled(alloc, place, value)?;
+            for room in 0..text.len() {
+                let room = room.saturating_add("X: ".len());
+                holds &= capacity_after(alloc, field, "X: ", room, text.as_str()).is_some();
+                holds &= capacity_appended(alloc, field, "X: ", room, text.as_str()).is_some();
+            }
+        }
+    }
+    assert!(rt; holds);
+    Ok(())
+}
+
+/// Returns `true` if serializers without a member leave the text and its capacity.
+fn finish_keeps(text: &mut String, version: Version) -> bool {
+    let (len, capacity) = (text.len(), text.capacity());
+    let is_list_none = ListSerializer::with_buffer_for(text, version)
+        .finish()
+        .is_none();
+    let is_dictionary_none = DictSerializer::with_buffer_for(text, version)
+        .finish()
+        .is_none();
+    is_list_none && is_dictionary_none && text.len() == len && text.capacity() == capacity
+}
+
+#[test]
+fn finish_without_a_member_keeps_the_text(rt: HostRuntime) -> Result<(), Fail> {
+    let alloc = rt.alloc();
+    let mut holds = true;
+    for times in 0..2_000 {
+        let mut text = repeated(alloc, "", "a", times, "")?;
+        holds &= finish_keeps(&mut text, Version::Rfc9651);
+        text.push('b')?;
+        holds &= finish_keeps(&mut text, Version::Rfc8941) && text.as_str().ends_with("b");
     }
     assert!(rt; holds);
     Ok(())
@@ -378,20 +429,16 @@ fn is_exact(value: BareItem) -> bool {
 /// copies have no unused memory.
 fn holds_bytes(alloc: Global, input: &str, wanted: usize) -> Option<bool> {
     let parser = Parser::new(input.as_bytes());
-    let item = parser.parse::<Item>(alloc).ok()?;
     let builder = ItemBuilder::new(alloc, parser.hash_seed());
     let built = parser.parse_item_with_visitor(alloc, builder).ok()?;
-    let bare_item = parser.parse_item::<BareItem>(alloc).ok()?;
+    let mut holds = keeps(built.bare_item, wanted);
+    holds &= keeps(parser.parse_item::<BareItem>(alloc).ok()?, wanted);
     let read = parser.parse_item::<BareItemFromInput<'_>>(alloc).ok()?;
-    let owned = read.try_into_owned(alloc).ok()?;
-    let copied = item.bare_item.as_ref_item().try_to_owned(alloc).ok()?;
-    let cloned = item.bare_item.clone().ok()?;
-    let mut holds = keeps(item.bare_item, wanted);
-    holds &= keeps(built.bare_item, wanted);
-    holds &= keeps(bare_item, wanted);
-    holds &= keeps(owned, wanted);
-    holds &= is_exact(copied);
-    holds &= is_exact(cloned);
+    holds &= keeps(read.try_into_owned(alloc).ok()?, wanted);
+    let item = parser.parse::<Item>(alloc).ok()?;
+    holds &= is_exact(item.bare_item.as_ref_item().try_to_owned(alloc).ok()?);
+    holds &= is_exact(item.bare_item.clone().ok()?);
+    holds &= keeps(item.bare_item, wanted);
     Some(holds)
 }
 
@@ -410,6 +457,11 @@ const OWNED: &[(&str, &str, usize, &str, usize)] = &[
     (":", "aGkh", 0, "aA==:", 1),
     (":", "aGkh", 33, "aGk=:", 101),
     (":", "aGkh", 1_000, "aA:", 3_001),
+    (":", "aGkh", 25_000, "aA:", 75_001),
+    ("a", "b", 9_999, "", 10_000),
+    ("\"", "a", 10_000, "\"", 10_000),
+    ("\"", "\\\\", 9_000, "\"", 16_384),
+    ("%\"", "a", 20_000, "%c3%bc\"", 40_000),
     ("%\"", "a", 100, "\"", 100),
     ("%\"", "%c3%bc", 1, "\"", 8),
     ("%\"", "a", 20, "%c3%bc\"", 40),

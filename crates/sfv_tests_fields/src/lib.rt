@@ -9,6 +9,8 @@ mod common;
 #[cfg(test)]
 mod kept;
 #[cfg(test)]
+mod lengths;
+#[cfg(test)]
 mod long;
 #[cfg(test)]
 mod memory;

@@ -38,7 +38,7 @@ fn is_rejected(alloc: Global, field: &str, input: &str, kind: ErrorKind, back: u
     let error = Error::with_kind(kind, input.len().checked_sub(back));
     let mut holds = true;
     for &version in &[Version::Rfc8941, Version::Rfc9651] {
-        if version == Version::Rfc9651 || !input.starts_with("%") {
+        if version == Version::Rfc9651 || !input.contains("%\"") {
             let parser = Parser::new(input.as_bytes()).with_version(version);
             holds &= rejects(alloc, parser, field, error);
         }
@@ -50,7 +50,8 @@ fn is_rejected(alloc: Global, field: &str, input: &str, kind: ErrorKind, back: u
 const COUNTS: &[usize] = &[1, 2, 100, 1_001, 4_001, 65_537, 100_001];
 
 /// Fields of numbered parts: the type, the text before the parts, the text before each number, the separator, and the
-/// end. Then the kind of the error, and how many bytes follow its index. Some fields have a backslash or a colon.
+/// end. Then the kind of the error, and how many bytes follow its index. Some fields have a backslash, a percent sign or
+/// a colon: only these can allocate.
 const PARTS: &[(&str, &str, &str, &str, &str, ErrorKind, usize)] = &[
     (
         "item",
@@ -124,6 +125,51 @@ const PARTS: &[(&str, &str, &str, &str, &str, ErrorKind, usize)] = &[
         ErrorKind::TrailingComma,
         1,
     ),
+    (
+        "item",
+        "\"\\\\\";a=b%;c=:aGk=:;",
+        "k",
+        ";",
+        "!",
+        ErrorKind::TrailingCharactersAfterParsedValue,
+        1,
+    ),
+    (
+        "list",
+        "\"\\\\\", a%, :aGk=:, ",
+        "",
+        ", ",
+        "!",
+        ErrorKind::TrailingCharactersAfterMember,
+        1,
+    ),
+    (
+        "list",
+        "",
+        "",
+        ", ",
+        ", %\"a%ff\"",
+        ErrorKind::InvalidUtf8InDisplayString,
+        4,
+    ),
+    (
+        "dict",
+        "a=\"\\\\\", b=a%, c=:aGk=:, ",
+        "k",
+        ", ",
+        "!",
+        ErrorKind::TrailingCharactersAfterMember,
+        1,
+    ),
+    (
+        "dict",
+        "",
+        "k",
+        ", ",
+        ", a=%\"a",
+        ErrorKind::UnterminatedDisplayString,
+        0,
+    ),
 ];
 
 #[test]
@@ -182,6 +228,28 @@ const PIECES: &[(&str, &str, &str, ErrorKind, usize)] = &[
         ErrorKind::TrailingCharactersAfterParsedValue,
         1,
     ),
+    (
+        "%\"",
+        "a",
+        "%ff\"",
+        ErrorKind::InvalidUtf8InDisplayString,
+        4,
+    ),
+    (
+        "%\"",
+        "%c3%bc",
+        "%c3\"",
+        ErrorKind::InvalidUtf8InDisplayString,
+        4,
+    ),
+    (
+        "%\"",
+        "a",
+        "\n\"",
+        ErrorKind::InvalidDisplayStringCharacter,
+        2,
+    ),
+    ("%\"", "a", "%", ErrorKind::UnterminatedEscapeSequence, 0),
 ];
 
 #[test]

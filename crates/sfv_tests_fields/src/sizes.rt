@@ -83,7 +83,7 @@ pub fn filled(alloc: Global, place: &str, text: &str) -> Result<String, Fail> {
 }
 
 /// Returns the text of a field with so many parts.
-fn field_of(
+pub fn field_of(
     alloc: Global,
     (begin, part, separator, end): (&str, &str, &str, &str),
     value: &str,
@@ -186,96 +186,172 @@ fn inserted_params(alloc: Global, params: &Parameters) -> Option<Parameters> {
     Some(copy)
 }
 
-/// Reads, copies and writes an item.
-fn item_holds(alloc: Global, version: Version, text: &str) -> Option<bool> {
-    let parser = Parser::new(text.as_bytes()).with_version(version);
-    let item = parser.parse::<Item>(alloc).ok()?;
+/// Returns `true` if `ItemBuilder` builds the item.
+fn is_built_item(alloc: Global, parser: Parser<'_>, item: &Item) -> Option<bool> {
     let builder = ItemBuilder::new(alloc, parser.hash_seed());
     let built = parser.parse_item_with_visitor(alloc, builder).ok()?;
+    Some(built == *item)
+}
+
+/// Returns `true` if a copy of the item and one of its parameters are equal to them.
+fn is_copied_item(alloc: Global, item: &Item) -> Option<bool> {
     let copy = item.clone().ok()?;
     let params = inserted_params(alloc, &item.params)?;
+    Some(copy == *item && params == item.params)
+}
+
+/// Returns `true` if the parser reads this bare item, owned and borrowed, and a copy is equal to it.
+fn is_bare_item(alloc: Global, parser: Parser<'_>, value: &BareItem) -> Option<bool> {
     let bare_item = parser.parse_item::<BareItem>(alloc).ok()?;
+    let copy = bare_item.as_ref_item().try_to_owned(alloc).ok()?;
     let read = parser.parse_item::<BareItemFromInput<'_>>(alloc).ok()?;
     let owned = read.try_into_owned(alloc).ok()?;
-    let again = bare_item.as_ref_item().try_to_owned(alloc).ok()?;
+    Some(bare_item == *value && copy == *value && owned == *value)
+}
+
+/// Returns `true` if `ItemSerializer` writes this text.
+fn is_item_text(alloc: Global, version: Version, item: &Item, text: &str) -> Option<bool> {
     let mut written = String::new(alloc);
     let serializer = ItemSerializer::with_buffer_for(&mut written, version);
     let serializer = serializer.bare_item(item.bare_item.as_ref_item()).ok()?;
     serializer.parameters(item.params.iter()).ok()?.finish();
+    Some(written.as_str() == text)
+}
+
+/// Returns `true` if the calls of the item write this text.
+fn is_item_called(alloc: Global, version: Version, item: &Item, text: &str) -> Option<bool> {
     let mut called = String::new(alloc);
-    run_item_for(version, &mut called, &item_calls(alloc, &item)?).ok()?;
+    run_item_for(version, &mut called, &item_calls(alloc, item)?).ok()?;
+    Some(called.as_str() == text)
+}
+
+/// Reads, copies and writes an item.
+fn item_holds(alloc: Global, version: Version, text: &str) -> Option<bool> {
+    let parser = Parser::new(text.as_bytes()).with_version(version);
+    let item = parser.parse::<Item>(alloc).ok()?;
     Some(
-        built == item
-            && copy == item
-            && params == item.params
-            && bare_item == item.bare_item
-            && owned == item.bare_item
-            && again == item.bare_item
-            && written.as_str() == text
-            && called.as_str() == text
+        is_built_item(alloc, parser, &item)?
+            && is_copied_item(alloc, &item)?
+            && is_bare_item(alloc, parser, &item.bare_item)?
+            && is_item_text(alloc, version, &item, text)?
+            && is_item_called(alloc, version, &item, text)?
             && is_serialized(alloc, version, &item, text),
     )
+}
+
+/// Returns `true` if `ListBuilder` builds the list.
+fn is_built_list(alloc: Global, parser: Parser<'_>, list: &List) -> Option<bool> {
+    let builder = ListBuilder::new(List::new(alloc), parser.hash_seed());
+    let built = parser.parse_list_with_visitor(alloc, builder).ok()?;
+    Some(built == *list)
+}
+
+/// Returns `true` if each member is equal to its copy.
+fn are_copied(list: &List) -> Option<bool> {
+    let mut holds = true;
+    for member in list.iter() {
+        holds &= member.clone().ok()? == *member;
+    }
+    Some(holds)
+}
+
+/// Returns `true` if `ListSerializer` writes this text.
+fn is_list_text(alloc: Global, version: Version, list: &List, text: &str) -> Option<bool> {
+    let mut written = String::new(alloc);
+    let mut serializer = ListSerializer::with_buffer_for(&mut written, version);
+    serializer.members(list.iter()).ok()?;
+    let _ = serializer.finish();
+    Some(written.as_str() == text)
+}
+
+/// Returns `true` if the calls of the list write this text.
+fn is_list_called(alloc: Global, version: Version, list: &List, text: &str) -> Option<bool> {
+    let mut calls = Vec::new(alloc);
+    for member in list.iter() {
+        calls.push(member_calls(alloc, member)?).ok()?;
+    }
+    let mut called = String::new(alloc);
+    run_list_for(version, &mut called, &calls[..]).ok()?;
+    Some(called.as_str() == text)
 }
 
 /// Reads, copies and writes a list.
 fn list_holds(alloc: Global, version: Version, text: &str) -> Option<bool> {
     let parser = Parser::new(text.as_bytes()).with_version(version);
     let list = parser.parse::<List>(alloc).ok()?;
-    let builder = ListBuilder::new(List::new(alloc), parser.hash_seed());
-    let built = parser.parse_list_with_visitor(alloc, builder).ok()?;
-    let mut calls = Vec::new(alloc);
-    let mut copies = true;
-    for member in list.iter() {
-        copies &= member.clone().ok()? == *member;
-        calls.push(member_calls(alloc, member)?).ok()?;
-    }
-    let mut written = String::new(alloc);
-    let mut serializer = ListSerializer::with_buffer_for(&mut written, version);
-    serializer.members(list.iter()).ok()?;
-    let _ = serializer.finish();
-    let mut called = String::new(alloc);
-    run_list_for(version, &mut called, &calls[..]).ok()?;
     Some(
-        built == list
-            && copies
-            && written.as_str() == text
-            && called.as_str() == text
+        is_built_list(alloc, parser, &list)?
+            && are_copied(&list)?
+            && is_list_text(alloc, version, &list, text)?
+            && is_list_called(alloc, version, &list, text)?
             && is_serialized(alloc, version, &list, text),
     )
+}
+
+/// Returns `true` if `DictionaryBuilder` builds the dictionary.
+fn is_built_dictionary(alloc: Global, parser: Parser<'_>, dictionary: &Dictionary) -> Option<bool> {
+    let builder = DictionaryBuilder::new(sfv::dictionary(alloc));
+    let built = parser.parse_dictionary_with_visitor(alloc, builder).ok()?;
+    Some(built == *dictionary)
+}
+
+/// Returns `true` if the dictionary of copies of the members is equal.
+fn is_copied_dictionary(alloc: Global, dictionary: &Dictionary) -> Option<bool> {
+    let mut copy = sfv::dictionary(alloc);
+    for (key, member) in dictionary.iter() {
+        insert_entry(&mut copy, key.clone().ok()?, member.clone().ok()?).ok()?;
+    }
+    Some(copy == *dictionary)
+}
+
+/// Returns `true` if `DictSerializer` writes this text.
+fn is_dictionary_text(
+    alloc: Global,
+    version: Version,
+    dictionary: &Dictionary,
+    text: &str,
+) -> Option<bool> {
+    let mut written = String::new(alloc);
+    let mut serializer = DictSerializer::with_buffer_for(&mut written, version);
+    serializer.members(dictionary.iter()).ok()?;
+    let _ = serializer.finish();
+    Some(written.as_str() == text)
+}
+
+/// Returns `true` if the calls of the dictionary write this text.
+fn is_dictionary_called(
+    alloc: Global,
+    version: Version,
+    dictionary: &Dictionary,
+    text: &str,
+) -> Option<bool> {
+    let mut calls: Vec<(KeyRef<'_>, MemberCalls<'_>)> = Vec::new(alloc);
+    for (key, member) in dictionary.iter() {
+        calls
+            .push((key.as_key_ref(), member_calls(alloc, member)?))
+            .ok()?;
+    }
+    let mut called = String::new(alloc);
+    run_dict_for(version, &mut called, &calls[..]).ok()?;
+    Some(called.as_str() == text)
 }
 
 /// Reads, copies and writes a dictionary.
 fn dictionary_holds(alloc: Global, version: Version, text: &str) -> Option<bool> {
     let parser = Parser::new(text.as_bytes()).with_version(version);
     let dictionary = parser.parse::<Dictionary>(alloc).ok()?;
-    let builder = DictionaryBuilder::new(sfv::dictionary(alloc));
-    let built = parser.parse_dictionary_with_visitor(alloc, builder).ok()?;
-    let mut copy = sfv::dictionary(alloc);
-    let mut calls: Vec<(KeyRef<'_>, MemberCalls<'_>)> = Vec::new(alloc);
-    for (key, member) in dictionary.iter() {
-        insert_entry(&mut copy, key.clone().ok()?, member.clone().ok()?).ok()?;
-        calls
-            .push((key.as_key_ref(), member_calls(alloc, member)?))
-            .ok()?;
-    }
-    let mut written = String::new(alloc);
-    let mut serializer = DictSerializer::with_buffer_for(&mut written, version);
-    serializer.members(dictionary.iter()).ok()?;
-    let _ = serializer.finish();
-    let mut called = String::new(alloc);
-    run_dict_for(version, &mut called, &calls[..]).ok()?;
     Some(
-        built == dictionary
-            && copy == dictionary
-            && written.as_str() == text
-            && called.as_str() == text
+        is_built_dictionary(alloc, parser, &dictionary)?
+            && is_copied_dictionary(alloc, &dictionary)?
+            && is_dictionary_text(alloc, version, &dictionary, text)?
+            && is_dictionary_called(alloc, version, &dictionary, text)?
             && is_serialized(alloc, version, &dictionary, text),
     )
 }
 
 /// Returns `true` if this text of a field is read, copied and written by each call, under RFC 9651 and, if that has the
 /// values, under RFC 8941.
-fn holds(alloc: Global, field: &str, is_older: bool, text: &str) -> bool {
+pub fn holds(alloc: Global, field: &str, is_older: bool, text: &str) -> bool {
     let versions: &[Version] = if is_older {
         &[Version::Rfc9651, Version::Rfc8941]
     } else {

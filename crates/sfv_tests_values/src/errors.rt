@@ -4,6 +4,7 @@ use crate::common::{is_text, prints};
 use sfv::visitor::{BareItemType, ItemFault};
 use sfv::{Error, ErrorKind, OutOfMemory, ParseError};
 use std::alloc::{AllocError, AllocFailed};
+use std::test::Fail;
 
 #[test]
 fn errors_print_their_message_and_place(rt: HostRuntime) {
@@ -18,6 +19,27 @@ fn errors_print_their_message_and_place(rt: HostRuntime) {
         & unplaced.index().is_none()
         & !placed.is_out_of_memory();
     assert!(rt; printed & seen);
+}
+
+#[test]
+fn errors_print_each_index(rt: HostRuntime) -> Result<(), Fail> {
+    let alloc = rt.alloc();
+    let mut holds = true;
+    let mut index = 0usize;
+    for _ in 0..64 {
+        for more in 0..3 {
+            let index = index.saturating_add(more);
+            let text = format!(in alloc; "too many digits at index {index}")?;
+            holds &= prints(
+                alloc,
+                &Error::at(ErrorKind::TooManyDigits, index),
+                text.as_str(),
+            );
+        }
+        index = index.saturating_mul(2).saturating_add(1);
+    }
+    assert!(rt; holds);
+    Ok(())
 }
 
 #[test]

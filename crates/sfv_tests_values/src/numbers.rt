@@ -5,6 +5,7 @@ use sfv::{Date, Decimal, Integer, integer};
 use std::alloc::Global;
 use std::cmp::Ordering;
 use std::hash::Hash;
+use std::test::Fail;
 
 /// Returns `true` if the integer, the decimal with this many thousandths, and the date with this many seconds print
 /// these texts.
@@ -59,6 +60,55 @@ fn decimals_of_whole_numbers_print_one_digit_after_the_point(rt: HostRuntime) {
     for &(decimal, text) in rows {
         assert!(rt; prints(rt.alloc(), &decimal, text));
     }
+}
+
+/// Returns `true` if the number is printed as an integer, as a date, and as a whole decimal, and its opposite as an
+/// integer.
+fn is_printed(alloc: Global, number: u32) -> Result<bool, Fail> {
+    let whole = format!(in alloc; "{number}")?;
+    let opposite = format!(in alloc; "-{number}")?;
+    let decimal = format!(in alloc; "{number}.0")?;
+    let seconds = format!(in alloc; "@{number}")?;
+    let integer = Integer::from(number);
+    Ok(
+        prints(alloc, &integer, whole.as_str())
+            & prints(alloc, &Date::from_unix_seconds(integer), seconds.as_str())
+            & prints_scaled(alloc, i64::from(number), decimal.as_str())
+            & (number == 0 || prints_negative(alloc, i64::from(number), opposite.as_str())),
+    )
+}
+
+/// Returns `true` if the opposite of this number prints this text.
+fn prints_negative(alloc: Global, number: i64, text: &str) -> bool {
+    match Integer::try_from(number.saturating_neg()) {
+        Ok(integer) => prints(alloc, &integer, text),
+        Err(_) => false,
+    }
+}
+
+/// Returns `true` if the decimal of this number prints this text.
+fn prints_scaled(alloc: Global, number: i64, text: &str) -> bool {
+    match Integer::try_from(number.saturating_mul(1_000)) {
+        Ok(thousandths) => { prints(alloc, &Decimal::from_integer_scaled_1000(thousandths), text) }
+        Err(_) => false,
+    }
+}
+
+// Up to 100,000, and around each power of ten.
+#[test]
+fn numbers_of_each_size_are_printed(rt: HostRuntime) -> Result<(), Fail> {
+    let alloc = rt.alloc();
+    let mut holds = true;
+    for number in 0..100_000 {
+        holds &= is_printed(alloc, number)?;
+    }
+    for &power in &[1_000_000u32, 10_000_000, 100_000_000, 1_000_000_000] {
+        for more in 0..20 {
+            holds &= is_printed(alloc, power.saturating_sub(10).saturating_add(more))?;
+        }
+    }
+    assert!(rt; holds);
+    Ok(())
 }
 
 #[test]

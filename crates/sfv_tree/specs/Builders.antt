@@ -1,13 +1,11 @@
 -- The steps of the builders of owned trees.
-use Rattle.std.specs.Prelude.{◌≡◌, ◌⊎◌, ⊤, MatchOption}
-use Rattle.std.specs.Prelude.{ℕ, List, [], ◌∷◌, ◌++◌, Bool, true, false, ◌&&◌, ◌||◌, Option, Some, None, is_none, option_map}
-use Rattle.std.specs.Prelude.{bytes_eq}
-use Rattle.std.specs.List.{All}
+use Rattle.std.specs.Prelude.{◌≡◌, ◌⊎◌, ⊤, MatchOption, ℕ, List, [], ◌∷◌, ◌++◌, Bool, true, false, ◌&&◌, ◌||◌, Option}
+use Rattle.std.specs.Prelude.{Some, None, is_none, option_map, bytes_eq}
 use Rattle.std.specs.Map.{lookup}
 use Rattle.indexmap.specs.IndexMap.{hasher_of, insert_entry}
 use Rattle.sfv_spec.specs.Values.{BareValue, RawItem, RawInnerList, RawMember, item, inner_list}
-use Rattle.sfv_spec.specs.Events.{TreeEvent, entry, keyed_entry, begins_item, begins_inner_list}
-use Rattle.sfv_spec.specs.Events.{bare_item, parameter, parameters_end, inner_list_end}
+use Rattle.sfv_spec.specs.Events.{TreeEvent, entry, keyed_entry, begins_item, begins_inner_list, bare_item, parameter}
+use Rattle.sfv_spec.specs.Events.{parameters_end, inner_list_end}
 use Rattle.sfv_values.specs.BareItems.{is_text}
 use Rattle.sfv_tree.specs.Trees.{item_tree, inner_list_tree, member_tree, list_tree, dictionary_tree}
 use Rattle.sfv_tree.specs.Seeds.{ItemHasSeed, InnerListHasSeed, MemberHasSeed}

@@ -2,8 +2,8 @@
 
 ghost use Rattle.std.specs.Prelude.{◌≡◌, [], None};
 ghost use Rattle.sfv_tree.specs.declared.hash_seed.HashSeed.{HashSeed};
-ghost use Rattle.sfv_tree.specs.Builders.{step_state, item_head, list_state, dictionary_state};
-ghost use Rattle.sfv_tree.specs.Builders.{IsItemUnder, ListAddsUnder, DictionaryAddsUnder};
+ghost use Rattle.sfv_tree.specs.Builders.{step_state, item_head, list_state, dictionary_state, IsItemUnder};
+ghost use Rattle.sfv_tree.specs.Builders.{ListAddsUnder, DictionaryAddsUnder};
 ghost use Rattle.sfv_tree.specs.ProvidedVisitors.{item_kept};
 
 use crate::expect_item::{ExpectItem, ExpectedItem};

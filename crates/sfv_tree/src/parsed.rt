@@ -9,8 +9,8 @@ ghost use Rattle.sfv_values.specs.CheckedTexts.{text_of};
 ghost use Rattle.sfv_spec.specs.Values.{item, inner_list};
 ghost use Rattle.sfv_tree.specs.HashSeeds.{library_seed};
 ghost use Rattle.sfv_tree.specs.Seeds.{member_seeds};
-ghost use Rattle.sfv_tree.specs.Trees.{item_tree, pairs_tree, inner_list_tree};
-ghost use Rattle.sfv_tree.specs.Trees.{member_tree, dictionary_tree, found_member, found_value, NeedsNoMemory};
+ghost use Rattle.sfv_tree.specs.Trees.{item_tree, pairs_tree, inner_list_tree, member_tree, dictionary_tree};
+ghost use Rattle.sfv_tree.specs.Trees.{found_member, found_value, NeedsNoMemory};
 ghost use Rattle.sfv_tree.specs.declared.parsed.ListEntry.TheVariants as entries;
 
 use crate::hash_seed::HashSeed;

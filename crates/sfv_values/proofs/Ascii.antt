@@ -7,8 +7,8 @@ use Rattle.std.proofs.lemmas.Str.{IsUtf8-from_ascii}
 use Rattle.std.proofs.lemmas.Bool.{and_parts}
 use Rattle.std.proofs.lemmas.Bool.Decides.{nat_tests}
 use Rattle.sfv_spec.specs.Texts.{RunOf}
-use Rattle.sfv_spec.specs.Classes.{is_key_start, is_key_inner, is_key, is_string_byte}
-use Rattle.sfv_spec.specs.Classes.{is_token_start, is_token_inner, is_token}
+use Rattle.sfv_spec.specs.Classes.{is_key_start, is_key_inner, is_key, is_string_byte, is_token_start, is_token_inner}
+use Rattle.sfv_spec.specs.Classes.{is_token}
 
 run_ascii : (class : ℕ → Bool) → ((c : ℕ) → class c ≡ true → c < 128)
     → (t : List ℕ) → RunOf class t → IsAscii t

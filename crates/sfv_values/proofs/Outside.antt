@@ -1,6 +1,6 @@
 -- The first byte outside of a class is where the run of the class ends; where there is none, each byte is of it.
-use Rattle.std.proofs.Common.{◌≡◌, ℕ, ◌+◌, Bool, true, false, not, List, [], ◌∷◌, Some, None, length, cond}
-use Rattle.std.proofs.Common.{nat_lt, arith, refl, sym, ap₂, ◌∙◌}
+use Rattle.std.proofs.Common.{◌≡◌, ℕ, ◌+◌, Bool, true, false, not, List, [], ◌∷◌, Some, None, length, cond, nat_lt}
+use Rattle.std.proofs.Common.{arith, refl, sym, ap₂, ◌∙◌}
 use Rattle.std.specs.List.{list_all, position, prefix_len}
 use Rattle.std.proofs.lemmas.Grind.{common_steps}
 use Rattle.std.proofs.lemmas.Bool.Decides.{nat_tests}

@@ -1,7 +1,7 @@
 -- The errors of the constructors of keys, tokens and strings.
 use Rattle.std.specs.Prelude.{◌≡◌, ℕ, List, [], Bool, Some, None, ◌⊎◌}
-use Rattle.sfv_spec.specs.Classes.{first_outside, is_string_byte}
-use Rattle.sfv_spec.specs.Classes.{is_key_start, is_key_inner, is_token_start, is_token_inner}
+use Rattle.sfv_spec.specs.Classes.{first_outside, is_string_byte, is_key_start, is_key_inner, is_token_start}
+use Rattle.sfv_spec.specs.Classes.{is_token_inner}
 use Rattle.sfv_base.specs.declared.error.Error.{Error}
 use Rattle.sfv_spec.specs.declared.error_kind.ErrorKind.TheVariants.{Empty, InvalidCharacter}
 use Rattle.sfv_base.specs.Errors.{error_of}

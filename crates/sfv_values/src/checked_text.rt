@@ -2,8 +2,8 @@
 
 ghost use Rattle.std.specs.Prelude.{◌≡◌, Some, refl, nat_eq, string_bytes, IsTrue};
 ghost use Rattle.std.specs.Fmt.{debug_variant, debug_str};
-ghost use Rattle.std.specs.Cmp.Lexicographic.{pointwise, slice_cmp, texts_ties, texts_po};
-ghost use Rattle.std.specs.Cmp.Lexicographic.{nat_list_eq_equiv, nat_list_cmp_total};
+ghost use Rattle.std.specs.Cmp.Lexicographic.{pointwise, slice_cmp, texts_ties, texts_po, nat_list_eq_equiv};
+ghost use Rattle.std.specs.Cmp.Lexicographic.{nat_list_cmp_total};
 ghost use Rattle.std.specs.Cmp;
 ghost use Rattle.std.specs.Ordering.{nat_cmp};
 ghost use Rattle.std.specs.Cmp.Rules.{hashing};

@@ -1,11 +1,16 @@
--- All members are written, as they are lent.
-use Rattle.std.proofs.Common.{◌≡◌, ℕ, true, List, [], ◌∷◌, ◌++◌, map, sym, ap, subst, ◌∙◌}
-use Rattle.std.specs.Prelude.{string_bytes}
+-- All parts that an iterator over a slice or a map gives are written.
+use Rattle.std.proofs.Common.{◌≤◌, ℕ, true, List, [], ◌∷◌, ◌++◌, map, string_bytes, string_capacity, sym, ap, subst}
+use Rattle.std.proofs.Common.{◌∙◌, Result, Ok, Err}
+use Rattle.std.specs.Prelude.{Option, OnOk, OnErr}
 use Rattle.std.specs.List.{AllByRecursion}
 use Rattle.std.specs.declared.string.String.{String}
 use Rattle.std.proofs.lemmas.Simd.{map-map}
 use Rattle.sfv_spec.specs.Texts.{joined}
-use Rattle.sfv_writer.specs.Written.{with_separators}
+use Rattle.sfv_spec.specs.Values.{BareValue}
+use Rattle.sfv_writer.specs.Versions.{AppendsParts, LacksForParts, parts_by}
+use Rattle.sfv_writer.specs.Written.{Appends, AsksForRoom, Extends}
+use Rattle.sfv_writer.proofs.Lent.{GivesAll}
+use Rattle.sfv_writer.proofs.RoomOfIterators.{front_lacks}
 use Rattle.sfv_writer.proofs.Separated.{in_a_row_first}
 
 -- what holds of what each lends holds of all that is lent
@@ -14,14 +19,21 @@ lent_each : {A B : Type 0} (lent : A → B) (P : B → Type 0) (xs : List A) →
 lent_each lent P [] h = tt
 lent_each lent P (x ∷ xs) h = (h.0, lent_each lent P xs h.1)
 
--- parts that are taken from the first on, to the end, are written as the whole is
-pub all_written : {Z A B : Type 0} (lent : A → B) (text_of : B → List ℕ) (IsGood : B → Type 0) (s : List ℕ)
-    (ys : List B) (Whole : Type 0) (old new : String Z) (xs : List A) → map lent xs ≡ ys → (AllByRecursion IsGood ys → Whole)
-    → string_bytes new ≡ string_bytes old ++ with_separators true s (map (λ x. text_of (lent x)) xs)
-    → AllByRecursion (λ x. IsGood (lent x)) xs
-    → (string_bytes new ≡ string_bytes old ++ joined s (map text_of ys)) × Whole
-all_written lent text_of IsGood s ys Whole old new xs is whole w good = (
-  w ∙ ap (λ (t : List ℕ). string_bytes old ++ t) (in_a_row_first s (map (λ x. text_of (lent x)) xs)
-      ∙ ap (joined s) (sym (map-map text_of lent xs) ∙ ap (map text_of) is)),
-  whole (subst (AllByRecursion IsGood) is (lent_each lent IsGood xs good)),
-)
+-- the text, the room and the parts of the whole
+pub whole_written : {Z T E A B S : Type 0} (gives : S → Option A → S → Type 0) (from : S) (lent : A → B)
+    (text_of : B → List ℕ) (values : B → List BareValue) (IsGood : B → Type 0) (s : List ℕ) (ys : List B)
+    (old new : String Z) (r : Result T E) → GivesAll gives from lent ys
+    → OnOk r (AppendsParts (parts_by lent text_of values IsGood) gives from s true old new)
+    → OnErr r (LacksForParts (parts_by lent text_of values IsGood) gives from s true old)
+    → string_capacity old ≤ string_capacity new → OnErr r (Extends (string_bytes old) (string_bytes new))
+    → Appends old new (joined s (map text_of ys)) r × AsksForRoom old new (joined s (map text_of ys)) r
+    × OnOk r (AllByRecursion IsGood ys)
+whole_written gives from lent text_of values IsGood s ys old new (Ok v) whole w l c k =
+    let is = whole.all w.0 w.1 in (
+      w.3 ∙ ap (λ (t : List ℕ). string_bytes old ++ t) (in_a_row_first s (map (λ x. text_of (lent x)) w.0)
+          ∙ ap (joined s) (sym (map-map text_of lent w.0) ∙ ap (map text_of) is)),
+      (c, tt),
+      subst (AllByRecursion IsGood) is (lent_each lent IsGood w.0 w.2),
+    )
+whole_written gives from lent text_of values IsGood s ys old new (Err e) whole w l c k =
+    let more = whole.front l.0 l.1 l.2 in (k, (c, front_lacks lent text_of s old l.0 ys more.0 more.1 l.3), tt)

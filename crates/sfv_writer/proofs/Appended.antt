@@ -36,6 +36,10 @@ both_after {T} {E} old text mid more rest new r e h =
     subst (λ t. MatchResult r (λ _. new ≡ old ++ t) (λ _. Extends old new)) (sym (append_assoc text more rest))
     (after old text mid (more ++ rest) new r e h)
 
+-- a text that extends a longer one extends the old one
+pub grows : (old text mid new : List ℕ) → mid ≡ old ++ text → Extends mid new → Extends old new
+grows old text mid new e h = (text ++ h.0, next old text mid h.0 new e h.1)
+
 -- what may have been added after both
 pub grows_after : {T E : Type 0} (old text mid new : List ℕ) (r : Result T E) → mid ≡ old ++ text
     → OnErr r (Extends mid new) → OnErr r (Extends old new)

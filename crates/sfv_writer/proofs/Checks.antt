@@ -1,34 +1,27 @@
 -- Values that are looked at one after another.
-use Rattle.std.proofs.Common.{◌≡◌, ℕ, zero, suc, ◌+◌, ◌<◌, List, [], ◌∷◌, ◌++◌, length, get_or, map, take, refl, sym, ap}
+use Rattle.std.proofs.Common.{◌≡◌, ℕ, zero, suc, ◌<◌, List, [], ◌∷◌, ◌++◌, length, get_or, map, take, refl, sym, ap}
 use Rattle.std.proofs.Common.{subst, ◌∙◌, length-append, Result, Ok, Err, inl, inr, arith}
-use Rattle.std.specs.Prelude.{⊤, not, Option, Some, None, flat_map, MatchResult, IfErr, IsErrAnd}
-use Rattle.std.specs.Borrow.{Bor}
+use Rattle.std.specs.Prelude.{⊤, not, Option, Some, flat_map, MatchResult, IfErr, IsErrAnd}
 use Rattle.std.specs.Iterator.{Yields, Drains}
 use Rattle.std.specs.List.{find}
-use Rattle.std.specs.Map.Iter.{TakesFirst, deref}
 use Rattle.std.proofs.lemmas.Result.{err_from_is_err_and}
 use Rattle.std.proofs.lemmas.List.Concat.{flat_map-append}
 use Rattle.std.proofs.lemmas.List.Folds.{flat_map-map}
-use Rattle.std.proofs.lemmas.Map.Iter.{rest_so_far, rest_more, iter_end}
-use Rattle.std.proofs.lemmas.List.{map-append}
 use Rattle.std.proofs.iter.Next.{Yields-more}
-use Rattle.sfv_spec.specs.Values.{BareValue}
+use Rattle.sfv_spec.specs.Values.{BareValue, RawField, HasMember, bare_values, fits_bare, AllFit, member_values}
 use Rattle.sfv_spec.specs.declared.field_kind.FieldKind.{FieldKind}
 use Rattle.sfv_spec.specs.declared.field_kind.FieldKind.TheVariants.{Item as item_field, List as list_field}
 use Rattle.sfv_spec.specs.declared.field_kind.FieldKind.TheVariants.{Dictionary as dictionary_field}
 use Rattle.sfv_spec.specs.declared.version.Version.{Version}
 use Rattle.sfv_spec.specs.declared.version.Version.TheVariants.{Rfc9651}
-use Rattle.sfv_spec.specs.Values.{RawField, HasMember}
-use Rattle.sfv_spec.specs.Values.{bare_values}
-use Rattle.sfv_spec.specs.Values.{fits_bare, AllFit}
 use Rattle.sfv_values.specs.BareItems.{bare_value}
 use Rattle.sfv_tree.specs.Trees.{OwnedBareItem, pairs_tree, member_tree, dictionary_tree}
 use Rattle.sfv_tree.specs.declared.parsed.ListEntry.{ListEntry}
 use Rattle.std.specs.Map.{values_of}
 use Rattle.sfv_spec.proofs.Given.{found_front, found_after, newer_has_all}
-use Rattle.sfv_writer.proofs.Separated.{mapped_more}
-use Rattle.sfv_writer.specs.Versions.{NamesFirstUnfit, ChecksVersion, ChecksVersionFirst, IsSerializeError, FailsAmong, FailsFrom}
-use Rattle.sfv_spec.specs.Values.{member_values}
+use Rattle.sfv_writer.proofs.Lent.{GivesAll}
+use Rattle.sfv_writer.specs.Versions.{NamesFirstUnfit, ChecksVersion, ChecksAll, ChecksVersionFirst, IsSerializeError}
+use Rattle.sfv_writer.specs.Versions.{FailsAmong, FailsFrom}
 use Rattle.sfv_spec.proofs.Marks.{parameter_values}
 use Rattle.sfv_spec.proofs.Fields.{fit_append}
 use Rattle.sfv_writer.specs.declared.serialize_error.SerializeError.{SerializeError}
@@ -152,50 +145,19 @@ split_at [] n x lt is = absurd (omega (arith, lt))
 split_at (y ∷ ys) zero x lt is = (ys, ap (λ z. z ∷ ys) (sym is))
 split_at (y ∷ ys) (suc n) x lt is = let p = split_at ys n x (omega (arith, lt)) is in (p.0, ap (λ zs. y ∷ zs) p.1)
 
--- ---- each value of a map, as an iterator lends it
+-- ---- each of a whole, as an iterator lends it
 
-module _ {X : Type 0} (version : Version) (values : X → List BareValue) where
-  -- what was lent so far, seen without the loan
-  so_far : (xs : List (Bor X)) → AllFit version (flat_map (λ x. values x.now) xs)
-      → AllFit version (flat_map values (map deref xs))
-  so_far xs h = subst (AllFit version) (sym (flat_map-map values deref xs)) h
-
-  -- one has a value that doesn't fit
-  pub shown_stops : (s t u : List X) (xs : List (Bor X)) (r : Option (Bor X)) (x : Bor X) (e : SerializeError)
-      → Yields (TakesFirst deref) s xs t → r ≡ Some x → TakesFirst deref t r u
-      → AllFit version (flat_map (λ x. values x.now) xs) → NamesFirstUnfit version (values x.now) e
-      → NamesFirstUnfit version (flat_map values s) e
-  shown_stops s t u xs r x e y is step h k =
-      let whole : s ≡ map deref xs ++ x.now ∷ u =
-      rest_so_far deref xs s t y ∙ ap (λ l. map deref xs ++ l) (rest_more deref t u r x is step) in
-      subst (λ l. NamesFirstUnfit version (flat_map values l) e) (sym whole)
-      (each_stops version values (map deref xs) x.now u e (so_far xs h) k)
-
-  -- all that was lent is all of it
-  pub shown_all : (all s t u : List X) (xs : List (Bor X)) (r : Option (Bor X)) → s ≡ all
-      → Yields (TakesFirst deref) s xs t → r ≡ None → TakesFirst deref t r u
-      → AllFit version (flat_map (λ x. values x.now) xs) → AllFit version (flat_map values all)
-  shown_all all s t u xs r start y is step h =
-      subst (λ l. AllFit version (flat_map values l)) (iter_end deref all xs s t u r start y is step).0 (so_far xs h)
-
--- ---- each of a slice
-
-module _ {A B : Type 0} (version : Version) (tree : A → B) (values : B → List BareValue) where
-  pub slice_more : (xs : List A) (n : ℕ) (x : A) → n < length xs → x ≡ get_or xs n x
-      → AllFit version (flat_map values (map tree (take n xs))) → AllFit version (values (tree x))
-      → AllFit version (flat_map values (map tree (take (n + 1) xs)))
-  slice_more xs n x lt is h k =
-      subst (λ l. AllFit version (flat_map values l)) (sym (mapped_more tree xs n x lt is))
-      (each_more version values (map tree (take n xs)) (tree x) h k)
-
-  pub slice_stops : (xs : List A) (n : ℕ) (x : A) (e : SerializeError) → n < length xs → x ≡ get_or xs n x
-      → AllFit version (flat_map values (map tree (take n xs))) → NamesFirstUnfit version (values (tree x)) e
-      → NamesFirstUnfit version (flat_map values (map tree xs)) e
-  slice_stops xs n x e lt is h k =
-      let p = split_at xs n x lt is in
-      subst (λ l. NamesFirstUnfit version (flat_map values l) e)
-      (sym (map-append tree (take n xs) (x ∷ p.0)) ∙ ap (map tree) (sym p.1))
-      (each_stops version values (map tree (take n xs)) (tree x) (map tree p.0) e h k)
+pub checks_whole : {A B S T : Type 0} {gives : S → Option A → S → Type 0} {from : S} {lent : A → B} {ys : List B}
+    (values : B → List BareValue) (version : Version) (r : Result T SerializeError) → GivesAll gives from lent ys
+    → ChecksAll (λ x. values (lent x)) version gives from r → ChecksVersion version (flat_map values ys) r
+checks_whole {lent = lent} values version (Ok v) whole h = subst (AllFit version)
+    (sym (flat_map-map values lent h.0) ∙ ap (flat_map values) (whole.all h.0 h.1)) h.2
+checks_whole {lent = lent} values version (Err e) whole h =
+    let more = whole.front h.0 h.1 h.2 in
+    subst (λ bs. NamesFirstUnfit version bs e)
+    (sym (ap (flat_map values) more.1 ∙ flat_map-append values (map lent h.0) more.0))
+    (names_front version (flat_map values (map lent h.0)) (flat_map values more.0) e
+    (subst (λ bs. NamesFirstUnfit version bs e) (sym (flat_map-map values lent h.0)) h.3))
 
 -- the values of parameters, one by one
 pub singles : {A : Type 0} (f : A → BareValue) (xs : List A) → flat_map (λ x. f x ∷ []) xs ≡ map f xs
@@ -228,12 +190,12 @@ named_has_member version dictionary_field (m ∷ ms) e h = (m, ms, refl)
 
 -- the values of parameters, as a map lends them
 pub param_values : (es : List (List ℕ × OwnedBareItem))
-    → flat_map (λ v. bare_value v ∷ []) (values_of es) ≡ parameter_values (pairs_tree es)
+    → flat_map (λ b. b ∷ []) (map bare_value (values_of es)) ≡ parameter_values (pairs_tree es)
 param_values [] = refl
 param_values (e ∷ es) = ap (λ l. bare_value e.1 ∷ l) (param_values es)
 
 -- and those of the members of a dictionary
 pub entry_values : (es : List (List ℕ × ListEntry))
-    → flat_map (λ m. member_values (member_tree m)) (values_of es) ≡ bare_values dictionary_field (dictionary_tree es)
+    → flat_map member_values (map member_tree (values_of es)) ≡ bare_values dictionary_field (dictionary_tree es)
 entry_values [] = refl
 entry_values (e ∷ es) = ap (λ l. member_values (member_tree e.1) ++ l) (entry_values es)

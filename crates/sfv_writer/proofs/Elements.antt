@@ -1,6 +1,6 @@
 -- What a call took from an iterator before it failed.
-use Rattle.std.proofs.Common.{◌≡◌, ◌<◌, ℕ, Bool, true, false, List, [], ◌∷◌, ◌++◌, length, refl, sym, ap, subst, ◌∙◌, arith}
-use Rattle.std.proofs.Common.{inl, string_bytes, Result, Ok, Err}
+use Rattle.std.proofs.Common.{◌≡◌, ◌<◌, ℕ, Bool, true, false, List, [], ◌∷◌, ◌++◌, length, refl, sym, ap, subst, ◌∙◌}
+use Rattle.std.proofs.Common.{arith, inl, string_bytes, Result, Ok, Err}
 use Rattle.std.specs.Prelude.{Option, IfErr, OnOk, flat_map}
 use Rattle.std.specs.Borrow.{Bor}
 use Rattle.std.specs.Iterator.{Drains}
@@ -71,6 +71,12 @@ valid_as : (pairs : List (Bor (List ℕ) × Bor OwnedBareItem)) → AreParameter
     → AllByRecursion parameter_pairs.is_valid pairs
 valid_as [] h = tt
 valid_as (p ∷ ps) h = (h.0, valid_as ps h.1)
+
+-- and the other way round
+pub as_valid : (pairs : List (Bor (List ℕ) × Bor OwnedBareItem)) → AllByRecursion parameter_pairs.is_valid pairs
+    → AreParameters (lent_pairs pairs)
+as_valid [] h = tt
+as_valid (p ∷ ps) h = (h.0, as_valid ps h.1)
 
 module _ {S Z T : Type 0} (version : Version) (gives : S → Option (Bor (List ℕ) × Bor OwnedBareItem) → S → Type 0)
     (from : S) (old new : String Z) (r : Result T SerializeError) where

@@ -11,5 +11,6 @@ pub mod Checks
 pub mod Lent
 pub mod Separated
 pub mod AllTaken
+pub mod Taken
 pub mod Elements
 pub mod Words

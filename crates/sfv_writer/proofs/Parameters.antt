@@ -4,7 +4,7 @@ use Rattle.std.specs.Prelude.{IsTrue, Result, Ok, Err, OnOk}
 use Rattle.std.specs.Borrow.{Bor}
 use Rattle.std.proofs.lemmas.List.{append-nil}
 use Rattle.sfv_spec.specs.Classes.{is_key}
-use Rattle.sfv_spec.specs.Values.{BareValue, RawParameters, RawItem, IsBareValue, AreParameters}
+use Rattle.sfv_spec.specs.Values.{BareValue, RawParameters, RawItem, IsBareValue, AreParameters, AllFit}
 use Rattle.sfv_spec.specs.declared.field_kind.FieldKind.TheVariants.{Item as item_field}
 use Rattle.sfv_spec.specs.Statements.{IsValue}
 use Rattle.sfv_spec.proofs.Distinct.{item_own}
@@ -12,7 +12,6 @@ use Rattle.sfv_spec.specs.declared.version.Version.{Version}
 use Rattle.sfv_spec.proofs.Repeats.{no_repeats}
 use Rattle.sfv_spec.proofs.Marks.{keys}
 use Rattle.sfv_spec.specs.Canonical.{parameters_text}
-use Rattle.sfv_spec.specs.Values.{AllFit}
 use Rattle.sfv_values.specs.BareItems.{bare_value}
 use Rattle.sfv_tree.specs.Trees.{OwnedBareItem, pairs_tree}
 use Rattle.sfv_writer.specs.Written.{param_text}

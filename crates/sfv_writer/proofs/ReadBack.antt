@@ -1,12 +1,10 @@
 -- What is written is read back.
-use Rattle.std.proofs.Common.{◌≡◌, ℕ, List, sym, subst, refl}
+use Rattle.std.proofs.Common.{◌≡◌, ◌++◌, ◌∙◌, ℕ, List, [], ap, sym, subst, refl}
 use Rattle.std.specs.Prelude.{Option, Some, None}
-use Rattle.sfv_spec.specs.Values.{RawField, IsFieldValue}
+use Rattle.sfv_spec.specs.Values.{RawField, IsFieldValue, HasMember, bare_values, Fits}
 use Rattle.sfv_spec.specs.declared.field_kind.FieldKind.{FieldKind}
 use Rattle.sfv_spec.specs.declared.version.Version.{Version}
 use Rattle.sfv_spec.specs.declared.version.Version.TheVariants.{Rfc8941, Rfc9651}
-use Rattle.sfv_spec.specs.Values.{bare_values}
-use Rattle.sfv_spec.specs.Values.{Fits}
 use Rattle.sfv_spec.specs.Ordered.{ordered}
 use Rattle.sfv_spec.specs.Grammar.{IsFieldText}
 use Rattle.sfv_spec.specs.Statements.{IsValue, IsParsedAs, IsSerializedAs}
@@ -45,9 +43,15 @@ written_for version kind value t v fits e =
     (e, subst (λ s. IsParsedAs version kind s value) (sym e) (value_read_back version kind value v fits))
 
 -- under RFC 9651 every value fits
-pub written : (kind : FieldKind) (value : RawField kind) (t : List ℕ) → IsValue kind value → t ≡ canonical kind value
+written : (kind : FieldKind) (value : RawField kind) (t : List ℕ) → IsValue kind value → t ≡ canonical kind value
     → IsWritten Rfc9651 kind value t
 written kind value t v e = written_for Rfc9651 kind value t v (all_fit_newer (bare_values kind value)) e
+
+-- a value that is written to an empty text is serialized
+pub serialized : (kind : FieldKind) (value : RawField kind) (old new : List ℕ) → HasMember kind value → old ≡ []
+    → new ≡ old ++ canonical kind value → IsValue kind value → IsSerializedAs Rfc9651 kind value (Some new)
+serialized kind value old new some empty is v =
+    let w = written kind value new v (is ∙ ap (λ (t : List ℕ). t ++ canonical kind value) empty) in (some, w.0, w.1)
 
 -- a parsed value has its parts in range and no repeated keys
 parsed_is_value : (version : Version) (kind : FieldKind) (value : RawField kind) (t : List ℕ)

@@ -1,6 +1,6 @@
 -- Room for what is added to a text.
-use Rattle.std.proofs.Common.{◌≡◌, ◌≤◌, ◌+◌, ℕ, Bool, true, List, [], ◌∷◌, ◌++◌, length, string_bytes, string_len, string_capacity}
-use Rattle.std.proofs.Common.{ap, sym, arith, refl, Result, Ok, Err}
+use Rattle.std.proofs.Common.{◌≡◌, ◌≤◌, ◌+◌, ℕ, Bool, true, List, [], ◌∷◌, ◌++◌, length, string_bytes, string_len}
+use Rattle.std.proofs.Common.{string_capacity, ap, sym, arith, refl, Result, Ok, Err}
 use Rattle.std.specs.Prelude.{flat_map}
 use Rattle.std.specs.declared.string.String.{String}
 use Rattle.std.specs.List.{list_all}

@@ -1,6 +1,6 @@
 -- Room for parts that an iterator gives one after another.
-use Rattle.std.proofs.Common.{◌≡◌, ◌≤◌, ◌<◌, ◌+◌, ℕ, suc, Bool, true, false, List, [], ◌∷◌, ◌++◌, length, get_or, map, take, string_bytes, string_capacity}
-use Rattle.std.proofs.Common.{refl, sym, ap, subst, ◌∙◌, arith, Result, Ok, Err}
+use Rattle.std.proofs.Common.{◌≡◌, ◌≤◌, ◌+◌, ℕ, Bool, true, false, List, [], ◌∷◌, ◌++◌, length, map, string_bytes}
+use Rattle.std.proofs.Common.{string_capacity, refl, sym, ap, subst, ◌∙◌, arith, Result, Ok, Err}
 use Rattle.std.specs.Prelude.{Option, Some, IfErr, IsErrAnd}
 use Rattle.std.specs.Borrow.{Bor}
 use Rattle.std.specs.Iterator.{Yields, Drains}
@@ -11,10 +11,9 @@ use Rattle.std.proofs.lemmas.List.{length-append, map-append}
 use Rattle.std.proofs.lemmas.List.Concat.{flat_map-append}
 use Rattle.std.proofs.lemmas.Simd.{map-map}
 use Rattle.sfv_spec.specs.Texts.{joined}
-use Rattle.sfv_spec.specs.Values.{BareValue, RawParameters}
+use Rattle.sfv_spec.specs.Values.{BareValue, RawParameters, AllFit}
 use Rattle.sfv_spec.specs.declared.version.Version.{Version}
 use Rattle.sfv_spec.specs.Canonical.{parameters_text}
-use Rattle.sfv_spec.specs.Values.{AllFit}
 use Rattle.sfv_values.specs.BareItems.{bare_value}
 use Rattle.sfv_tree.specs.Trees.{OwnedBareItem, pairs_tree}
 use Rattle.sfv_writer.specs.Written.{LacksRoom, separator_before, with_separators, is_first_after, param_text}
@@ -22,12 +21,11 @@ use Rattle.sfv_writer.specs.Pairs.{lent_pairs}
 use Rattle.sfv_writer.specs.Versions.{NamesFirstUnfit, LacksAmong, parameter_pairs, parts_text}
 use Rattle.sfv_writer.proofs.Elements.{text_as}
 use Rattle.sfv_writer.specs.declared.serialize_error.SerializeError.{SerializeError}
-use Rattle.sfv_writer.proofs.Appended.{next}
 use Rattle.sfv_writer.proofs.Lent.{lent_all, pairs_front}
-use Rattle.sfv_writer.proofs.Checks.{at_exit, split_at}
+use Rattle.sfv_writer.proofs.Checks.{at_exit}
 use Rattle.sfv_writer.proofs.Parameters.{parameters_push, lent_push}
-use Rattle.sfv_writer.proofs.Room.{len_of, room_after, room_before, room_shorter}
-use Rattle.sfv_writer.proofs.Separated.{IsLed, IsRow, in_a_row_first, in_a_row_push, is_first_after-false}
+use Rattle.sfv_writer.proofs.Room.{room_after, room_before, room_shorter}
+use Rattle.sfv_writer.proofs.Separated.{in_a_row_first, is_first_after-false}
 
 -- ---- what an iterator gives
 
@@ -76,34 +74,6 @@ lacks_after steps rest values version b old mid first text (Err x) f e c h =
 
 -- ---- parts in order
 
-module _ {Z A : Type 0} (text_of : A → List ℕ) (IsGood : A → Type 0) (s : List ℕ) (xs : List A) (was_first is_first : Bool)
-    (old output : String Z) (x : A)
-    (row : IsLed text_of IsGood s xs was_first is_first (string_bytes old) (string_bytes output))
-    (grown : string_capacity old ≤ string_capacity output) where
-  with_one_more : with_separators was_first s (map text_of (xs ++ x ∷ []))
-      ≡ (with_separators was_first s (map text_of xs) ++ separator_before is_first s) ++ text_of x
-  with_one_more = in_a_row_push text_of s was_first xs x
-      ∙ ap (λ (b : Bool). (with_separators was_first s (map text_of xs) ++ separator_before b s) ++ text_of x) (sym row.first)
-
-  -- there is no room for the separator
-  pub separator_lacks : LacksRoom output (separator_before is_first s) → LacksRoom old (with_separators was_first s (map text_of (xs ++ x ∷ [])))
-  separator_lacks h =
-      let so_far : List ℕ = with_separators was_first s (map text_of xs) in
-      subst (λ (l : List ℕ). LacksRoom old l) (sym with_one_more)
-      (room_before old (so_far ++ separator_before is_first s) (text_of x)
-      (room_after old output so_far (separator_before is_first s) row.text grown h))
-
-  -- or for the part after it
-  pub part_lacks : (ready : String Z) → string_bytes ready ≡ string_bytes output ++ separator_before is_first s
-      → string_capacity output ≤ string_capacity ready → LacksRoom ready (text_of x)
-      → LacksRoom old (with_separators was_first s (map text_of (xs ++ x ∷ [])))
-  part_lacks ready e c h =
-      let so_far : List ℕ = with_separators was_first s (map text_of xs) in
-      subst (λ (l : List ℕ). LacksRoom old l) (sym with_one_more)
-      (room_after old ready (so_far ++ separator_before is_first s) (text_of x)
-      (next (string_bytes old) so_far (string_bytes output) (separator_before is_first s) (string_bytes ready) row.text e)
-      (omega (arith, grown, c)) h)
-
 -- the length of parts in order
 row_cons : (s : List ℕ) (b : Bool) (x : List ℕ) (xs : List (List ℕ))
     → length (with_separators b s (x ∷ xs)) ≡ length (separator_before b s) + (length x + length (with_separators false s xs))
@@ -147,78 +117,6 @@ front_lacks lent text_of s old xs ys more is h =
     room_shorter old (with_separators true s (map (λ x. text_of (lent x)) xs)) (joined s (map text_of ys))
     (rw (sym (map-map text_of lent xs), whole, sym (in_a_row_first s (front ++ map text_of more))) short) h
 
--- ---- items of a slice; the first is written before the others
-
-module _ {Z A B : Type 0} (f : A → B) (text_of : B → List ℕ) (IsGood : B → Type 0) (s : List ℕ) (items : List A) (first : A)
-    (others : List A) (old : String Z) (whole : items ≡ first ∷ others) where
-  -- there is no room for the first
-  pub first_lacks : LacksRoom old (text_of (f first)) → LacksRoom old (joined s (map text_of (map f items)))
-  first_lacks h =
-      let rest : List (List ℕ) = map text_of (map f others) in
-      room_shorter old (text_of (f first)) (joined s (map text_of (map f items)))
-      (rw (whole, sym (in_a_row_first s (text_of (f first) ∷ rest)))
-      (omega (arith, length-append (text_of (f first)) (with_separators false s rest)))) h
-
-  module _ (i : ℕ) (x : A) (lt : i < length others) (is : x ≡ get_or others i x) (output : String Z)
-      (row : IsRow text_of IsGood s (map f (take (suc i) items)) false (string_bytes old) (string_bytes output))
-      (grown : string_capacity old ≤ string_capacity output) where
-    long : length (joined s (map text_of (map f (take (suc i) items)))) + length s + length (text_of (f x))
-        ≤ length (joined s (map text_of (map f items)))
-    long =
-        let p = split_at others i x lt is in
-        let front : List (List ℕ) = map text_of (map f (take i others)) in
-        let after : List (List ℕ) = map text_of (map f p.0) in
-        let all : map text_of (map f items) ≡ (text_of (f first) ∷ front) ++ text_of (f x) ∷ after =
-        ap (λ l. map text_of (map f l)) whole
-        ∙ ap (λ (l : List (List ℕ)). text_of (f first) ∷ l) (ap (λ l. map text_of (map f l)) p.1
-        ∙ ap (map text_of) (map-append f (take i others) (x ∷ p.0))
-        ∙ map-append text_of (map f (take i others)) (f x ∷ map f p.0)) in
-        let so_far : map text_of (map f (take (suc i) items)) ≡ text_of (f first) ∷ front =
-        ap (λ l. map text_of (map f (take (suc i) l))) whole in
-        rw (
-          so_far,
-          all,
-          sym (in_a_row_first s (text_of (f first) ∷ front)),
-          sym (in_a_row_first s ((text_of (f first) ∷ front) ++ text_of (f x) ∷ after)),
-        )
-        (row_len s true (text_of (f first) ∷ front) (text_of (f x)) after)
-
-    -- there is no room for the separator
-    pub space_lacks : LacksRoom output s → LacksRoom old (joined s (map text_of (map f items)))
-    space_lacks h =
-        let so_far : List ℕ = joined s (map text_of (map f (take (suc i) items))) in
-        omega (
-          arith,
-          long,
-          grown,
-          len_of old,
-          len_of output,
-          ap (length {A = ℕ}) row.text,
-          length-append (string_bytes old) so_far,
-          h,
-        )
-
-    -- or for the item after it
-    pub item_lacks : (ready : String Z) → string_bytes ready ≡ string_bytes output ++ s
-        → string_capacity output ≤ string_capacity ready → LacksRoom ready (text_of (f x))
-        → LacksRoom old (joined s (map text_of (map f items)))
-    item_lacks ready e c h =
-        let so_far : List ℕ = joined s (map text_of (map f (take (suc i) items))) in
-        omega (
-          arith,
-          long,
-          grown,
-          c,
-          len_of old,
-          len_of output,
-          len_of ready,
-          ap (length {A = ℕ}) row.text,
-          length-append (string_bytes old) so_far,
-          ap (length {A = ℕ}) e,
-          length-append (string_bytes output) s,
-          h,
-        )
-
 -- ---- the elements of a map or a slice, some of which were taken
 
 -- no room for the parameters that were taken
@@ -243,7 +141,7 @@ parameters_lack old s t taken ran h =
 pub parameters_all : (es : List (List ℕ × OwnedBareItem)) (taken : List (Bor (List ℕ) × Bor OwnedBareItem))
     → ShowsInOrder (deref_pair {K = List ℕ} {X = OwnedBareItem}) → Drains (TakesFirst deref_pair) es taken
     → parts_text parameter_pairs [] true taken ≡ parameters_text (pairs_tree es)
-parameters_all es taken runs all = text_as true taken ∙ ap parameters_text (lent_all es taken runs all)
+parameters_all es taken runs all = text_as true taken ∙ ap parameters_text (lent_all es taken all)
 
 -- no room for the text with one more parameter
 module _ {Z : Type 0} (k : Bor (List ℕ)) (v : Bor OwnedBareItem) (ps : List (Bor (List ℕ) × Bor OwnedBareItem))

@@ -1,84 +1,17 @@
 -- Parts that are written in a row, with a separator between each two.
-use Rattle.std.proofs.Common.{◌≡◌, ℕ, suc, ◌+◌, ◌<◌, ◌≤◌, Bool, true, false, cond, List, [], ◌∷◌, ◌++◌, length}
-use Rattle.std.proofs.Common.{get_or, map, take}
-use Rattle.std.proofs.Common.{refl, sym, ap, subst, ◌∙◌, append_assoc, Result, Ok, Err, arith}
+use Rattle.std.proofs.Common.{◌≡◌, ℕ, ◌+◌, ◌<◌, Bool, true, false, List, [], ◌∷◌, ◌++◌, length, get_or, map, take, refl}
+use Rattle.std.proofs.Common.{sym, ap, ◌∙◌, append_assoc, Result, Ok, Err, arith}
 use Rattle.std.specs.Prelude.{IfErr, OnOk}
 use Rattle.std.specs.List.{AllByRecursion}
-use Rattle.std.proofs.lemmas.List.{take_more, take_all, map-append, append-nil}
+use Rattle.std.proofs.lemmas.List.{take_more, map-append, append-nil}
 use Rattle.sfv_spec.specs.Texts.{joined}
 use Rattle.sfv_writer.specs.Written.{separator_before, with_separators, is_first_after}
 
--- whether there are none
-abbrev pub is_none : {A : Type 0} → List A → Bool
-is_none [] = true
-is_none (x ∷ xs) = false
-
--- What is known when these parts are written: the next is the first if there are none, the text, and that each is good.
-pub record IsRow {A : Type 0} (text_of : A → List ℕ)
-    (IsGood : A → Type 0) (separator : List ℕ) (xs : List A) (is_first : Bool) (before output : List ℕ) : Type 0 where
-  pub first : is_first ≡ is_none xs
-  pub text : output ≡ before ++ joined separator (map text_of xs)
-  pub good : AllByRecursion IsGood xs
-
-joined_after : (s x y : List ℕ) (ys : List (List ℕ)) → joined s ((y ∷ ys) ++ x ∷ []) ≡ (joined s (y ∷ ys) ++ s) ++ x
-joined_after s x y [] = refl
-joined_after s x y (z ∷ zs) =
-    ap (λ (t : List ℕ). (y ++ s) ++ t) (joined_after s x z zs)
-    ∙ sym (append_assoc (y ++ s) (joined s (z ∷ zs) ++ s) x)
-    ∙ ap (λ (t : List ℕ). t ++ x) (sym (append_assoc (y ++ s) (joined s (z ∷ zs)) s))
-
--- one more text, after the separator unless it is the first
-joined_push : (s x : List ℕ) (ys : List (List ℕ)) → joined s (ys ++ x ∷ [])
-    ≡ (joined s ys ++ cond (is_none ys) [] s) ++ x
-joined_push s x [] = refl
-joined_push s x (y ∷ ys) = joined_after s x y ys
-
+-- one more that is good
 all_push : {A : Type 0} (P : A → Type 0) (xs : List A) (x : A) → AllByRecursion P xs → P x
     → AllByRecursion P (xs ++ x ∷ [])
 all_push P [] x h p = (p, tt)
 all_push P (y ∷ ys) x h p = (h.0, all_push P ys x h.1 p)
-
-is_none-map : {A B : Type 0} (f : A → B) (xs : List A) → is_none (map f xs) ≡ is_none xs
-is_none-map f [] = refl
-is_none-map f (x ∷ xs) = refl
-
-is_none-push : {A : Type 0} (xs : List A) (x : A) → is_none (xs ++ x ∷ []) ≡ false
-is_none-push [] x = refl
-is_none-push (y ∷ ys) x = refl
-
--- the first part is written
-pub row_of_one : {A : Type 0} (text_of : A → List ℕ) (IsGood : A → Type 0) (s : List ℕ) (ys : List A)
-    (before new : List ℕ) (x : A) → ys ≡ x ∷ [] → new ≡ before ++ text_of x → IsGood x
-    → IsRow text_of IsGood s ys false before new
-row_of_one {A} text_of IsGood s ys before new x y n g = record {
-  first = sym (ap is_none y);
-  text = n ∙ ap (λ (zs : List A). before ++ joined s (map text_of zs)) (sym y);
-  good = subst (AllByRecursion IsGood) (sym y) (g, tt);
-}
-
--- one more part is written
-pub row_more : {A : Type 0} (text_of : A → List ℕ)
-    (IsGood : A → Type 0) (s : List ℕ) (xs ys : List A) (is_first is_next : Bool) (before output ready new : List ℕ)
-    (x : A)
-    → IsRow text_of IsGood s xs is_first before output → is_next ≡ false → ys ≡ xs ++ x ∷ []
-    → ready ≡ output ++ cond is_first [] s → new ≡ ready ++ text_of x → IsGood x
-    → IsRow text_of IsGood s ys is_next before new
-row_more {A} text_of IsGood s xs ys is_first is_next before output ready new x row f y l n g =
-    let so_far : List ℕ = joined s (map text_of xs) in
-    let between : List ℕ = cond is_first [] s in
-    let flag : is_first ≡ is_none (map text_of xs) = row.first ∙ sym (is_none-map text_of xs) in
-    let more : joined s (map text_of ys) ≡ (so_far ++ between) ++ text_of x =
-    ap (λ (zs : List A). joined s (map text_of zs)) y ∙ ap (joined s) (map-append text_of xs (x ∷ []))
-    ∙ joined_push s (text_of x) (map text_of xs)
-    ∙ ap (λ (b : Bool). (so_far ++ cond b [] s) ++ text_of x) (sym flag) in
-    record {
-      first = f ∙ sym (ap is_none y ∙ is_none-push xs x);
-      text = n ∙ ap (λ (t : List ℕ). t ++ text_of x) (l ∙ ap (λ (t : List ℕ). t ++ between) row.text
-          ∙ append_assoc before so_far between)
-          ∙ append_assoc before (so_far ++ between) (text_of x)
-          ∙ ap (λ (t : List ℕ). before ++ t) (sym more);
-      good = subst (AllByRecursion IsGood) (sym y) (all_push IsGood xs x row.good g);
-    }
 
 -- the values of one more of a list
 pub mapped_more : {A B : Type 0} (f : A → B) (xs : List A) (i : ℕ) (x : A) → i < length xs → x ≡ get_or xs i x
@@ -86,18 +19,6 @@ pub mapped_more : {A B : Type 0} (f : A → B) (xs : List A) (i : ℕ) (x : A) �
 mapped_more f xs i x lt e =
     ap (map f) (take_more xs i x lt) ∙ map-append f (take i xs) (get_or xs i x ∷ [])
     ∙ ap (λ y. map f (take i xs) ++ f y ∷ []) (sym e)
-
--- the values of one more of a list, whose first was taken before
-pub mapped_after : {A B : Type 0} (f : A → B) (xs : List A) (first : A) (others : List A) (i : ℕ) (x : A)
-    → xs ≡ first ∷ others → i < length others → x ≡ get_or others i x
-    → map f (take (suc (i + 1)) xs) ≡ map f (take (suc i) xs) ++ f x ∷ []
-mapped_after {B = B} f xs first others i x whole lt e =
-    rw whole (ap (λ (ys : List B). f first ∷ ys) (mapped_more f others i x lt e))
-
--- all of a list, whose first was taken before
-pub all_after : {A : Type 0} (xs : List A) (first : A) (others : List A) (i : ℕ) → xs ≡ first ∷ others
-    → length others ≤ i → take (suc i) xs ≡ xs
-all_after {A} xs first others i whole le = rw whole (ap (λ (ys : List A). first ∷ ys) (take_all i others le))
 
 -- both of what holds of each
 pub all_both : {A : Type 0} (P Q : A → Type 0) (xs : List A) → AllByRecursion (λ x. P x × Q x) xs

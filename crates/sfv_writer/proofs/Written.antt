@@ -9,11 +9,10 @@ use Rattle.std.proofs.lemmas.Bool.{and_parts, and_cases, both_ways, not-true, no
 use Rattle.std.proofs.lemmas.List.{append-nil, length-append, take_at}
 use Rattle.std.proofs.lemmas.List.Folds.{list_all-append}
 use Rattle.std.proofs.lemmas.Str.{IsUtf8-string_bytes, IsCharBoundary-from_take}
-use Rattle.sfv_spec.proofs.Marks.{backslash}
+use Rattle.sfv_spec.proofs.Marks.{backslash, is_plain_in_string}
 use Rattle.sfv_spec.specs.Texts.{RunOf}
 use Rattle.sfv_spec.specs.Classes.{is_string_byte}
 use Rattle.sfv_spec.specs.Strings.{is_escaped_in_string}
-use Rattle.sfv_spec.proofs.Marks.{is_plain_in_string}
 use Rattle.sfv_model.proofs.quoted.StringSteps as in_string
 use Rattle.sfv_model.proofs.quoted.DisplaySteps as in_display
 use Rattle.sfv_writer.specs.Written.{Extends, IsTruncatedTo}

@@ -1,6 +1,6 @@
 -- Writing for a version: the values that it checks, and the errors for them.
-use Rattle.std.specs.Prelude.{⊤, ◌≡◌, ◌<◌, ◌⊎◌, ◌++◌, ℕ, Bool, List, [], ◌∷◌, length, map, flat_map, codes, string_bytes, Option, Result, MatchResult}
-use Rattle.std.specs.Prelude.{IsTrue, Some, true, not}
+use Rattle.std.specs.Prelude.{⊤, ◌≡◌, ◌<◌, ◌⊎◌, ◌++◌, ℕ, Bool, List, [], ◌∷◌, length, map, flat_map, codes}
+use Rattle.std.specs.Prelude.{string_bytes, Option, Result, MatchResult, IsTrue, Some, true, not}
 use Rattle.std.specs.Iterator.{Yields, Drains}
 use Rattle.std.specs.List.{AllByRecursion, find}
 use Rattle.std.specs.Borrow.{Bor}
@@ -8,9 +8,9 @@ use Rattle.std.specs.declared.string.String.{String}
 use Rattle.sfv_spec.specs.Classes.{is_key}
 use Rattle.sfv_spec.specs.Canonical.{item_text, member_text, dictionary_member_text, value_text}
 use Rattle.sfv_spec.specs.Ordered.{ordered_item, ordered_member}
-use Rattle.sfv_spec.specs.Values.{BareValue, IsBareValue, IsItem, IsMember, item_values, member_values}
+use Rattle.sfv_spec.specs.Values.{BareValue, IsBareValue, IsItem, IsMember, item_values, member_values, fits_bare}
+use Rattle.sfv_spec.specs.Values.{AllFit}
 use Rattle.sfv_spec.specs.declared.version.Version.{Version}
-use Rattle.sfv_spec.specs.Values.{fits_bare, AllFit}
 use Rattle.sfv_values.specs.BareItems.{bare_value}
 use Rattle.sfv_values.specs.Kinds.{kind_text, kind_of_value}
 use Rattle.sfv_values.specs.declared.bare.BareItemType.{BareItemType}
@@ -34,6 +34,14 @@ NamesFirstUnfit version values error = (b : BareValue)
 -- the version has all values, or the error has the kind of the first that it lacks
 abbrev pub ChecksVersion : {T : Type 0} → Version → List BareValue → Result T SerializeError → Type 0
 ChecksVersion version values result = MatchResult result (λ _. AllFit version values) (NamesFirstUnfit version values)
+
+-- the same for the values of all parts that an iterator gives; an error is for the parts so far
+abbrev pub ChecksAll : {A S T : Type 0} → (A → List BareValue) → Version → (S → Option A → S → Type 0) → S
+    → Result T SerializeError → Type 0
+ChecksAll {A} {S} values version gives from result =
+    MatchResult result (λ _. (taken : List A) × Drains gives from taken × AllFit version (flat_map values taken))
+    (λ e. (taken : List A) × (rest : S) × Yields gives from taken rest
+    × NamesFirstUnfit version (flat_map values taken) e)
 
 -- the error of a call that checks these values before it allocates
 abbrev pub IsSerializeError : Version → List BareValue → SerializeError → Type 0
@@ -135,6 +143,19 @@ module _ {A S : Type 0} (kind : PartKind A) (version : Version) (gives : S → O
     pub some : 0 < length taken
     pub cause : IsSerializeError version (flat_map kind.values taken) error
     pub room : error ≡ errors.OutOfMemory → LacksRoom old (parts_text kind separator is_first taken)
+
+-- the text of all parts that the iterator gives is appended to `old`, and each part is valid
+abbrev pub AppendsParts : {A S Z : Type 0} → PartKind A → (S → Option A → S → Type 0) → S → List ℕ → Bool → String Z
+    → String Z → Type 0
+AppendsParts {A} kind gives from separator is_first old new = (taken : List A) × Drains gives from taken
+    × AllByRecursion kind.is_valid taken
+    × (string_bytes new ≡ string_bytes old ++ parts_text kind separator is_first taken)
+
+-- the capacity of `old` doesn't hold the text of some first parts that the iterator gives
+abbrev pub LacksForParts : {A S Z : Type 0} → PartKind A → (S → Option A → S → Type 0) → S → List ℕ → Bool → String Z
+    → Type 0
+LacksForParts {A} {S} kind gives from separator is_first old = (taken : List A) × (rest : S)
+    × Yields gives from taken rest × LacksRoom old (parts_text kind separator is_first taken)
 
 -- the text of all parameters that the iterator gives is appended to `old`
 abbrev pub AppendsParameters : {S Z : Type 0} → Version

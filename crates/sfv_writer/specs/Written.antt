@@ -1,7 +1,7 @@
 -- The text of a buffer after an append.
-use Rattle.std.specs.Prelude.{◌≡◌, ℕ, Bool, false, if◌then◌else◌, List, [], ◌∷◌, ◌++◌, Result, MatchResult}
-use Rattle.std.specs.Prelude.{codes, string_bytes, string_len, string_capacity, length, IsUtf8, Option, option_map}
-use Rattle.std.specs.Prelude.{◌≤◌, ◌<◌, ◌+◌, OnErr}
+use Rattle.std.specs.Prelude.{◌≡◌, ℕ, Bool, false, if◌then◌else◌, List, [], ◌∷◌, ◌++◌, Result, MatchResult, codes}
+use Rattle.std.specs.Prelude.{string_bytes, string_len, string_capacity, length, IsUtf8, Option, option_map, ◌≤◌, ◌<◌}
+use Rattle.std.specs.Prelude.{◌+◌, OnErr}
 use Rattle.std.specs.declared.alloc.Global.{Global}
 use Rattle.std.specs.declared.string.String.{String}
 use Rattle.sfv_spec.specs.Values.{RawField, BareValue}

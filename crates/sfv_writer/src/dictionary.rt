@@ -6,13 +6,13 @@ ghost use Rattle.sfv_spec.specs.declared.field_kind.FieldKind.TheVariants.{Dicti
 ghost use Rattle.sfv_spec.specs.Canonical.{canonical};
 ghost use Rattle.sfv_spec.specs.Statements.{IsValue};
 ghost use Rattle.sfv_tree.specs.Trees.{dictionary_tree, dictionary_tree as tree};
-ghost use Rattle.sfv_writer.specs.Written.{AsksForRoom, Appends, AppendsOrKeeps, LacksRoom, IsSerialized};
+ghost use Rattle.sfv_writer.specs.Written.{AppendsOrKeeps, LacksRoom, IsSerialized};
 ghost use Rattle.sfv_writer.specs.Versions.{ChecksVersionFirst, OnOutOfMemory, OnUnsupported};
 
 use crate::capacity::text_for_members;
-use crate::element::serialize_each;
-use crate::output::truncate_to;
-use crate::serialize_error::{SerializeError, expect_out_of_memory};
+use crate::element::serialize_elements;
+use crate::output::{Fragment, append};
+use crate::serialize_error::SerializeError;
 use crate::version_check::check_dictionary;
 use sfv_base::error::OutOfMemory;
 use sfv_spec::version::Version;
@@ -20,21 +20,15 @@ use sfv_tree::parsed::Dictionary;
 use std::alloc::{Allocator, Global};
 use std::string::String as StdString;
 
-pub(crate) fn serialize_dictionary<A: Allocator>(
-    dictionary: &Dictionary,
-    output: &mut StdString<A>,
-) -> Result<(), OutOfMemory>
-    ensures text { Appends output.old output.new
-        (canonical dictionary_field (dictionary_tree dictionary.now.entries)) result }
-    ensures room { AsksForRoom output.old output.new
-        (canonical dictionary_field (dictionary_tree dictionary.now.entries)) result }
-    ensures value { OnOk result (IsValue dictionary_field (dictionary_tree dictionary.now.entries)) }
-{
-    let written = serialize_each(Version::Rfc9651, true, ", ", dictionary.iter(), output);
-    if let Err(error) = written {
-        return Err(expect_out_of_memory(error));
+impl<'a> Fragment for &'a Dictionary {
+    ghost text = { λ d. canonical dictionary_field (tree d.now.entries) };
+
+    ghost is_valid = { λ d. IsValue dictionary_field (tree d.now.entries) };
+
+    #[inline(always)]
+    fn serialize<A: Allocator>(self, output: &mut StdString<A>) -> Result<(), OutOfMemory> {
+        serialize_elements(true, ", ", self.iter(), output)
     }
-    Ok(())
 }
 
 /// Returns the text of a dictionary, allocated from `alloc` (RFC 9651, section 4.1). An empty dictionary has no text:
@@ -54,7 +48,7 @@ pub fn dictionary_text(
         return Ok(None);
     }
     let mut text = text_for_members(dictionary.len(), alloc);
-    serialize_dictionary(dictionary, &mut text)?;
+    dictionary.serialize(&mut text)?;
     Ok(Some(text))
 }
 
@@ -65,7 +59,7 @@ pub fn dictionary_text(
 ///
 /// Returns `SerializeError::Unsupported` with the kind of the first value that `version` lacks. Returns `OutOfMemory`
 /// if memory runs out, which happens only if `text` lacks the capacity for the whole dictionary.
-#[tactic(auto, using(crate::proofs::Written::cut_to, crate::proofs::Checks::look_fails, crate::proofs::Checks::memory_fails))]
+#[tactic(auto, using(crate::proofs::Checks::look_fails, crate::proofs::Checks::memory_fails))]
 pub fn append_dictionary<A: Allocator>(
     version: Version,
     dictionary: &Dictionary,
@@ -82,10 +76,6 @@ pub fn append_dictionary<A: Allocator>(
     ensures value { OnOk result (IsValue dictionary_field (tree dictionary.now.entries)) }
 {
     check_dictionary(version, dictionary)?;
-    let len = text.len();
-    if let Err(error) = serialize_dictionary(dictionary, text) {
-        truncate_to(len, text);
-        return Err(SerializeError::from(error));
-    }
+    append(dictionary, text)?;
     Ok(())
 }

@@ -1,15 +1,13 @@
 //! The elements of lists, dictionaries and inner lists, and functions that append all elements of an iterator or none.
 #![tactic(auto, using(crate::proofs::Written::cut_to))]
 
-ghost use Rattle.std.specs.Prelude.{◌≡◌, ◌++◌, List, IfErr, IfOk, OnOk, OnErr, map, flat_map};
-ghost use Rattle.std.specs.Prelude.{◌≤◌, string_bytes, string_capacity};
-ghost use Rattle.std.specs.List.{AllByRecursion};
-ghost use Rattle.std.specs.Iterator.{IsFinite, Drains};
-ghost use Rattle.sfv_spec.specs.Values.{AllFit};
-ghost use Rattle.sfv_writer.specs.Versions.{ChecksVersion, FailsAmong, LacksAmong, PartKind, AppendsAll, StopsEarly};
-ghost use Rattle.sfv_writer.specs.Versions.{inner_items, list_members, dictionary_members};
-ghost use Rattle.sfv_writer.specs.Written.{AsksForRoom, Appends, Extends, with_separators, is_first_after};
+ghost use Rattle.std.specs.Prelude.{◌≡◌, true, IfErr, IfOk, OnOk, OnErr, ◌≤◌, string_bytes, string_capacity};
+ghost use Rattle.std.specs.Iterator.{IsFinite};
+ghost use Rattle.sfv_writer.specs.Versions.{ChecksVersion, PartKind, AppendsAll, AppendsParts, LacksForParts};
+ghost use Rattle.sfv_writer.specs.Versions.{StopsEarly, inner_items, list_members, dictionary_members};
+ghost use Rattle.sfv_writer.specs.Written.{AsksForRoom, Appends, Extends};
 
+use crate::capacity::prepare;
 use crate::item::serialize_item;
 use crate::member::{serialize_dictionary_member, serialize_member};
 use crate::output::{serialize_separator, truncate_to};
@@ -86,6 +84,46 @@ impl<'m> Element for (&'m Key, &'m ListEntry) {
     }
 }
 
+/// Requests memory before the first member of a list or a dictionary, if `output` has none yet.
+#[inline(always)]
+fn prepare_for<A: Allocator>(is_member: bool, output: &mut StdString<A>)
+    ensures text { string_bytes output.new ≡ string_bytes output.old }
+    ensures room { string_capacity output.old ≤ string_capacity output.new }
+{
+    if is_member {
+        prepare(output);
+    }
+}
+
+/// Appends all elements, with the separator between neighbours: the members of a list or a dictionary, or the items of
+/// an inner list.
+// The first element is appended before the loop, so the loop needs no flag for it.
+#[inline(always)]
+pub(crate) fn serialize_elements<E: Element, A: Allocator, I: Iterator<Item = E> + Drop>(
+    are_members: bool,
+    separator: &str,
+    mut elements: I,
+    output: &mut StdString<A>,
+) -> Result<(), OutOfMemory>
+    requires can { I.can_next elements }
+    requires ends { IsFinite (I.remaining elements) }
+    ensures text { OnOk result (AppendsParts E.part I.next_gives elements separator.now true output.old output.new) }
+    ensures room { OnErr result (LacksForParts E.part I.next_gives elements separator.now true output.old) }
+    ensures stays { string_capacity output.old ≤ string_capacity output.new }
+    ensures kept { OnErr result (Extends (string_bytes output.old) (string_bytes output.new)) }
+{
+    let Some(first) = elements.next() else {
+        return Ok(());
+    };
+    prepare_for(are_members, output);
+    first.serialize(output)?;
+    for element in elements {
+        serialize_separator(false, separator, output)?;
+        element.serialize(output)?;
+    }
+    Ok(())
+}
+
 /// Appends each element, after the separator except for the first, and fails at the first that `version` lacks.
 /// Returns `true` if nothing has been written so far.
 pub(crate) fn serialize_each<E: Element, A: Allocator, I: Iterator<Item = E> + Drop>(
@@ -97,13 +135,8 @@ pub(crate) fn serialize_each<E: Element, A: Allocator, I: Iterator<Item = E> + D
 ) -> Result<bool, SerializeError>
     requires can { I.can_next elements }
     requires ends { IsFinite (I.remaining elements) }
-    ensures text { IfOk result (λ none. (taken : List _) × Drains I.next_gives elements taken
-        × (string_bytes output.new ≡ string_bytes output.old ++ with_separators is_first separator.now (map E.part.text taken))
-        × (none ≡ is_first_after is_first taken) × AllByRecursion E.part.is_valid taken
-        × AllFit version (flat_map E.part.values taken)) }
-    ensures failed { IfErr result (FailsAmong I.next_gives elements (flat_map E.part.values) version) }
-    ensures room { IfErr result (LacksAmong I.next_gives elements (flat_map E.part.values) version output.old
-        (λ taken. with_separators is_first separator.now (map E.part.text taken))) }
+    ensures text { IfOk result (AppendsAll E.part version I.next_gives elements separator.now output.old is_first output.new) }
+    ensures failed { IfErr result (StopsEarly E.part version I.next_gives elements separator.now output.old is_first) }
     ensures stays { string_capacity output.old ≤ string_capacity output.new }
     ensures kept { OnErr result (Extends (string_bytes output.old) (string_bytes output.new)) }
 {

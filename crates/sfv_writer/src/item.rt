@@ -1,10 +1,10 @@
 //! Serialization of bare items, parameters and items (RFC 9651, sections 4.1.1.2, 4.1.3 and 4.1.3.1).
 
-ghost use Rattle.std.specs.Prelude.{◌≡◌, [], ◌∷◌, ◌++◌, List, true, IfErr, OnOk, OnErr, MatchBool, IsTrue, codes, string_bytes};
-ghost use Rattle.std.specs.Prelude.{◌≤◌, Some, IfOk, string_capacity};
+ghost use Rattle.std.specs.Prelude.{◌≡◌, [], ◌∷◌, ◌++◌, List, true, IfErr, OnOk, OnErr, MatchBool, IsTrue, codes};
+ghost use Rattle.std.specs.Prelude.{string_bytes, ◌≤◌, Some, IfOk, string_capacity};
 ghost use Rattle.std.specs.Iterator.{IsFinite, Drains};
 ghost use Rattle.sfv_spec.specs.Classes.{is_key, is_token};
-ghost use Rattle.sfv_spec.specs.Values.{IsBareValue, AreParameters, boolean, item_values};
+ghost use Rattle.sfv_spec.specs.Values.{IsBareValue, AreParameters, boolean, item_values, AllFit};
 ghost use Rattle.sfv_spec.specs.declared.field_kind.FieldKind.TheVariants.{Item as item_field};
 ghost use Rattle.sfv_spec.proofs.Repeats.{no_repeats};
 ghost use Rattle.sfv_spec.proofs.Marks.{keys};
@@ -12,20 +12,20 @@ ghost use Rattle.sfv_spec.specs.Grammar.{boolean_text};
 ghost use Rattle.sfv_spec.specs.Canonical.{bare_text, value_text, parameters_text, item_text};
 ghost use Rattle.sfv_spec.specs.declared.version.Version.TheVariants.{Rfc9651};
 ghost use Rattle.sfv_spec.specs.Statements.{IsValue, IsSerializedAs};
-ghost use Rattle.sfv_spec.specs.Values.{AllFit};
 ghost use Rattle.sfv_values.specs.BareItems.{ref_value, bare_value};
 ghost use Rattle.sfv_values.specs.CheckedTexts.{text_of};
 ghost use Rattle.sfv_tree.specs.Trees.{pairs_tree, item_tree};
 ghost use Rattle.sfv_writer.specs.Written.{AsksForRoom, Appends, AppendsOrKeeps, LacksRoom, Extends, param_text};
 ghost use Rattle.sfv_writer.specs.Pairs.{lent_pairs, pair_values};
-ghost use Rattle.sfv_writer.specs.Versions.{ChecksVersionFirst, OnOutOfMemory, OnUnsupported, FailsAmong, FailsFrom, LacksAmong, StopsEarly, AppendsParameters, parameter_pairs};
+ghost use Rattle.sfv_writer.specs.Versions.{ChecksVersionFirst, OnOutOfMemory, OnUnsupported, FailsAmong, FailsFrom};
+ghost use Rattle.sfv_writer.specs.Versions.{LacksAmong, StopsEarly, AppendsParameters, parameter_pairs};
 
 use crate::byte_sequence::serialize_byte_sequence;
 use crate::capacity::text_for_item;
 use crate::display_string::serialize_display_string;
 use crate::number::{serialize_date, serialize_decimal, serialize_integer};
-use crate::output::truncate_to;
-use crate::serialize_error::{SerializeError, expect_out_of_memory};
+use crate::output::{Fragment, append, truncate_to};
+use crate::serialize_error::SerializeError;
 use crate::string::serialize_string;
 use crate::version_check::{check_bare_item, check_item};
 use sfv_base::error::OutOfMemory;
@@ -159,11 +159,11 @@ fn serialize_parameter<A: Allocator>(
 
 /// Appends the parameters of an iterator, and fails at the first that `version` lacks.
 #[inline(always)]
-pub(crate) fn serialize_parameters<
-    'k,
-    A: Allocator,
-    I: Iterator<Item = (&'k Key, &'k BareItem)> + Drop,
->(version: Version, params: I, output: &mut StdString<A>) -> Result<(), SerializeError>
+fn serialize_parameters<'k, A: Allocator, I: Iterator<Item = (&'k Key, &'k BareItem)> + Drop>(
+    version: Version,
+    params: I,
+    output: &mut StdString<A>,
+) -> Result<(), SerializeError>
     requires can { I.can_next params }
     requires ends { IsFinite (I.remaining params) }
     ensures text { OnOk result ((pairs : List _) × Drains I.next_gives params pairs
@@ -278,8 +278,8 @@ pub(crate) fn serialize_all_parameters<A: Allocator>(
     if params.is_empty() {
         return Ok(());
     }
-    if let Err(error) = serialize_parameters(Version::Rfc9651, params.iter(), output) {
-        return Err(expect_out_of_memory(error));
+    for (key, value) in params.iter() {
+        serialize_parameter(key, value, output)?;
     }
     Ok(())
 }
@@ -300,6 +300,17 @@ pub fn serialize_item<A: Allocator>(
 {
     serialize_bare_item(item.bare_item.as_ref_item(), output)?;
     serialize_all_parameters(&item.params, output)
+}
+
+impl<'a> Fragment for &'a Item {
+    ghost text = { λ i. item_text (item_tree i.now) };
+
+    ghost is_valid = { λ i. IsValue item_field (item_tree i.now) };
+
+    #[inline(always)]
+    fn serialize<A: Allocator>(self, output: &mut StdString<A>) -> Result<(), OutOfMemory> {
+        serialize_item(self, output)
+    }
 }
 
 /// Returns the text of an item, allocated from `alloc` (RFC 9651, section 4.1).
@@ -323,7 +334,7 @@ pub fn item_text(item: &Item, alloc: Global) -> Result<StdString, OutOfMemory>
 ///
 /// Returns `SerializeError::Unsupported` with the kind of the first value that `version` lacks. Returns `OutOfMemory`
 /// if memory runs out, which happens only if `text` lacks the capacity for the whole item.
-#[tactic(auto, using(crate::proofs::Written::cut_to, crate::proofs::Checks::look_fails, crate::proofs::Checks::memory_fails))]
+#[tactic(auto, using(crate::proofs::Checks::look_fails, crate::proofs::Checks::memory_fails))]
 pub fn append_item<A: Allocator>(
     version: Version,
     item: &Item,
@@ -337,10 +348,6 @@ pub fn append_item<A: Allocator>(
     ensures value { OnOk result (IsValue item_field (item_tree item.now)) }
 {
     check_item(version, item)?;
-    let len = text.len();
-    if let Err(error) = serialize_item(item, text) {
-        truncate_to(len, text);
-        return Err(SerializeError::from(error));
-    }
+    append(item, text)?;
     Ok(())
 }

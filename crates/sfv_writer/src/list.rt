@@ -6,13 +6,13 @@ ghost use Rattle.sfv_spec.specs.declared.field_kind.FieldKind.TheVariants.{List 
 ghost use Rattle.sfv_spec.specs.Canonical.{canonical};
 ghost use Rattle.sfv_spec.specs.Statements.{IsValue};
 ghost use Rattle.sfv_tree.specs.Trees.{list_tree};
-ghost use Rattle.sfv_writer.specs.Written.{AsksForRoom, Appends, AppendsOrKeeps, LacksRoom, IsSerialized};
+ghost use Rattle.sfv_writer.specs.Written.{AppendsOrKeeps, LacksRoom, IsSerialized};
 ghost use Rattle.sfv_writer.specs.Versions.{ChecksVersionFirst, OnOutOfMemory, OnUnsupported};
 
 use crate::capacity::text_for_members;
-use crate::element::serialize_each;
-use crate::output::truncate_to;
-use crate::serialize_error::{SerializeError, expect_out_of_memory};
+use crate::element::serialize_elements;
+use crate::output::{Fragment, append};
+use crate::serialize_error::SerializeError;
 use crate::version_check::check_list;
 use sfv_base::error::OutOfMemory;
 use sfv_spec::version::Version;
@@ -20,18 +20,15 @@ use sfv_tree::parsed::List;
 use std::alloc::{Allocator, Global};
 use std::string::String as StdString;
 
-pub(crate) fn serialize_list<A: Allocator>(
-    list: &List,
-    output: &mut StdString<A>,
-) -> Result<(), OutOfMemory>
-    ensures text { Appends output.old output.new (canonical list_field (list_tree list.now.items)) result }
-    ensures room { AsksForRoom output.old output.new (canonical list_field (list_tree list.now.items)) result }
-    ensures value { OnOk result (IsValue list_field (list_tree list.now.items)) }
-{
-    if let Err(error) = serialize_each(Version::Rfc9651, true, ", ", list.iter(), output) {
-        return Err(expect_out_of_memory(error));
+impl<'a> Fragment for &'a List {
+    ghost text = { λ l. canonical list_field (list_tree l.now.items) };
+
+    ghost is_valid = { λ l. IsValue list_field (list_tree l.now.items) };
+
+    #[inline(always)]
+    fn serialize<A: Allocator>(self, output: &mut StdString<A>) -> Result<(), OutOfMemory> {
+        serialize_elements(true, ", ", self.iter(), output)
     }
-    Ok(())
 }
 
 /// Returns the text of a list, allocated from `alloc` (RFC 9651, section 4.1). An empty list has no text: returns
@@ -48,7 +45,7 @@ pub fn list_text(list: &List, alloc: Global) -> Result<Option<StdString>, OutOfM
         return Ok(None);
     }
     let mut text = text_for_members(list.len(), alloc);
-    serialize_list(list, &mut text)?;
+    list.serialize(&mut text)?;
     Ok(Some(text))
 }
 
@@ -59,7 +56,7 @@ pub fn list_text(list: &List, alloc: Global) -> Result<Option<StdString>, OutOfM
 ///
 /// Returns `SerializeError::Unsupported` with the kind of the first value that `version` lacks. Returns `OutOfMemory`
 /// if memory runs out, which happens only if `text` lacks the capacity for the whole list.
-#[tactic(auto, using(crate::proofs::Written::cut_to, crate::proofs::Checks::look_fails, crate::proofs::Checks::memory_fails))]
+#[tactic(auto, using(crate::proofs::Checks::look_fails, crate::proofs::Checks::memory_fails))]
 pub fn append_list<A: Allocator>(
     version: Version,
     list: &List,
@@ -73,10 +70,6 @@ pub fn append_list<A: Allocator>(
     ensures value { OnOk result (IsValue list_field (list_tree list.now.items)) }
 {
     check_list(version, list)?;
-    let len = text.len();
-    if let Err(error) = serialize_list(list, text) {
-        truncate_to(len, text);
-        return Err(SerializeError::from(error));
-    }
+    append(list, text)?;
     Ok(())
 }

@@ -15,6 +15,7 @@ ghost use Rattle.sfv_values.specs.BareItems.{bare_value};
 ghost use Rattle.sfv_tree.specs.Trees.{pairs_tree, item_tree, inner_list_tree, member_tree};
 ghost use Rattle.sfv_writer.specs.Written.{AsksForRoom, Appends};
 
+use crate::element::serialize_elements;
 use crate::item::{serialize_all_parameters, serialize_item, serialize_key, serialize_value};
 use sfv_base::error::OutOfMemory;
 use sfv_tree::parsed::{InnerList, Item, ListEntry};
@@ -31,16 +32,7 @@ fn serialize_items<A: Allocator>(
     ensures room { AsksForRoom output.old output.new (joined (codes " ") (map item_text (map item_tree items.now))) result }
     ensures values { OnOk result (AllByRecursion (λ i. IsItem i × (ordered_item i ≡ i)) (map item_tree items.now)) }
 {
-    let Some((first, others)) = items.split_first() else {
-        return Ok(());
-    };
-    serialize_item(first, output)?;
-    // Without a flag for the first item, a token takes 65.3 instructions instead of 69.3.
-    for item in others {
-        output.push(' ')?;
-        serialize_item(item, output)?;
-    }
-    Ok(())
+    serialize_elements(false, " ", items.iter(), output)
 }
 
 /// Appends an inner list with its parameters.

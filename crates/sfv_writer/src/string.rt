@@ -1,12 +1,12 @@
 //! Serialization of strings (RFC 9651, section 4.1.6).
 
-ghost use Rattle.std.specs.Prelude.{false};
+ghost use Rattle.std.specs.Prelude.{⊤, false};
 ghost use Rattle.sfv_spec.specs.Values.{string};
 ghost use Rattle.sfv_spec.specs.Canonical.{bare_text};
 ghost use Rattle.sfv_values.specs.CheckedTexts.{text_of};
-ghost use Rattle.sfv_writer.specs.Written.{AsksForRoom, Appends, AppendsOrKeeps};
+ghost use Rattle.sfv_writer.specs.Written.{AsksForRoom, AppendsOrKeeps};
 
-use crate::output::truncate_to;
+use crate::output::{Fragment, append};
 use crate::quoted::{Escaping, serialize_inside};
 use sfv_base::error::OutOfMemory;
 use sfv_base::runs::{PlainInString, split_run, split_whole_run};
@@ -42,23 +42,22 @@ impl Escaping for StringEscaping {
     }
 }
 
-/// Appends a string: its inside between quotes.
-#[inline(always)]
-fn serialize_quoted<A: Allocator>(
-    value: StringRef<'_>,
-    output: &mut String<A>,
-) -> Result<(), OutOfMemory>
-    ensures text { Appends output.old output.new (bare_text (string (text_of value.entry))) result }
-    ensures room { AsksForRoom output.old output.new (bare_text (string (text_of value.entry))) result }
-{
-    output.push('"')?;
-    serialize_inside::<StringEscaping, A>(value.as_str().as_bytes(), output)?;
-    output.push('"')?;
-    Ok(())
+/// A string: its inside between quotes.
+impl<'a> Fragment for StringRef<'a> {
+    ghost text = { λ s. bare_text (string (text_of s)) };
+
+    ghost is_valid = { λ _. ⊤ };
+
+    #[inline(always)]
+    fn serialize<A: Allocator>(self, output: &mut String<A>) -> Result<(), OutOfMemory> {
+        output.push('"')?;
+        serialize_inside::<StringEscaping, A>(self.as_str().as_bytes(), output)?;
+        output.push('"')?;
+        Ok(())
+    }
 }
 
 #[inline(never)]
-#[tactic(auto, using(crate::proofs::Written::cut_to))]
 pub(crate) fn serialize_string<A: Allocator>(
     value: StringRef<'_>,
     output: &mut String<A>,
@@ -66,10 +65,5 @@ pub(crate) fn serialize_string<A: Allocator>(
     ensures text { AppendsOrKeeps output.old output.new (bare_text (string (text_of value.entry))) result }
     ensures room { AsksForRoom output.old output.new (bare_text (string (text_of value.entry))) result }
 {
-    let len = output.len();
-    if let Err(error) = serialize_quoted(value, output) {
-        truncate_to(len, output);
-        return Err(error);
-    }
-    Ok(())
+    append(value, output)
 }

@@ -23,13 +23,11 @@ use Rattle.sfv_spec.proofs.Distinct.{ordered_same}
 use Rattle.sfv_spec.proofs.Runs.{runs_fold}
 use Rattle.sfv_tree.specs.Trees.{member_tree, dictionary_tree}
 use Rattle.sfv_tree.specs.Builders.{MemberState, begun, item_head, item_parameters, inner_items, inner_head}
-use Rattle.sfv_tree.specs.Builders.{inner_parameters, list_parameters, ended, member_step, DictionaryState}
-use Rattle.sfv_tree.specs.Builders.{settle_pair, dictionary_step, complete}
-use Rattle.sfv_tree.specs.Builders.{dictionary_state}
+use Rattle.sfv_tree.specs.Builders.{inner_parameters, list_parameters, ended, member_step, DictionaryState, settle_pair}
+use Rattle.sfv_tree.specs.Builders.{dictionary_step, complete, dictionary_state, DictionaryAddsUnder, DictionaryAdds}
 use Rattle.sfv_tree.specs.declared.parsed.ListEntry.{ListEntry}
 use Rattle.sfv_tree.specs.declared.visitor.dictionary_builder.DictionaryBuilder.{DictionaryBuilder}
 use Rattle.sfv.proofs.Relations.{Answers}
-use Rattle.sfv_tree.specs.Builders.{DictionaryAddsUnder, DictionaryAdds}
 use Rattle.sfv_tree.specs.declared.hash_seed.HashSeed.{HashSeed}
 use Rattle.sfv_tree.specs.Seeds.{MemberHasSeed, DictionaryHasSeed}
 use Rattle.sfv_tree.proofs.Seeded.{AddsTo, adds_none, adds_more, adds_entered, adds_all}

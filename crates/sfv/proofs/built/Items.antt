@@ -12,8 +12,8 @@ use Rattle.sfv_spec.specs.Statements.{IsParsedAs}
 use Rattle.std.specs.List.{FoldsTo}
 use Rattle.sfv_spec.proofs.Collapse.{entered, collapse-push}
 use Rattle.sfv_tree.specs.Trees.{item_tree}
-use Rattle.sfv_tree.specs.Builders.{MemberState, item_head, item_parameters, ended, member_step, step_state, takes_memory}
-use Rattle.sfv_tree.specs.Builders.{IsItemUnder}
+use Rattle.sfv_tree.specs.Builders.{MemberState, item_head, item_parameters, ended, member_step, step_state}
+use Rattle.sfv_tree.specs.Builders.{takes_memory, IsItemUnder}
 use Rattle.sfv_base.specs.declared.error.ParseError.TheVariants.{Visitor}
 use Rattle.sfv_tree.specs.declared.hash_seed.HashSeed.{HashSeed}
 use Rattle.sfv_tree.specs.Seeds.{ItemHasSeed}

@@ -1,6 +1,6 @@
 -- The builder of a list: after all events of a tree it has the ordered members after those that it was given.
-use Rattle.std.proofs.Common.{◌≡◌, ℕ, List, [], ◌∷◌, ◌++◌, map, refl, sym, ap, ◌∙◌, append_assoc, Option}
-use Rattle.std.proofs.Common.{◌⊎◌, inl, inr, subst}
+use Rattle.std.proofs.Common.{◌≡◌, ℕ, List, [], ◌∷◌, ◌++◌, map, refl, sym, ap, ◌∙◌, append_assoc, Option, ◌⊎◌, inl, inr}
+use Rattle.std.proofs.Common.{subst}
 use Rattle.std.specs.Prelude.{Some, None, fold}
 use Rattle.std.specs.declared.alloc.Global.{Global}
 use Rattle.std.specs.declared.vec.Vec.{Vec}
@@ -18,12 +18,11 @@ use Rattle.std.specs.List.{FoldsTo}
 use Rattle.sfv_spec.proofs.Runs.{runs_fold}
 use Rattle.sfv_tree.specs.Trees.{member_tree, list_tree}
 use Rattle.sfv_tree.specs.Builders.{MemberState, begun, item_head, item_parameters, inner_items, inner_head}
-use Rattle.sfv_tree.specs.Builders.{inner_parameters, list_parameters, ended, member_step}
-use Rattle.sfv_tree.specs.Builders.{settle, list_step, complete, list_state}
+use Rattle.sfv_tree.specs.Builders.{inner_parameters, list_parameters, ended, member_step, settle, list_step, complete}
+use Rattle.sfv_tree.specs.Builders.{list_state, ListAddsUnder, ListAdds}
 use Rattle.sfv_tree.specs.declared.parsed.ListEntry.{ListEntry}
 use Rattle.sfv_tree.specs.declared.visitor.list_builder.ListBuilder.{ListBuilder}
 use Rattle.sfv.proofs.Relations.{Answers}
-use Rattle.sfv_tree.specs.Builders.{ListAddsUnder, ListAdds}
 use Rattle.sfv_tree.specs.declared.hash_seed.HashSeed.{HashSeed}
 use Rattle.sfv_tree.specs.Seeds.{MemberHasSeed, ListHasSeed}
 use Rattle.sfv.proofs.built.Seeded.{map_none, runs_grow, runs_weaker}

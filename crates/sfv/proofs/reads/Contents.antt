@@ -8,20 +8,18 @@ use Rattle.std.proofs.lemmas.Bool.{eqb-true, cases_Bool, true≢false}
 use Rattle.std.proofs.lemmas.List.{append-nil, length-take-le, length-drop, take-append-drop, drop-drop, drop_more}
 use Rattle.std.proofs.lemmas.List.{drop_all, get_or-drop, take_rest}
 use Rattle.std.proofs.Math.Seq.{take-add}
-use Rattle.sfv_spec.proofs.Marks.{colon, equals_sign}
+use Rattle.sfv_spec.proofs.Marks.{colon, equals_sign, is_symbol}
 use Rattle.sfv_spec.proofs.Settled.{NotBegun}
 use Rattle.sfv_spec.specs.declared.error_kind.ErrorKind.TheVariants.{InvalidByteSequence, UnterminatedByteSequence}
 use Rattle.sfv_model.specs.Reader.{Apart}
-use Rattle.sfv_spec.proofs.Marks.{is_symbol}
-use Rattle.sfv_model.specs.Content.{most_padding, valid_from, fault_place, HasNoColon, bytes_at}
+use Rattle.sfv_model.specs.Content.{most_padding, valid_from, fault_place, HasNoColon, bytes_at, IsContentAt, IsBytesAt}
+use Rattle.sfv_model.specs.Content.{IsInvalidAt}
 use Rattle.sfv_model.proofs.base64.Shape.{Shape, is_equals, shape_valid, valid_local}
 use Rattle.sfv_model.proofs.base64.Contents.{well_formed, gives_the_bytes, rejected_at, lone_symbol}
 use Rattle.sfv_model.proofs.sound.ByteSequences.{symbols_apart, padding_apart, both_apart, no_colon}
 use Rattle.sfv_model.proofs.faults.ByteSequences.{gives_value, gives_fault, gives_unclosed}
-use Rattle.sfv_model.specs.Content.{IsContentAt, IsBytesAt, IsInvalidAt}
 use Rattle.sfv.specs.parser.Cursor.{located}
-use Rattle.sfv.specs.parser.Base64.{IsSymbolRun, IsPaddingRun}
-use Rattle.sfv.specs.parser.Base64.{decoded_symbols}
+use Rattle.sfv.specs.parser.Base64.{IsSymbolRun, IsPaddingRun, decoded_symbols}
 
 -- the first colon
 first_colon : (u : List ℕ) → list_any (λ c. c == colon) u ≡ true

@@ -3,14 +3,12 @@ use Rattle.std.proofs.Common.{◌≡◌, ℕ, Bool, true, false, not, List, [], 
 use Rattle.std.proofs.Common.{◌∙◌}
 use Rattle.std.specs.Prelude.{is_some}
 use Rattle.std.proofs.lemmas.Bool.{true≢false}
-use Rattle.sfv_spec.proofs.Marks.{right_parenthesis, comma}
-use Rattle.sfv_spec.proofs.Marks.{is_space, is_space_or_tab}
+use Rattle.sfv_spec.proofs.Marks.{right_parenthesis, comma, is_space, is_space_or_tab}
 use Rattle.sfv_spec.specs.Values.{RawItem}
 use Rattle.sfv_spec.specs.declared.version.Version.{Version}
 use Rattle.sfv_spec.specs.Events.{TreeEvent, inner_item_events}
 use Rattle.sfv_spec.specs.declared.error_kind.ErrorKind.TheVariants.{TrailingComma, TrailingCharactersAfterMember}
-use Rattle.sfv_spec.specs.declared.error_kind.ErrorKind.TheVariants.{ExpectedInnerListDelimiter}
-use Rattle.sfv_spec.specs.declared.error_kind.ErrorKind.TheVariants.{UnterminatedInnerList}
+use Rattle.sfv_spec.specs.declared.error_kind.ErrorKind.TheVariants.{ExpectedInnerListDelimiter, UnterminatedInnerList}
 use Rattle.sfv_model.specs.Reader.{Answer, Reader, first, byte, any, give, fail, back, ahead, branch, and_then, bind}
 use Rattle.sfv_model.specs.Reader.{span, led, many, ◌>>=◌}
 use Rattle.sfv_model.specs.Members.{inner_item_at, next_item_at, inner_items_at}

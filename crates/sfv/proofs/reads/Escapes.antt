@@ -9,20 +9,19 @@ use Rattle.std.proofs.lemmas.Bool.{and_parts, and_from, and_cases, or_parts, or_
 use Rattle.std.proofs.lemmas.Bool.{both_ways, eqb-true}
 use Rattle.std.proofs.lemmas.Bool.Decides.{nat_tests}
 use Rattle.std.proofs.lemmas.List.{append-nil}
-use Rattle.sfv_spec.proofs.Marks.{double_quote, percent_sign, backslash}
+use Rattle.sfv_spec.proofs.Marks.{double_quote, percent_sign, backslash, plain_of}
 use Rattle.sfv_spec.specs.Texts.{RunOf}
 use Rattle.sfv_spec.specs.Classes.{is_string_byte, is_lower_hexadecimal}
 use Rattle.sfv_spec.specs.Strings.{is_escaped_in_string, IsStringPiece, IsDisplayPiece}
 use Rattle.std.specs.Char.{digit_value as hexadecimal_value}
 use Rattle.sfv_base.specs.declared.error.Error.{Error}
 use Rattle.sfv_spec.specs.declared.error_kind.ErrorKind.{ErrorKind}
-use Rattle.sfv_spec.specs.declared.error_kind.ErrorKind.TheVariants.{UnterminatedEscapeSequence}
-use Rattle.sfv_spec.specs.declared.error_kind.ErrorKind.TheVariants.{InvalidEscapeSequence}
+use Rattle.sfv_spec.specs.declared.error_kind.ErrorKind.TheVariants.{UnterminatedEscapeSequence, InvalidEscapeSequence}
 use Rattle.sfv_base.specs.Digits.{digit_value}
 use Rattle.sfv_base.specs.Errors.{kind_of, index_of}
 use Rattle.sfv_model.specs.Reader.{Answer, first, byte, Apart}
-use Rattle.sfv_model.specs.Quoted.{after_bytes, string_from, outside, percent, digit, pieces_from, checked}
-use Rattle.sfv_model.specs.Quoted.{display_at, StringStops, DisplayStops, Traced}
+use Rattle.sfv_model.specs.Quoted.{after_bytes, string_from, outside, percent, digit, pieces_from, checked, display_at}
+use Rattle.sfv_model.specs.Quoted.{StringStops, DisplayStops, Traced}
 use Rattle.sfv_model.proofs.quoted.Pieces.{after_bytes_none, after_bytes_more, after_bytes_ok, step_string}
 use Rattle.sfv_model.proofs.quoted.Pieces.{step_display}
 use Rattle.sfv_model.proofs.quoted.Traces.{Ends, trace_of_string, trace_of_display}
@@ -31,7 +30,6 @@ use Rattle.sfv.proofs.reads.Steps.{passed}
 use Rattle.sfv.specs.declared.parser.Parser.{Parser}
 use Rattle.sfv.specs.declared.parser.cursor.Cursor.{Cursor}
 use Rattle.sfv.specs.parser.Cursor.{kept_input, rest, located, IsFaultOf, IsErrorOf, NextIs, TakesIf, Skips}
-use Rattle.sfv_spec.proofs.Marks.{plain_of}
 use Rattle.sfv.specs.parser.Quoted.{mark_of, end_error_of, inside, after_mark, opening, HasNoMark, HasNoMarkInside}
 use Rattle.sfv.specs.Memory.{IsRefusal}
 

@@ -3,27 +3,22 @@ use Rattle.std.proofs.Common.{◌≡◌, ℕ, ◌+◌, ◌-◌, ◌*◌, ◌^◌
 use Rattle.std.proofs.Common.{Option, Some, None, Ok, Err, refl, sym, ap, subst, ◌∙◌, arith, drop}
 use Rattle.std.specs.Prelude.{IsTrue, ℤ, MatchOption}
 use Rattle.std.proofs.lemmas.Bool.{and_from, both_ways, eqb-true, ne_eqb}
-use Rattle.sfv_spec.proofs.Marks.{double_quote, percent_sign, digit_zero, colon}
-use Rattle.sfv_spec.proofs.Marks.{minus_sign, dot, digit_one, semicolon}
-use Rattle.sfv_spec.proofs.Marks.{equals_sign}
-use Rattle.sfv_spec.proofs.Marks.{question_mark, at_sign}
+use Rattle.sfv_spec.proofs.Marks.{double_quote, percent_sign, digit_zero, colon, minus_sign, dot, digit_one, semicolon}
+use Rattle.sfv_spec.proofs.Marks.{equals_sign, question_mark, at_sign, is_digit, is_space}
 use Rattle.sfv_spec.specs.Texts.{RunOf}
-use Rattle.sfv_spec.specs.Classes.{is_key_start, is_key_inner, is_key, is_token_start}
-use Rattle.sfv_spec.proofs.Marks.{is_digit, is_space}
-use Rattle.sfv_spec.specs.Classes.{is_token_inner, is_token}
-use Rattle.sfv_spec.specs.Values.{RawParameters, RawItem, BareValue, integer, decimal, token}
+use Rattle.sfv_spec.specs.Classes.{is_key_start, is_key_inner, is_key, is_token_start, is_token_inner, is_token}
+use Rattle.sfv_spec.specs.Values.{RawParameters, RawItem, BareValue, integer, decimal, token, boolean, date}
+use Rattle.sfv_spec.specs.Values.{display_string, string, byte_sequence}
 use Rattle.sfv_spec.specs.declared.version.Version.{Version}
 use Rattle.sfv_spec.specs.declared.version.Version.TheVariants.{Rfc8941, Rfc9651}
-use Rattle.sfv_spec.specs.Values.{boolean, date, display_string, string, byte_sequence}
 use Rattle.sfv_base.specs.declared.error.Error.{Error}
 use Rattle.std.specs.declared.alloc.Global.{Global}
 use Rattle.sfv_spec.specs.declared.error_kind.ErrorKind.{ErrorKind}
 use Rattle.sfv_spec.specs.Numbers.{place_value, signed}
 use Rattle.sfv_spec.specs.declared.error_kind.ErrorKind.TheVariants.{ExpectedQuote, Rfc8941DisplayString}
-use Rattle.sfv_spec.specs.declared.error_kind.ErrorKind.TheVariants.{ExpectedBoolean}
-use Rattle.sfv_spec.specs.declared.error_kind.ErrorKind.TheVariants.{Rfc8941Date, NonIntegerDate, ExpectedStartOfKey}
-use Rattle.sfv_spec.specs.declared.error_kind.ErrorKind.TheVariants.{ExpectedStartOfBareItem, ExpectedDigit}
-use Rattle.sfv_spec.specs.declared.error_kind.ErrorKind.TheVariants.{TooManyDigits}
+use Rattle.sfv_spec.specs.declared.error_kind.ErrorKind.TheVariants.{ExpectedBoolean, Rfc8941Date, NonIntegerDate}
+use Rattle.sfv_spec.specs.declared.error_kind.ErrorKind.TheVariants.{ExpectedStartOfKey, ExpectedStartOfBareItem}
+use Rattle.sfv_spec.specs.declared.error_kind.ErrorKind.TheVariants.{ExpectedDigit, TooManyDigits}
 use Rattle.sfv_spec.specs.declared.error_kind.ErrorKind.TheVariants.{TooManyDigitsBeforeDecimalPoint}
 use Rattle.sfv_spec.specs.declared.error_kind.ErrorKind.TheVariants.{TooManyDigitsAfterDecimalPoint}
 use Rattle.sfv_spec.specs.declared.error_kind.ErrorKind.TheVariants.{TrailingDecimalPoint}

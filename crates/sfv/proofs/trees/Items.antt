@@ -2,8 +2,7 @@
 use Rattle.std.proofs.Common.{◌≡◌, ℕ, true, false, List, Some, Ok, refl, subst, ◌∙◌, inl, inr}
 use Rattle.std.specs.Prelude.{is_some}
 use Rattle.std.specs.declared.alloc.Global.{Global}
-use Rattle.sfv_spec.proofs.Marks.{backslash, percent_sign, colon}
-use Rattle.sfv_spec.proofs.Marks.{is_space}
+use Rattle.sfv_spec.proofs.Marks.{backslash, percent_sign, colon, is_space}
 use Rattle.sfv_spec.specs.Values.{RawItem}
 use Rattle.sfv_spec.specs.Events.{item_events}
 use Rattle.sfv_spec.specs.Ordered.{ordered_item}
@@ -17,10 +16,9 @@ use Rattle.sfv_model.specs.Reader.{first, span}
 use Rattle.sfv_model.specs.Items.{item_at}
 use Rattle.sfv.specs.declared.parser.Parser.{Parser}
 use Rattle.sfv.specs.declared.parser.cursor.Cursor.{Cursor}
-use Rattle.sfv.specs.parser.Cursor.{kept, kept_input, kept_version, version, rest, IsErrorOf}
+use Rattle.sfv.specs.parser.Cursor.{kept, kept_input, kept_version, version, rest, IsErrorOf, MayNeedMemory}
 use Rattle.sfv.specs.parser.Trees.{FailsAs}
 use Rattle.sfv.specs.Memory.{HoldsMark, NeedsMemory}
-use Rattle.sfv.specs.parser.Cursor.{MayNeedMemory}
 use Rattle.sfv.specs.Parsers.{IsParseError}
 use Rattle.sfv.proofs.Parsed.{parsed, parse_error}
 use Rattle.sfv.proofs.reads.Errors.{kept_reads, ErrorOf-same}

@@ -11,8 +11,7 @@ use Rattle.sfv_spec.specs.declared.field_kind.FieldKind.TheVariants.{Item as ite
 use Rattle.sfv_model.specs.Reader.{byte, branch, fail}
 use Rattle.sfv_model.specs.Bare.{token_at}
 use Rattle.sfv.specs.Memory.{may_need_memory}
-use Rattle.sfv.specs.parser.Cursor.{MayNeedMemory}
-use Rattle.sfv.specs.parser.Cursor.{input, rest, NextIs}
+use Rattle.sfv.specs.parser.Cursor.{MayNeedMemory, input, rest, NextIs}
 use Rattle.sfv.specs.declared.parser.cursor.Cursor.{Cursor}
 use Rattle.sfv.proofs.Memory.{first_in}
 

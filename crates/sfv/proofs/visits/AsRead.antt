@@ -1,6 +1,6 @@
 -- The visitor receives the events as read: by the parts of a reading.
-use Rattle.std.proofs.Common.{◌≡◌, ℕ, true, false, Bool, List, [], ◌∷◌, ◌++◌, Result, Ok, Err, Some, None, refl}
-use Rattle.std.proofs.Common.{sym, ap, subst, ◌∙◌, append_assoc, flat_map, inl, inr}
+use Rattle.std.proofs.Common.{◌≡◌, ℕ, true, false, Bool, List, [], ◌∷◌, ◌++◌, Result, Ok, Err, Some, None, refl, sym}
+use Rattle.std.proofs.Common.{ap, subst, ◌∙◌, append_assoc, flat_map, inl, inr}
 use Rattle.std.specs.Prelude.{OnOk, IfOk, map, is_some}
 use Rattle.std.proofs.lemmas.List.{append-nil}
 use Rattle.std.proofs.lemmas.Result.{on_ok_weaker}
@@ -11,9 +11,9 @@ use Rattle.sfv_spec.specs.Values.{boolean}
 use Rattle.sfv_spec.specs.declared.field_kind.FieldKind.{FieldKind}
 use Rattle.sfv_spec.specs.declared.field_kind.FieldKind.TheVariants.{Item as item_field}
 use Rattle.sfv_spec.specs.declared.version.Version.{Version}
-use Rattle.sfv_spec.specs.Events.{TreeEvent, bare_item, parameters_end, begins_item, begins_inner_list}
-use Rattle.sfv_spec.specs.Events.{keyed_entry, inner_list_end, parameters_events, item_events, inner_item_events}
-use Rattle.sfv_spec.specs.Events.{member_events, keyed_events, events}
+use Rattle.sfv_spec.specs.Events.{TreeEvent, bare_item, parameters_end, begins_item, begins_inner_list, keyed_entry}
+use Rattle.sfv_spec.specs.Events.{inner_list_end, parameters_events, item_events, inner_item_events, member_events}
+use Rattle.sfv_spec.specs.Events.{keyed_events, events}
 use Rattle.sfv_spec.proofs.Structure.{one_field_lem}
 use Rattle.sfv_base.specs.declared.error.Error.{Error}
 use Rattle.sfv_base.specs.declared.error.ParseError.{ParseError}

@@ -1,12 +1,12 @@
 -- What a visitor was told of the member that begins after others, whatever comes of it.
-use Rattle.std.proofs.Common.{◌≡◌, ℕ, ◌≤◌, eqb, true, false, List, [], ◌∷◌, ◌++◌, length, Some, Ok, Err, refl, sym}
-use Rattle.std.proofs.Common.{ap, subst, ◌∙◌, append_assoc, arith, inl, inr}
+use Rattle.std.proofs.Common.{◌≡◌, ℕ, ◌≤◌, eqb, true, false, List, [], ◌∷◌, ◌++◌, length, Some, Ok, Err, refl, sym, ap}
+use Rattle.std.proofs.Common.{subst, ◌∙◌, append_assoc, arith, inl, inr}
 use Rattle.std.proofs.lemmas.List.{append-nil}
 use Rattle.std.proofs.lemmas.Bool.{or_parts, and_parts, or_cases, eqb-true, not-true, true≢false}
 use Rattle.std.specs.Prelude.{Bool, IsTrue, IsFalse, map, flat_map, ◌||◌, codes, not, ◌==◌}
 use Rattle.std.specs.List.{list_all}
-use Rattle.sfv_spec.proofs.Marks.{comma, tab, equals_sign, semicolon, left_parenthesis, true_with}
-use Rattle.sfv_spec.proofs.Marks.{is_space, is_space_or_tab}
+use Rattle.sfv_spec.proofs.Marks.{comma, tab, equals_sign, semicolon, left_parenthesis, true_with, is_space}
+use Rattle.sfv_spec.proofs.Marks.{is_space_or_tab}
 use Rattle.sfv_spec.specs.Texts.{RunOf, begins_with, ◌⨾◌, IsJoining}
 use Rattle.sfv_spec.specs.Classes.{is_key_inner, is_token_inner, is_one_of}
 use Rattle.sfv_spec.specs.Values.{BareValue, boolean, RawParameters, RawItem, RawMember, item, inner_list, RawField}
@@ -14,15 +14,13 @@ use Rattle.sfv_spec.specs.declared.field_kind.FieldKind.{FieldKind}
 use Rattle.sfv_spec.specs.declared.field_kind.FieldKind.TheVariants.{Item as item_field, List as list_field}
 use Rattle.sfv_spec.specs.declared.field_kind.FieldKind.TheVariants.{Dictionary as dictionary_field}
 use Rattle.sfv_spec.specs.declared.version.Version.{Version}
-use Rattle.sfv_spec.specs.Grammar.{Spaces, Comma, IsKeyText, IsValueText, IsParameterText, IsEnded}
-use Rattle.sfv_spec.specs.Grammar.{IsItemText, IsMemberText, IsDictionaryMemberText}
-use Rattle.sfv_spec.specs.Grammar.{IsParametersText, IsMemberValueText}
+use Rattle.sfv_spec.specs.Grammar.{Spaces, Comma, IsKeyText, IsValueText, IsParameterText, IsEnded, IsItemText}
+use Rattle.sfv_spec.specs.Grammar.{IsMemberText, IsDictionaryMemberText, IsParametersText, IsMemberValueText}
 use Rattle.sfv_spec.specs.Events.{TreeEvent, entry, keyed_entry, begins_item, bare_item, parameter, parameters_end}
-use Rattle.sfv_spec.specs.Events.{parameters_events, item_events}
-use Rattle.sfv_spec.specs.Events.{member_events, entry_events, keyed_events, events}
+use Rattle.sfv_spec.specs.Events.{parameters_events, item_events, member_events, entry_events, keyed_events, events}
 use Rattle.sfv_spec.proofs.Settled.{joining-nil, joining-cons}
-use Rattle.sfv_model.specs.Reader.{Answer, Reader, Apart, visited, and_then, give, ◌>>=◌, bind, led}
-use Rattle.sfv_model.specs.Reader.{led_answer, many, go_on, one_and_more}
+use Rattle.sfv_model.specs.Reader.{Answer, Reader, Apart, visited, and_then, give, ◌>>=◌, bind, led, led_answer, many}
+use Rattle.sfv_model.specs.Reader.{go_on, one_and_more}
 use Rattle.sfv_model.specs.Items.{value_at, parameter_at, parameter_event, parameters_at, item_of, item_at}
 use Rattle.sfv_model.specs.Members.{member_at, entry_at, member_value_at, keyed_at}
 use Rattle.sfv_model.specs.Fields.{next_at, members_at, whole_field_at}
@@ -33,15 +31,15 @@ use Rattle.sfv_model.proofs.sound.Separated.{Consumes-next, comma_complete}
 use Rattle.sfv_model.proofs.complete.Combinators.{Apart-nil, Apart-cons, Apart-part, branch_past, branch_take}
 use Rattle.sfv_model.proofs.complete.Combinators.{ahead_take, ahead_any, bind_complete, span_complete}
 use Rattle.sfv_model.proofs.complete.Bare.{bare_complete}
-use Rattle.sfv_model.proofs.complete.Items.{lengthens, lengthens_item, blank_ends, key_complete, item_no}
-use Rattle.sfv_model.proofs.complete.Items.{key_apart, equals_apart}
+use Rattle.sfv_model.proofs.complete.Items.{lengthens, lengthens_item, blank_ends, key_complete, item_no, key_apart}
+use Rattle.sfv_model.proofs.complete.Items.{equals_apart}
 use Rattle.sfv_model.proofs.texts.Joining.{joining_none}
 use Rattle.sfv_model.proofs.complete.Fields.{comma_ends}
 use Rattle.sfv_model.proofs.complete.Members.{entry_complete, entry_fresh, keyed_complete, keyed_fresh}
 use Rattle.sfv_model.proofs.sound.Members.{Sound-entry, Sound-keyed}
 use Rattle.sfv_model.proofs.visits.EventsBeforeRuleAlike.{begins_all, begins_trans}
-use Rattle.sfv.specs.Parsers.{open_events, IsBeforeMember, BeginsMember}
-use Rattle.sfv.specs.Parsers.{list_member, list_item, dictionary_key, dictionary_item}
+use Rattle.sfv.specs.Parsers.{open_events, IsBeforeMember, BeginsMember, list_member, list_item, dictionary_key}
+use Rattle.sfv.specs.Parsers.{dictionary_item}
 
 -- a comma may stand after a member
 comma_apart : (b q : List ℕ) → RunOf is_space_or_tab b → Apart lengthens_item (b ++ comma ∷ q)

@@ -4,14 +4,12 @@ use Rattle.std.proofs.Common.{refl, sym, ap, subst, ◌∙◌, append_assoc, inl
 use Rattle.std.proofs.lemmas.List.{append_cancel_right, append-nil, take-append-drop}
 use Rattle.std.specs.Prelude.{⊤, codes, Bool, true, false, MatchOption, IfOk, IfErr, flat_map, ◌⊎◌}
 use Rattle.std.specs.declared.alloc.Global.{Global}
-use Rattle.sfv_spec.proofs.Marks.{is_space}
-use Rattle.sfv_spec.proofs.Marks.{comma}
-use Rattle.sfv_spec.specs.Values.{RawField, RawItem}
+use Rattle.sfv_spec.proofs.Marks.{is_space, comma}
+use Rattle.sfv_spec.specs.Values.{RawField, RawItem, IsFieldValue}
 use Rattle.sfv_spec.specs.declared.field_kind.FieldKind.{FieldKind}
 use Rattle.sfv_spec.specs.declared.field_kind.FieldKind.TheVariants.{Item as item_field, List as list_field}
 use Rattle.sfv_spec.specs.declared.field_kind.FieldKind.TheVariants.{Dictionary as dictionary_field}
 use Rattle.sfv_spec.specs.declared.version.Version.{Version}
-use Rattle.sfv_spec.specs.Values.{IsFieldValue}
 use Rattle.sfv_spec.specs.declared.error_kind.ErrorKind.{ErrorKind}
 use Rattle.sfv_spec.specs.declared.error_kind.ErrorKind.TheVariants.{TrailingCharactersAfterParsedValue}
 use Rattle.sfv_spec.specs.Grammar.{IsFieldText, IsAccepted, HasField}
@@ -40,8 +38,7 @@ use Rattle.sfv_model.proofs.visits.EventsBeforeReach.{visited_reach}
 use Rattle.sfv_model.proofs.visits.EventsBeforeComma.{visited_before}
 use Rattle.sfv.specs.declared.parser.Parser.{Parser}
 use Rattle.sfv.specs.declared.parser.cursor.Cursor.{Cursor}
-use Rattle.sfv.specs.parser.Cursor.{kept_input, located, IsErrorOf}
-use Rattle.sfv.specs.parser.Cursor.{located_whole}
+use Rattle.sfv.specs.parser.Cursor.{kept_input, located, IsErrorOf, located_whole}
 use Rattle.sfv.specs.parser.Members.{MemberValue, member_parts, one_member_at, field_of}
 use Rattle.sfv_tree.specs.declared.visitor.Visitor.{Ghosts}
 use Rattle.sfv.specs.parser.Visits.{VisitsAnswer, IsOfVisitor, VisitsField, IsFinishedAt, IsAskedThere, ReturnsAfter}

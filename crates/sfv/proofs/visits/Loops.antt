@@ -1,6 +1,6 @@
 -- Readings one by one, each after a delimiter: the loops of inner lists and of members.
-use Rattle.std.proofs.Common.{◌≡◌, ℕ, ◌<◌, Bool, true, false, List, [], ◌∷◌, ◌++◌, length, Option, Some}
-use Rattle.std.proofs.Common.{None, Ok, Err, refl, sym, ap, subst, ◌∙◌}
+use Rattle.std.proofs.Common.{◌≡◌, ℕ, ◌<◌, Bool, true, false, List, [], ◌∷◌, ◌++◌, length, Option, Some, None, Ok, Err}
+use Rattle.std.proofs.Common.{refl, sym, ap, subst, ◌∙◌}
 use Rattle.std.specs.Prelude.{flat_map}
 use Rattle.std.specs.declared.alloc.Global.{Global}
 use Rattle.std.proofs.lemmas.List.{append-nil}
@@ -17,8 +17,7 @@ use Rattle.sfv_model.specs.Fields.{next_at}
 use Rattle.sfv_model.specs.Visits.{VisitorFails}
 use Rattle.sfv_model.proofs.sound.Members.{Consumes-next_item, Sound-entry, Sound-keyed}
 use Rattle.sfv_model.proofs.sound.Separated.{Consumes-next}
-use Rattle.sfv_model.proofs.sound.Many.{Consumes, put, in_front, starts, regroup, many_is, goes_on, is_done}
-use Rattle.sfv_model.proofs.sound.Many.{is_faulty}
+use Rattle.sfv_model.proofs.sound.Many.{Consumes, put, in_front, starts, regroup, many_is, goes_on, is_done, is_faulty}
 use Rattle.sfv_model.proofs.visits.Parts.{failed_within}
 use Rattle.sfv_model.proofs.complete.Combinators.{bind_complete}
 use Rattle.sfv_base.specs.declared.error.ParseError.{ParseError}
@@ -28,7 +27,7 @@ use Rattle.sfv.specs.declared.parser.cursor.Cursor.{Cursor}
 use Rattle.sfv.specs.parser.Cursor.{kept, kept_input, version, input, rest, IsFaultOf, IsErrorOf}
 use Rattle.sfv.specs.parser.Members.{item_delimiter_at, member_delimiter_at, MemberValue, member_parts, one_member_at}
 use Rattle.sfv.specs.parser.Visits.{VisitsAnswer, Visits, TookAll}
-use Rattle.sfv.proofs.reads.Errors.{ErrorOf-fault}
+use Rattle.sfv.proofs.reads.Errors.{ErrorOf-fault, kept_reads}
 use Rattle.sfv.proofs.visits.Taken.{runs_on, took_after, took_part, took_none, IsQuiet, item_delimiter_quiet}
 use Rattle.sfv.proofs.visits.Taken.{member_delimiter_quiet}
 use Rattle.sfv.proofs.reads.Delimiters.{one_if, first_of, next_item_is, next_member_is}
@@ -100,14 +99,16 @@ module _ {A : Type 0} (l : Loop A) (version : Version) where
 
   module _ {S E : Type 0} (takes : S → TreeEvent → S → Type 0) (fails : S → TreeEvent → E → Type 0) where
     -- after the first
-    begun_at : (t q : List ℕ) (v : A) (from to : S) → (l.one version) t ≡ Ok (v, q) → FoldsTo takes from (l.parts v) to
-        → SoFar takes l version (first_of l.parts (l.one version) (l.next version) t) q from to
+    unfoldable pub begun_at : (t q : List ℕ) (v : A) (total : Answer (List A)) (from to : S)
+        → total ≡ first_of l.parts (l.one version) (l.next version) t → (l.one version) t ≡ Ok (v, q)
+        → FoldsTo takes from (l.parts v) to → SoFar takes l version total q from to
     unfolding first_of bind led
-    begun_at t q v from to e run = record {
+    begun_at t q v total from to whole e run = record {
       front = v ∷ [];
       so_far = sym (regroup l.parts [] v (many l.parts (l.next version) q))
           ∙ starts l.parts (put l.parts v (many l.parts (l.next version) q))
-          ∙ sym (ap (λ a. and_then a (λ v. led (l.parts v) (many l.parts (l.next version) >>= λ vs. give (v ∷ vs)))) e);
+          ∙ sym (ap (λ a. and_then a (λ v. led (l.parts v) (many l.parts (l.next version) >>= λ vs. give (v ∷ vs)))) e)
+          ∙ sym whole;
       taken = subst (λ es. FoldsTo takes from es to) (sym (append-nil (l.parts v))) run;
     }
 
@@ -150,7 +151,7 @@ module _ {A : Type 0} (l : Loop A) (version : Version) where
         (first_failure t from fault h)
 
     -- after one more
-    more_at : (t r q : List ℕ) (v : A) (total : Answer (List A)) (from middle to : S)
+    unfoldable pub more_at : (t r q : List ℕ) (v : A) (total : Answer (List A)) (from middle to : S)
         → SoFar takes l version total t from middle → l.delimiter t ≡ Ok (true, r) → (l.one version) r ≡ Ok (v, q)
         → FoldsTo takes middle (l.parts v) to → SoFar takes l version total q from to
     more_at t r q v total from middle to h e k run = record {
@@ -162,7 +163,7 @@ module _ {A : Type 0} (l : Loop A) (version : Version) where
           (runs_on takes (all_events l.parts h.front) (l.parts v) from middle to h.taken run);
     }
 
-    ended_at : (t r : List ℕ) (total : Answer (List A)) (from to : S) → (h : SoFar takes l version total t from to)
+    pub ended_at : (t r : List ℕ) (total : Answer (List A)) (from to : S) → (h : SoFar takes l version total t from to)
         → l.delimiter t ≡ Ok (false, r) → total ≡ Ok (h.front, r)
     ended_at t r total from to h e = is_done l.parts (l.next version) (l.consumes version) h.front t r total
         (next_none t r e) h.so_far
@@ -262,15 +263,13 @@ module _ {A S E : Type 0} (takes : S → TreeEvent → S → Type 0) (fails : S 
       × (kept middle ≡ kept start)
 
   -- after the first
-  pub begun : (middle after : Cursor) (from to : S) → IsFirst middle
+  unfoldable pub begun : (middle after : Cursor) (from to : S) → IsFirst middle
       → Visits takes fails l.parts middle after from to (Ok tt) l.one → VisitedSoFar takes l start total after from to
-  begun middle after from to first h =
-      let read = kept_visits takes fails l.parts l.one middle after from to (kept start) (Ok tt) first.1 h in
-      record {
-        read = subst (λ total. SoFar takes l (version start) total (rest after) from to) (sym first.0)
-            (begun_at l (version start) takes fails (rest middle) (rest after) read.0 from to read.1 read.2);
-        same = read.3;
-      }
+  begun middle after from to first h = record {
+    read = begun_at l (version start) takes fails (rest middle) (rest after) h.0 total from to first.0
+        (kept_reads l.one (rest middle) (kept middle) (kept start) first.1 ∙ h.1) h.2;
+    same = h.3 ∙ first.1;
+  }
 
   -- the first is not read whole
   pub first_fails : (middle after : Cursor) (from to : S) (error : ParseError E) → IsFirst middle
@@ -290,17 +289,14 @@ module _ {A S E : Type 0} (takes : S → TreeEvent → S → Type 0) (fails : S 
       (ErrorOf-fault (input now) e (l.delimiter (rest now)) fault))
 
   -- after one more
-  pub more : (now middle after : Cursor) (from at to : S) → VisitedSoFar takes l start total now from at
+  unfoldable pub more : (now middle after : Cursor) (from at to : S) → VisitedSoFar takes l start total now from at
       → Wants l true now middle → Visits takes fails l.parts middle after at to (Ok tt) l.one
       → VisitedSoFar takes l start total after from to
-  more now middle after from at to h wanted one =
-      let read = kept_visits takes fails l.parts l.one middle after at to (kept start) (Ok tt) (wanted.1
-      ∙ h.same) one in
-      record {
-        read = more_at l (version start) takes fails (rest now) (rest middle) (rest after) read.0 total from at
-            to h.read wanted.0 read.1 read.2;
-        same = read.3;
-      }
+  more now middle after from at to h wanted one = record {
+    read = more_at l (version start) takes fails (rest now) (rest middle) (rest after) one.0 total from at to h.read
+        wanted.0 (kept_reads l.one (rest middle) (kept middle) (kept start) (wanted.1 ∙ h.same) ∙ one.1) one.2;
+    same = one.3 ∙ wanted.1 ∙ h.same;
+  }
 
   -- one more is not read whole
   pub one_fails : (now middle after : Cursor) (from at to : S) (error : ParseError E)
@@ -313,7 +309,7 @@ module _ {A S E : Type 0} (takes : S → TreeEvent → S → Type 0) (fails : S 
       ∙ h.same) one)
 
   -- none is wanted
-  pub ended : (now after : Cursor) (from to : S) → VisitedSoFar takes l start total now from to
+  unfoldable pub ended : (now after : Cursor) (from to : S) → VisitedSoFar takes l start total now from to
       → Wants l false now after → VisitsAnswer takes fails (all_events l.parts) (kept start) after from to (Ok tt) total
   ended now after from to h wanted = (
     h.read.front,

@@ -1,6 +1,6 @@
 -- The loop over parameters: the visitor has taken those that were read.
-use Rattle.std.proofs.Common.{◌≡◌, ℕ, List, [], ◌∷◌, ◌++◌, Some, None, Result, Ok, Err, refl, sym}
-use Rattle.std.proofs.Common.{ap, subst, ◌∙◌, append_assoc}
+use Rattle.std.proofs.Common.{◌≡◌, ℕ, List, [], ◌∷◌, ◌++◌, Some, None, Result, Ok, Err, refl, sym, ap, subst, ◌∙◌}
+use Rattle.std.proofs.Common.{append_assoc}
 use Rattle.std.specs.Prelude.{OnOk, IfErr, map, flat_map}
 use Rattle.std.specs.declared.alloc.Global.{Global}
 use Rattle.std.proofs.lemmas.List.{map-append}
@@ -46,7 +46,7 @@ pub record VisitedParameters {S : Type 0} (takes : S → TreeEvent
   pub so_far : in_front parameter_event raw (parameters_at version now) ≡ parameters_at version start
   pub taken : FoldsTo takes from (pair_events raw) to
 
-pub visited_none : {S : Type 0} (takes : S → TreeEvent → S → Type 0) (version : Version) (start : List ℕ) (from : S)
+unfoldable pub visited_none : {S : Type 0} (takes : S → TreeEvent → S → Type 0) (version : Version) (start : List ℕ) (from : S)
     → VisitedParameters takes version start start from from
 visited_none takes version start from = record {
   raw = [];
@@ -54,7 +54,7 @@ visited_none takes version start from = record {
   taken = refl;
 }
 
-pub visited_more : {S : Type 0} (takes : S → TreeEvent
+unfoldable pub visited_more : {S : Type 0} (takes : S → TreeEvent
     → S → Type 0) (version : Version) (start now r k : List ℕ) (v : BareValue) (from middle to : S)
     → VisitedParameters takes version start now from middle → parameter_at version now ≡ Ok (Some (k, v), r)
     → takes middle (parameter k v) to → VisitedParameters takes version start r from to

@@ -1,6 +1,6 @@
 -- An error with an index: all events before the fault were taken.
-use Rattle.std.proofs.Common.{◌≡◌, ℕ, ◌≤◌, true, false, List, [], ◌∷◌, ◌++◌, length, drop, Option, Some, None, Ok}
-use Rattle.std.proofs.Common.{Err, refl, sym, ap, subst, ◌∙◌, inl, inr}
+use Rattle.std.proofs.Common.{◌≡◌, ℕ, ◌≤◌, true, false, List, [], ◌∷◌, ◌++◌, length, drop, Option, Some, None, Ok, Err}
+use Rattle.std.proofs.Common.{refl, sym, ap, subst, ◌∙◌, inl, inr}
 use Rattle.std.specs.Prelude.{⊤, MatchOption, is_some, flat_map}
 use Rattle.std.proofs.lemmas.Bool.{cases_Bool}
 use Rattle.sfv_spec.specs.declared.version.Version.{Version}
@@ -12,12 +12,12 @@ use Rattle.sfv_base.specs.declared.error.Error.{Error}
 use Rattle.sfv_spec.specs.declared.error_kind.ErrorKind.{ErrorKind}
 use Rattle.sfv_base.specs.Errors.{kind_of, index_of, error_of}
 use Rattle.sfv_model.specs.Judgements.{Reached, Sound, Mute, Quiet}
-use Rattle.sfv_model.specs.Reader.{Answer, Reader, Fault, after_events, visited, and_then, bind, ◌>>=◌}
+use Rattle.sfv_model.specs.Reader.{Answer, Reader, Fault, after_events, visited, and_then, bind, ◌>>=◌, ahead, fail}
+use Rattle.sfv_model.specs.Reader.{first, give, at_reach}
 use Rattle.sfv_model.specs.Bare.{bare_at}
 use Rattle.sfv_model.specs.Items.{key_at, value_at, parameter_at}
 use Rattle.sfv_model.specs.Members.{inner_items_at}
 use Rattle.sfv_model.specs.Fields.{comma_at}
-use Rattle.sfv_model.specs.Reader.{ahead, fail, first, give, at_reach}
 use Rattle.sfv_model.specs.Visits.{Visited}
 use Rattle.sfv_model.proofs.sound.Combinators.{Sound-give, Sound-fail, Sound-branch, Sound-ahead, Sound-bind}
 use Rattle.sfv_model.proofs.sound.Combinators.{Sound-span, Sound-back, Found, Reads}

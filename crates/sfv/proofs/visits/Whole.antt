@@ -17,8 +17,7 @@ use Rattle.sfv_model.specs.Fields.{whole_field_at, ending, read_field}
 use Rattle.sfv_model.proofs.complete.Combinators.{bind_complete}
 use Rattle.sfv.specs.declared.parser.Parser.{Parser}
 use Rattle.sfv.specs.declared.parser.cursor.Cursor.{Cursor}
-use Rattle.sfv.specs.parser.Cursor.{kept, kept_input, rest, located, IsErrorOf}
-use Rattle.sfv.specs.parser.Cursor.{located_whole}
+use Rattle.sfv.specs.parser.Cursor.{kept, kept_input, rest, located, IsErrorOf, located_whole}
 use Rattle.sfv.proofs.reads.Errors.{fault_bind}
 use Rattle.sfv.specs.Memory.{IsRefusal}
 

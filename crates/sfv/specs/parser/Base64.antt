@@ -2,10 +2,9 @@
 use Rattle.std.specs.Prelude.{◌≡◌, ℕ, ◌+◌, ◌*◌, ◌/◌, ◌%◌, ◌≤◌, ◌⊎◌, List, [], ◌∷◌, length, take, drop, replicate, map}
 use Rattle.std.specs.Prelude.{◌==◌, slice_index, if◌then◌else◌, IsTrue}
 use Rattle.std.specs.List.{list_all}
-use Rattle.sfv_spec.proofs.Marks.{equals_sign}
+use Rattle.sfv_spec.proofs.Marks.{equals_sign, is_symbol, slash}
 use Rattle.sfv_spec.specs.Base64.{symbols}
 use Rattle.sfv_spec.specs.Texts.{RunOf}
-use Rattle.sfv_spec.proofs.Marks.{is_symbol, slash}
 use Rattle.sfv_model.specs.Reader.{Apart, byte}
 use Rattle.sfv_model.specs.Content.{bytes_from, symbol_value}
 

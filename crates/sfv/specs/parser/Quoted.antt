@@ -1,6 +1,6 @@
 -- The inside of strings and display strings, after the opening quote. The flag is true for a display string.
-use Rattle.std.specs.Prelude.{◌*◌, ◌+◌, ◌≡◌, ⊤, ◌↔◌, ℕ, ◌<◌, Bool, true, false, not, ◌==◌, List, [], ◌∷◌, ◌++◌, length, Result}
-use Rattle.std.specs.Prelude.{Ok, Err, IsTrue, string_bytes}
+use Rattle.std.specs.Prelude.{◌*◌, ◌+◌, ◌≡◌, ⊤, ◌↔◌, ℕ, ◌<◌, Bool, true, false, not, ◌==◌, List, [], ◌∷◌, ◌++◌, length}
+use Rattle.std.specs.Prelude.{Result, Ok, Err, IsTrue, string_bytes}
 use Rattle.std.specs.declared.alloc.Global.{Global}
 use Rattle.std.specs.declared.vec.Vec.{Vec}
 use Rattle.std.specs.declared.string.String as std_string

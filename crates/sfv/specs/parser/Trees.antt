@@ -1,8 +1,10 @@
 -- Results of parsing to a tree.
-use Rattle.std.specs.Prelude.{◌≡◌, ⊤, IsTrue, ℕ, List, All, map, Result, Ok, Err}
+use Rattle.std.specs.Prelude.{◌≡◌, ⊤, IsTrue, Bool, true, false, ℕ, List, [], ◌∷◌, ◌++◌, All, map, Result, Ok, Err}
+use Rattle.std.specs.Prelude.{bytes_eq}
 use Rattle.std.specs.List.{Contains}
-use Rattle.sfv_spec.specs.Values.{RawMember, item, inner_list}
-use Rattle.sfv_spec.specs.Ordered.{ordered_member}
+use Rattle.indexmap.specs.IndexMap.{insert_entry}
+use Rattle.sfv_spec.specs.Values.{RawMember, RawField, item, inner_list}
+use Rattle.sfv_spec.specs.Ordered.{collapse, ordered_member}
 use Rattle.sfv_spec.specs.declared.version.Version.{Version}
 use Rattle.sfv_spec.specs.Events.{TreeEvent, keyed_entry, bare_item, parameter, parameters_end}
 use Rattle.sfv_base.specs.declared.error.Error.{Error}
@@ -20,8 +22,8 @@ use Rattle.sfv.specs.declared.parser.cursor.Cursor.{Cursor}
 use Rattle.sfv.specs.declared.parser.tree.Head.{Head}
 use Rattle.sfv.specs.declared.parser.tree.Head.TheVariants as heads
 use Rattle.sfv_spec.specs.declared.field_kind.FieldKind.TheVariants.{Item as item_field}
-use Rattle.sfv.specs.parser.Cursor.{MayNeedMemory}
-use Rattle.sfv.specs.parser.Cursor.{kept, input, version, rest, IsErrorOf}
+use Rattle.sfv.specs.parser.Cursor.{MayNeedMemory, kept, input, version, rest, IsErrorOf}
+use Rattle.sfv.specs.parser.Members.{MemberValue, field_of}
 
 -- At these events memory may run out: a key or a text is copied, or a map or a list grows.
 abbrev pub TakesMemory : TreeEvent → Type 0
@@ -55,6 +57,16 @@ Builds view collapsed parts before after (Err e) reader = FailsAs parts before e
 -- each key with its member, whose keys are collapsed
 abbrev pub ordered_pairs : List (List ℕ × RawMember) → List (List ℕ × RawMember)
 ordered_pairs ms = map (λ m. (m.0, ordered_member m.1)) ms
+
+-- the value of a dictionary (`true`) or of a list (`false`) with these members: each key once
+abbrev pub ordered_members : (keyed : Bool) → List (MemberValue keyed) → RawField (field_of keyed)
+ordered_members true ms = collapse (ordered_pairs ms)
+ordered_members false ms = map ordered_member ms
+
+-- the value with one more member: an existing key keeps its place and takes the new member
+abbrev pub with_member : (keyed : Bool) → RawField (field_of keyed) → MemberValue keyed → RawField (field_of keyed)
+with_member true ms m = insert_entry bytes_eq ms m.0 (ordered_member m.1)
+with_member false ms m = ms ++ ordered_member m ∷ []
 
 -- the member with these parameters
 abbrev pub head_tree : Head → List (List ℕ × OwnedBareItem) → RawMember

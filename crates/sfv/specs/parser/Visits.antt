@@ -19,8 +19,7 @@ use Rattle.sfv_model.specs.Fields.{whole_field_at, read_field}
 use Rattle.sfv_model.specs.Visits.{Visited, VisitorFails}
 use Rattle.sfv.specs.declared.parser.Parser.{Parser}
 use Rattle.sfv.specs.declared.parser.cursor.Cursor.{Cursor}
-use Rattle.sfv.specs.parser.Cursor.{kept, kept_input, version, rest, IsErrorOf}
-use Rattle.sfv.specs.parser.Cursor.{located_whole}
+use Rattle.sfv.specs.parser.Cursor.{kept, kept_input, version, rest, IsErrorOf, located_whole}
 use Rattle.sfv.specs.Memory.{IsRefusal}
 
 -- the visitor receives these events and returns this result

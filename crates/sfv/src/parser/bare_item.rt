@@ -1,8 +1,7 @@
 //! Parsing of bare items (RFC 9651, sections 4.2.3.1 and 4.2.5 to 4.2.10).
 
 ghost use Rattle.std.specs.Prelude.{◌≡◌, true, IfOk, IsTrue};
-ghost use Rattle.sfv_spec.proofs.Marks.{double_quote, percent_sign, colon};
-ghost use Rattle.sfv_spec.proofs.Marks.{question_mark, at_sign};
+ghost use Rattle.sfv_spec.proofs.Marks.{double_quote, percent_sign, colon, question_mark, at_sign};
 ghost use Rattle.sfv_spec.specs.Values.{boolean, date};
 ghost use Rattle.sfv_spec.specs.declared.field_kind.FieldKind.TheVariants.{Item as item_field};
 ghost use Rattle.sfv_spec.specs.declared.version.Version.TheVariants.{Rfc9651};
@@ -10,8 +9,7 @@ ghost use Rattle.sfv_base.specs.Numbers.{seconds_of};
 ghost use Rattle.sfv_values.specs.BareItems.{input_value, is_borrowed};
 ghost use Rattle.sfv_model.specs.Reader.{byte};
 ghost use Rattle.sfv_model.specs.Bare.{is_number_start, boolean_at, date_at, token_at, bare_at};
-ghost use Rattle.sfv.specs.parser.Cursor.{input, version, rest, Reads, ReadsOrOutOfMemory, NextIs};
-ghost use Rattle.sfv.specs.parser.Cursor.{MayNeedMemory};
+ghost use Rattle.sfv.specs.parser.Cursor.{input, version, rest, Reads, ReadsOrOutOfMemory, NextIs, MayNeedMemory};
 ghost use Rattle.sfv.specs.parser.Quoted.{IsBorrowedUnlessEscaped};
 
 use crate::parser::cursor::Cursor;

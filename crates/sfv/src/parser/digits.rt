@@ -2,8 +2,7 @@
 
 ghost use Rattle.std.specs.Prelude.{◌≡◌, ◌≤◌, ◌<◌, ◌^◌, ◌*◌, ◌-◌, ℕ, true, false, List, length, take, drop, Ok};
 ghost use Rattle.std.specs.Prelude.{MatchOption};
-ghost use Rattle.sfv_spec.proofs.Marks.{digit_zero};
-ghost use Rattle.sfv_spec.proofs.Marks.{is_digit};
+ghost use Rattle.sfv_spec.proofs.Marks.{digit_zero, is_digit};
 ghost use Rattle.sfv_model.specs.Reader.{up_to};
 ghost use Rattle.sfv.specs.parser.Values.{Spells};
 

@@ -5,7 +5,8 @@ ghost use Rattle.sfv_spec.specs.Events.{member_events, inner_item_events};
 ghost use Rattle.sfv_model.specs.Members.{inner_item_at, inner_items_at, inner_at, member_at, member_value_at};
 ghost use Rattle.sfv_model.specs.Fields.{members_at};
 ghost use Rattle.sfv.specs.parser.Cursor.{rest, Reads};
-ghost use Rattle.sfv.specs.parser.Members.{item_delimiter_at, member_delimiter_at, after_begin, member_parts, one_member_at};
+ghost use Rattle.sfv.specs.parser.Members.{item_delimiter_at, member_delimiter_at, after_begin, member_parts};
+ghost use Rattle.sfv.specs.parser.Members.{one_member_at};
 ghost use Rattle.sfv.specs.parser.Visits.{Visits};
 ghost use Rattle.sfv.specs.parser.AsRead.{ReadsEvents};
 

@@ -7,8 +7,7 @@ ghost use Rattle.sfv_base.specs.Numbers.{integer_of};
 ghost use Rattle.sfv_model.specs.Reader.{byte};
 ghost use Rattle.sfv_model.specs.Bare.{sign_at, point_at, whole_at, number_at};
 ghost use Rattle.sfv.specs.parser.Cursor.{kept, rest, Reads, NextIs};
-ghost use Rattle.sfv.specs.parser.Values.{Spells};
-ghost use Rattle.sfv.specs.parser.Values.{number_value_of};
+ghost use Rattle.sfv.specs.parser.Values.{Spells, number_value_of};
 
 use crate::parser::cursor::Cursor;
 use crate::parser::digits::{Digits, thousandths};

@@ -1,14 +1,13 @@
 //! Parsing between two quotes: the inside of a string or a display string.
 
 ghost use Rattle.std.specs.Prelude.{◌≡◌, ◌++◌, ◌↔◌, Bool, true, false, IfOk, IfSome, IsTrue};
-ghost use Rattle.sfv_spec.proofs.Marks.{double_quote};
+ghost use Rattle.sfv_spec.proofs.Marks.{double_quote, plain_of};
 ghost use Rattle.sfv_spec.specs.Texts.{RunOf};
-ghost use Rattle.sfv_spec.proofs.Marks.{plain_of};
 ghost use Rattle.sfv_model.specs.Reader.{Apart, byte};
 ghost use Rattle.sfv_model.specs.Quoted.{after_bytes};
 ghost use Rattle.sfv.specs.parser.Cursor.{input, kept, rest, IsFaultOf, ReadsOrOutOfMemory};
-ghost use Rattle.sfv.specs.parser.Quoted.{mark_of, end_error_of, inside, quoted_bytes, is_plain, HasNoMark, ReadsEscape};
-ghost use Rattle.sfv.specs.parser.Quoted.{ReadsDigit, IsNextEscape};
+ghost use Rattle.sfv.specs.parser.Quoted.{mark_of, end_error_of, inside, quoted_bytes, is_plain, HasNoMark};
+ghost use Rattle.sfv.specs.parser.Quoted.{ReadsEscape, ReadsDigit, IsNextEscape};
 ghost use Rattle.sfv.specs.parser.Values.{vec_bytes};
 ghost use Rattle.sfv.specs.Memory.{HoldsMark};
 

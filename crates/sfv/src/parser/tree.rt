@@ -3,35 +3,31 @@
 //! These functions build what `ItemBuilder`, `ListBuilder` and `DictionaryBuilder` build from events. A list requests room
 //! for an element when the element is complete.
 
-ghost use Rattle.std.specs.Prelude.{◌≡◌, ◌<◌, ◌≤◌, ◌++◌, ◌∷◌, [], ⊤, None, Ok, OnOk, OnErr, IfOk, IfErr, IsTrue, All, map, flat_map, length, vec_capacity};
-ghost use Rattle.std.specs.Prelude.{bytes_eq};
+ghost use Rattle.std.specs.Prelude.{◌≡◌, ◌<◌, ◌≤◌, ◌++◌, ◌∷◌, [], Bool, true, false, ⊤, None, Ok, OnOk, OnErr, IfOk};
+ghost use Rattle.std.specs.Prelude.{IfErr, IsTrue, All, map, flat_map, length, vec_capacity, bytes_eq};
 ghost use Rattle.indexmap.specs.IndexMap.{get, hasher_of, insert_entry, spare};
-ghost use Rattle.sfv_spec.specs.Values.{inner_list};
+ghost use Rattle.sfv_spec.specs.Values.{RawField, inner_list};
 ghost use Rattle.sfv_spec.specs.Statements.{IsParsedAs};
-ghost use Rattle.sfv_spec.specs.declared.field_kind.FieldKind.TheVariants.{Item as item_field, List as list_field};
-ghost use Rattle.sfv_spec.specs.declared.field_kind.FieldKind.TheVariants.{Dictionary as dictionary_field};
+ghost use Rattle.sfv_spec.specs.declared.field_kind.FieldKind.TheVariants.{Item as item_field};
 ghost use Rattle.sfv_spec.specs.Ordered.{collapse, ordered_item, ordered_member};
-ghost use Rattle.sfv_spec.specs.Events.{parameters_events, item_events, inner_item_events, member_events};
-ghost use Rattle.sfv_spec.specs.Events.{entry_events, keyed_events};
+ghost use Rattle.sfv_spec.specs.Events.{parameters_events, item_events, inner_item_events, member_events, keyed_events};
 ghost use Rattle.sfv_values.specs.BareItems.{bare_value, input_value, is_borrowed};
 ghost use Rattle.sfv_values.specs.CheckedTexts.{text_of};
-ghost use Rattle.sfv_tree.specs.Trees.{pairs_tree, item_tree, member_tree, list_tree};
+ghost use Rattle.sfv_tree.specs.Trees.{pairs_tree, item_tree, member_tree, list_tree, dictionary_tree};
 ghost use Rattle.sfv_tree.proofs.Words.{item_with, inner_list_with};
-ghost use Rattle.sfv_tree.specs.Trees.{dictionary_tree};
-ghost use Rattle.sfv_tree.specs.Seeds.{ItemHasSeed, MemberHasSeed, ListHasSeed};
-ghost use Rattle.sfv_tree.specs.Seeds.{DictionaryHasSeed};
+ghost use Rattle.sfv_tree.specs.Seeds.{ItemHasSeed, MemberHasSeed, ListHasSeed, DictionaryHasSeed};
 ghost use Rattle.sfv_tree.specs.declared.hash_seed.HashSeed.{HashSeed};
 ghost use Rattle.sfv_model.specs.Bare.{bare_at};
 ghost use Rattle.sfv_model.specs.Items.{parameters_at, item_at};
-ghost use Rattle.sfv_model.specs.Members.{inner_item_at, inner_items_at, inner_at, member_at, member_value_at, entry_at, keyed_at};
+ghost use Rattle.sfv_model.specs.Members.{inner_item_at, inner_items_at, inner_at, member_at, member_value_at};
+ghost use Rattle.sfv_model.specs.Members.{keyed_at};
 ghost use Rattle.sfv_model.specs.Fields.{members_at};
 ghost use Rattle.sfv.specs.Memory.{NeedsMemory};
-ghost use Rattle.sfv.specs.parser.Cursor.{MayNeedMemory};
+ghost use Rattle.sfv.specs.parser.Cursor.{MayNeedMemory, input, version, rest, Reads};
 ghost use Rattle.sfv.specs.Parsers.{input_of, version_of, IsParseError};
-ghost use Rattle.sfv.specs.parser.Cursor.{input, version, rest, Reads};
-ghost use Rattle.sfv.specs.parser.Members.{after_begin};
-ghost use Rattle.sfv.specs.parser.Trees.{Builds, FailsAs, NeedsText, HeadHasSeed, head_tree, ordered_pairs};
-ghost use Rattle.sfv.specs.parser.Trees.{EntriesHaveSeed};
+ghost use Rattle.sfv.specs.parser.Members.{after_begin, member_parts, one_member_at, field_of};
+ghost use Rattle.sfv.specs.parser.Trees.{Builds, FailsAs, NeedsText, HeadHasSeed, head_tree, ordered_members};
+ghost use Rattle.sfv.specs.parser.Trees.{EntriesHaveSeed, with_member};
 ghost use Rattle.sfv.specs.parser.Visits.{IsOfVisitor};
 
 use crate::parser::Parser;
@@ -39,6 +35,7 @@ use crate::parser::cursor::Cursor;
 use crate::parser::item::ReadParameter;
 use sfv_base::error::{Error, ErrorKind, OutOfMemory, ParseError};
 use sfv_tree::capacity::fit_after;
+use sfv_tree::hash_seed::HashSeed;
 use sfv_tree::parsed::{Dictionary, InnerList, Item, List, ListEntry, Parameters};
 use sfv_values::bare::{BareItem, BareItemFromInput, GenericBareItem};
 use sfv_values::key::Key;
@@ -401,46 +398,91 @@ impl<'de> Cursor<'de> {
         Ok(())
     }
 
-    /// Parses the members of a list up to the end of the input.
-    fn tree_list(&mut self) -> Result<List, ParseError<OutOfMemory>>
-        ensures tree { Builds (λ list. list_tree list.items) (λ raw. map ordered_member raw)
-            (λ raw. flat_map entry_events raw) self.old self.new result
-            (λ version. members_at entry_events (entry_at version)) }
+    /// Parses the members of a list or a dictionary up to the end of the input.
+    fn tree_members<M: Members>(&mut self) -> Result<M, ParseError<OutOfMemory>>
+        ensures tree { Builds M.tree (ordered_members M.keyed) (λ raw. flat_map (member_parts M.keyed) raw)
+            self.old self.new result (λ version. members_at (member_parts M.keyed) (one_member_at M.keyed version)) }
         ensures end { OnOk result (rest self.new ≡ []) }
-        ensures seed { IfOk result (λ list. ListHasSeed self.old.parser.seed list.items) }
-        ensures memory { OnErr result (MayNeedMemory list_field (rest self.old)) }
+        ensures seed { IfOk result (M.has_seed self.old.parser.seed) }
+        ensures memory { OnErr result (MayNeedMemory (field_of M.keyed) (rest self.old)) }
     {
-        let mut list = List::new(self.alloc);
+        let mut members = M::empty(self.alloc, self.parser.seed);
         self.skip_sp();
         if self.peek().is_none() {
-            return Ok(list);
+            return Ok(members);
         }
-        self.push_member(&mut list)?;
+        M::add_member(self, &mut members)?;
         while self.consume_comma()? {
-            self.push_member(&mut list)?;
+            M::add_member(self, &mut members)?;
         }
-        Ok(list)
+        Ok(members)
+    }
+}
+
+/// A list or a dictionary that the parser fills.
+pub(crate) trait Members: Drop {
+    /// Whether the members have keys.
+    ghost keyed: { Bool };
+
+    ghost tree: { Self → RawField (field_of keyed) };
+
+    ghost has_seed: { HashSeed → Self → Type 0 };
+
+    /// Creates a value without members.
+    fn empty(alloc: Global, seed: HashSeed) -> Self
+        ensures tree { tree result ≡ ordered_members keyed [] }
+        ensures seed { has_seed seed result };
+
+    /// Parses a member, and adds it to `members`.
+    fn add_member(
+        cursor: &mut Cursor<'_>,
+        members: &mut Self,
+    ) -> Result<(), ParseError<OutOfMemory>>
+        ensures tree { Builds (λ _. tree members.new) (with_member keyed (tree members.old)) (member_parts keyed)
+            cursor.old cursor.new result (one_member_at keyed) }
+        ensures seed { OnOk result (has_seed cursor.old.parser.seed members.old
+            → has_seed cursor.old.parser.seed members.new) };
+}
+
+impl Members for List {
+    ghost keyed = { false };
+
+    ghost tree = { λ list. list_tree list.items };
+
+    ghost has_seed = { λ seed list. ListHasSeed seed list.items };
+
+    #[inline(always)]
+    fn empty(alloc: Global, _seed: HashSeed) -> List {
+        List::new(alloc)
     }
 
-    /// Parses the members of a dictionary up to the end of the input.
-    fn tree_dictionary(&mut self) -> Result<Dictionary, ParseError<OutOfMemory>>
-        ensures tree { Builds (λ dictionary. dictionary_tree dictionary.entries) (λ raw. collapse (ordered_pairs raw))
-            (λ raw. flat_map keyed_events raw) self.old self.new result
-            (λ version. members_at keyed_events (keyed_at version)) }
-        ensures end { OnOk result (rest self.new ≡ []) }
-        ensures seed { IfOk result (DictionaryHasSeed self.old.parser.seed) }
-        ensures memory { OnErr result (MayNeedMemory dictionary_field (rest self.old)) }
-    {
-        let mut dictionary = Dictionary::with_hasher(self.alloc, self.parser.seed);
-        self.skip_sp();
-        if self.peek().is_none() {
-            return Ok(dictionary);
-        }
-        self.insert_member(&mut dictionary)?;
-        while self.consume_comma()? {
-            self.insert_member(&mut dictionary)?;
-        }
-        Ok(dictionary)
+    #[inline(always)]
+    fn add_member(
+        cursor: &mut Cursor<'_>,
+        members: &mut List,
+    ) -> Result<(), ParseError<OutOfMemory>> {
+        cursor.push_member(members)
+    }
+}
+
+impl Members for Dictionary {
+    ghost keyed = { true };
+
+    ghost tree = { λ dictionary. dictionary_tree dictionary.entries };
+
+    ghost has_seed = { DictionaryHasSeed };
+
+    #[inline(always)]
+    fn empty(alloc: Global, seed: HashSeed) -> Dictionary {
+        Dictionary::with_hasher(alloc, seed)
+    }
+
+    #[inline(always)]
+    fn add_member(
+        cursor: &mut Cursor<'_>,
+        members: &mut Dictionary,
+    ) -> Result<(), ParseError<OutOfMemory>> {
+        cursor.insert_member(members)
     }
 }
 
@@ -473,43 +515,23 @@ pub(crate) fn parse_item(parser: Parser<'_>, alloc: Global) -> Result<Item, Erro
     }
 }
 
-/// Parses the input as a list.
+/// Parses the input as a list or a dictionary.
 ///
 /// # Errors
 ///
 /// Returns the errors of `Parser::parse`.
 #[inline(never)]
-pub(crate) fn parse_list(parser: Parser<'_>, alloc: Global) -> Result<List, Error>
-    ensures read { IfOk result (λ list.
-        IsParsedAs (version_of parser.entry) list_field (input_of parser.entry) (list_tree list.items)) }
-    ensures seed { IfOk result (λ list. ListHasSeed parser.entry.seed list.items) }
-    ensures rejected { IfErr result (IsParseError (version_of parser.entry) list_field (input_of parser.entry)) }
-    ensures memory { IfErr result (NeedsMemory list_field (input_of parser.entry)) }
+pub(crate) fn parse_members<M: Members>(parser: Parser<'_>, alloc: Global) -> Result<M, Error>
+    ensures read { IfOk result (λ members.
+        IsParsedAs (version_of parser.entry) (field_of M.keyed) (input_of parser.entry) (M.tree members)) }
+    ensures seed { IfOk result (M.has_seed parser.entry.seed) }
+    ensures rejected { IfErr result
+        (IsParseError (version_of parser.entry) (field_of M.keyed) (input_of parser.entry)) }
+    ensures memory { IfErr result (NeedsMemory (field_of M.keyed) (input_of parser.entry)) }
 {
     let mut cursor = Cursor::new(parser, alloc);
-    match cursor.tree_list() {
-        Ok(list) => Ok(list),
-        Err(ParseError::Syntax(error)) => Err(error),
-        Err(ParseError::Visitor(error)) => Err(Error::from(error)),
-    }
-}
-
-/// Parses the input as a dictionary.
-///
-/// # Errors
-///
-/// Returns the errors of `Parser::parse`.
-#[inline(never)]
-pub(crate) fn parse_dictionary(parser: Parser<'_>, alloc: Global) -> Result<Dictionary, Error>
-    ensures read { IfOk result (λ dictionary. IsParsedAs (version_of parser.entry) dictionary_field
-        (input_of parser.entry) (dictionary_tree dictionary.entries)) }
-    ensures seed { IfOk result (DictionaryHasSeed parser.entry.seed) }
-    ensures rejected { IfErr result (IsParseError (version_of parser.entry) dictionary_field (input_of parser.entry)) }
-    ensures memory { IfErr result (NeedsMemory dictionary_field (input_of parser.entry)) }
-{
-    let mut cursor = Cursor::new(parser, alloc);
-    match cursor.tree_dictionary() {
-        Ok(dictionary) => Ok(dictionary),
+    match cursor.tree_members::<M>() {
+        Ok(members) => Ok(members),
         Err(ParseError::Syntax(error)) => Err(error),
         Err(ParseError::Visitor(error)) => Err(Error::from(error)),
     }

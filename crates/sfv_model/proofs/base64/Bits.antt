@@ -1,6 +1,6 @@
 -- The bits of values and of bytes.
-use Rattle.std.proofs.Common.{◌≡◌, ℕ, suc, ◌<◌, ◌+◌, ◌*◌, ◌/◌, ◌%◌, List, [], ◌∷◌, ◌++◌, length, refl, sym, ◌∙◌, ap}
-use Rattle.std.proofs.Common.{Bool, true, append_assoc, arith}
+use Rattle.std.proofs.Common.{◌≡◌, ℕ, suc, ◌<◌, ◌+◌, ◌*◌, ◌/◌, ◌%◌, List, [], ◌∷◌, ◌++◌, length, refl, ◌∙◌, Bool, true}
+use Rattle.std.proofs.Common.{append_assoc, arith}
 use Rattle.std.specs.Prelude.{nat_lt, flat_map}
 use Rattle.std.specs.List.{list_all}
 use Rattle.std.proofs.lemmas.Bool.{and_parts, ltb-true, lt-ltb}
@@ -70,31 +70,14 @@ two_bits a b lb = simp (append-nil) (first_byte a b lb)
 
 pub three_bits : (a b c : ℕ) → b < 64 → c < 64 → flat_map (bits 6) (a ∷ b ∷ c ∷ [])
     ≡ flat_map (bits 8) (bytes_from (a ∷ b ∷ c ∷ [])) ++ bits 2 c
-unfolding bytes_from
-three_bits a b c lb lc =
-    let x : List Bool = bits 8 (a * 4 + b / 16) in
-    let e : bits 6 a ++ (bits 6 b ++ bits 6 c) ≡ x ++ (bits 8 (b % 16 * 16 + c / 4) ++ bits 2 c) =
-    sym (append_assoc (bits 6 a) (bits 6 b) (bits 6 c))
-    ∙ ap (λ (t : List Bool). t ++ bits 6 c) (first_byte a b lb)
-    ∙ append_assoc x (bits 4 b) (bits 6 c)
-    ∙ ap (λ (t : List Bool). x ++ t) (second_byte b c lc) in
-    simp (append-nil, append_assoc) e
+unfolding bytes_from bits
+three_bits a b c lb lc = cc (first_byte a b lb, second_byte b c lc)
 
 four_bits : (a b c d : ℕ) (t : List Bool) → b < 64 → c < 64 → d < 64
     → bits 6 a ++ (bits 6 b ++ (bits 6 c ++ (bits 6 d ++ t)))
     ≡ bits 8 (a * 4 + b / 16) ++ (bits 8 (b % 16 * 16 + c / 4) ++ (bits 8 (c % 4 * 64 + d) ++ t))
-four_bits a b c d t lb lc ld =
-    let x : List Bool = bits 8 (a * 4 + b / 16) in
-    let y : List Bool = bits 8 (b % 16 * 16 + c / 4) in
-    let w : List Bool = bits 6 d ++ t in
-    sym (append_assoc (bits 6 a) (bits 6 b) (bits 6 c ++ w))
-    ∙ ap (λ (s : List Bool). s ++ (bits 6 c ++ w)) (first_byte a b lb)
-    ∙ append_assoc x (bits 4 b) (bits 6 c ++ w)
-    ∙ ap (λ (s : List Bool). x ++ s) (sym (append_assoc (bits 4 b) (bits 6 c) w)
-    ∙ ap (λ (s : List Bool). s ++ w) (second_byte b c lc)
-    ∙ append_assoc y (bits 2 c) w
-    ∙ ap (λ (s : List Bool). y ++ s) (sym (append_assoc (bits 2 c) (bits 6 d) t)
-    ∙ ap (λ (s : List Bool). s ++ t) (third_byte c d ld)))
+unfolding bits
+four_bits a b c d t lb lc ld = cc (first_byte a b lb, second_byte b c lc, third_byte c d ld)
 
 pub same_bits : (vs : List ℕ) → list_all is_value vs ≡ true → ¬ (length vs % 4 ≡ 1)
     → flat_map (bits 6) vs ≡ flat_map (bits 8) (bytes_from vs) ++ spare_of vs

@@ -1,4 +1,5 @@
 -- What a content stands for, and where one that stands for nothing is at fault.
+use Rattle.std.proofs.lemmas.Bool.Decides.{nat_tests}
 use Rattle.std.proofs.Common.{◌≡◌, ℕ, zero, suc, ◌<◌, ◌≤◌, ◌+◌, ◌-◌, ◌*◌, ◌%◌, List, [], ◌∷◌, ◌++◌, length, map, take}
 use Rattle.std.proofs.Common.{replicate, refl, sym, ◌∙◌, ap, subst, Bool, true, false, append_assoc, arith, inl, inr}
 use Rattle.std.proofs.Common.{Some, None}
@@ -9,10 +10,9 @@ use Rattle.std.proofs.lemmas.List.{length-append, length-map, length-replicate, 
 use Rattle.std.proofs.lemmas.List.{length-take-le}
 use Rattle.std.proofs.lemmas.List.Folds.{list_all-append}
 use Rattle.sfv_spec.proofs.Lengths.{length-all_bits}
-use Rattle.sfv_spec.proofs.Marks.{colon, equals_sign, upper_a}
+use Rattle.sfv_spec.proofs.Marks.{colon, equals_sign, upper_a, is_symbol}
 use Rattle.sfv_spec.specs.Texts.{IsLongestBeginning}
 use Rattle.sfv_spec.specs.Base64.{symbol, bits, IsBase64Text}
-use Rattle.sfv_spec.proofs.Marks.{is_symbol}
 use Rattle.sfv_spec.specs.Faults.{BeginsBase64}
 use Rattle.sfv_spec.proofs.Settled.{NotBegun}
 use Rattle.sfv_spec.proofs.Bytes.{bytes_settle}
@@ -24,10 +24,7 @@ use Rattle.sfv_model.proofs.base64.Shape.{shape_of, shape_valid, are_symbols, ar
 use Rattle.sfv_model.proofs.base64.Shape.{values-symbols, valid_local, valid_run, padding-padded, padding-nil}
 
 few_spare : (n : ℕ) → 2 * most_padding n < 6
-few_spare n = elim (cases_Bool (n % 4 == 2)) [
-  | inl p ↦ rw p (omega arith)
-  | inr p ↦ elim (cases_Bool (n % 4 == 3)) [ inl q ↦ rw (p, q) (omega arith) | inr q ↦ rw (p, q) (omega arith) ]
-]
+few_spare n = grind (arith, nat_tests)
 
 -- symbols and padding that are Base64
 pub well_formed : (run : List ℕ) (padding : ℕ) → list_all is_symbol run ≡ true → padding ≤ most_padding (length run)
@@ -62,13 +59,7 @@ counted bytes t h =
     let few = h.few_spare in
     let padded = h.padded in (
       λ e. absurd (omega (arith, total, e, few)),
-      elim (cases_Bool (n % 4 == 2)) [
-        | inl p ↦ rw p (omega (arith, total, few, padded, eqb-true (n % 4) 2 p))
-        | inr p ↦ elim (cases_Bool (n % 4 == 3)) [
-          | inl q ↦ rw (p, q) (omega (arith, total, few, padded, eqb-true (n % 4) 3 q))
-          | inr q ↦ rw (p, q) (omega (arith, total, few, padded, eqb-false (n % 4) 2 p, eqb-false (n % 4) 3 q))
-        ]
-      ],
+      grind (arith, nat_tests, total, few, padded),
     )
 
 no_symbol : (n : ℕ) → NotBegun is_symbol (replicate n equals_sign ++ [])
@@ -83,17 +74,14 @@ read_back bytes t h =
     let many : length run ≡ length h.values = length-map h.values symbol in
     let most : h.padding ≤ most_padding (0 + length run) = let z : 0 + length run ≡ length h.values =
     omega (arith, many) in rw z (counted bytes t h).1 in
-    let text : t ≡ run ++ (replicate h.padding equals_sign ++ []) = h.text
-    ∙ ap (λ (u : List ℕ). run ++ u) (sym (append-nil (replicate h.padding equals_sign))) in
+    let text : t ≡ run ++ (replicate h.padding equals_sign ++ []) = simp (h.text, append-nil) in
     let apart : NotBegun is_symbol (replicate h.padding equals_sign ++ []) = no_symbol h.padding in
     let v = valid_run 0 run (replicate h.padding equals_sign ++ []) (are_symbols h.values h.in_range.0) apart in
     let p = padding-padded (most_padding (0 + length run)) h.padding [] most (inr refl) in
-    let size : length t ≡ length run + h.padding = ap (length {A = ℕ}) h.text
-    ∙ length-append run (replicate h.padding equals_sign)
-    ∙ ap (λ n. length run + n) (length-replicate h.padding equals_sign) in (
+    let size : length t ≡ length run + h.padding = rw (h.text, length-append, length-replicate h.padding equals_sign)
+    refl in (
       ap (valid_from 0) text ∙ v.0 ∙ ap (λ n. length run + n) p ∙ sym size,
-      ap values_in text ∙ v.1
-          ∙ values-symbols h.values h.in_range.0,
+      simp (text, v.1, values-symbols h.values h.in_range.0),
     )
 
 -- the two tests of a content
@@ -148,7 +136,7 @@ gives_the_bytes content bytes = (
     | inl a ↦
         let q = sym (bytes_accepted content a) ∙ e in
         let same : bytes_from (values_in content) ≡ bytes = cc in
-        subst (λ (b : List ℕ). IsBase64Text b content) same (accepted_text content a)
+        rw (← same) (accepted_text content a)
     | inr a ↦ let q = sym (bytes_rejected content a) ∙ e in absurd (cc)
   ],
 )
@@ -158,8 +146,7 @@ begins_so : (run : List ℕ) (padding : ℕ) → list_all is_symbol run ≡ true
     → BeginsBase64 (run ++ replicate padding equals_sign)
 unfolding is_symbol
 begins_so run padding h most = elim (cases_Bool (length run % 4 == 1)) [
-  | inl one ↦
-      let e : length run % 4 ≡ 1 = eqb-true (length run % 4) 1 one in
+  | inl one ↦ let e = eqb-true (length run % 4) 1 one in
       let none : padding ≡ 0 = omega (arith, rw e at most) in
       let more : List ℕ = run ++ (upper_a ∷ []) in
       let many : length more ≡ length run + 1 = length-append run (upper_a ∷ []) in
@@ -169,14 +156,12 @@ begins_so run padding h most = elim (cases_Bool (length run % 4 == 1)) [
       ∙ rw (none, append-nil run) refl in (
         upper_a ∷ [],
         bytes_from (map symbol_value more),
-        subst (λ (t : List ℕ). IsBase64Text (bytes_from (map symbol_value more)) t) text
-            (well_formed more 0 all (omega arith) lone),
+        rw (← text) (well_formed more 0 all (omega arith) lone),
       )
   | inr two ↦ (
     [],
     bytes_from (map symbol_value run),
-    subst (λ (t : List ℕ). IsBase64Text (bytes_from (map symbol_value run)) t)
-        (sym (append-nil (run ++ replicate padding equals_sign)))
+    rw (append-nil (run ++ replicate padding equals_sign))
         (well_formed run padding h most (eqb-false (length run % 4) 1 two)),
   )
 ]
@@ -190,13 +175,12 @@ longest_valid content =
     let text : content ≡ front ++ s.rest = s.text ∙ sym (append_assoc s.run (replicate s.padding equals_sign) s.rest) in
     let size : length front ≡ valid_from 0 content = length-append s.run (replicate s.padding equals_sign)
     ∙ ap (λ n. length s.run + n) (length-replicate s.padding equals_sign) ∙ sym v.0 in
-    let taken : take (valid_from 0 content) content ≡ front = ap (take {A = ℕ} (valid_from 0 content)) text
-    ∙ take_at front s.rest (valid_from 0 content) size in
+    let taken = ap (take {A = ℕ} (valid_from 0 content)) text ∙ take_at front s.rest (valid_from 0 content) size in
     let z : 0 + length s.run ≡ length s.run = omega arith in
     let most : s.padding ≤ most_padding (length s.run) = rw z at s.within in
     record {
       within = omega (arith, ap (length {A = ℕ}) text, length-append front s.rest, size);
-      holds = subst BeginsBase64 (sym taken) (begins_so s.run s.padding s.symbols most);
+      holds = rw taken (begins_so s.run s.padding s.symbols most);
       longest = λ m lt le begun.
           let r = read_back begun.1 (take m content ++ begun.0) begun.2 in
           let e = valid_local 0 content m begun.0 lt le in
@@ -221,8 +205,7 @@ lone_symbol run h one =
     let v = valid_run 0 run [] h refl in
     let valid : valid_from 0 run ≡ length run = ap (valid_from 0) (sym (append-nil run)) ∙ v.0
     ∙ omega (arith, padding-nil (most_padding (0 + length run))) in
-    let many : length (values_in run) ≡ length run = ap (λ (t : List ℕ). length (values_in t)) (sym (append-nil run))
-    ∙ ap (length {A = ℕ}) v.1 ∙ length-map run symbol_value in
+    let many : length (values_in run) ≡ length run = cc (append-nil run, v.1, length-map run symbol_value) in
     let y : (valid_from 0 run == length run) ≡ true = eq-eqb _ _ valid in
     let z : (length (values_in run) % 4 == 1) ≡ true = eq-eqb _ 1 (rw many one) in
     (rw (y, z) refl, rw y (ap (λ n. n - 1) valid))

@@ -5,24 +5,24 @@ use Rattle.std.specs.Prelude.{◌==◌}
 use Rattle.std.specs.List.{list_all}
 use Rattle.std.proofs.lemmas.Bool.{and_parts, eqb-true, eqb-false, cases_Bool, true≢false}
 use Rattle.std.proofs.lemmas.List.{length-append, append-nil, length-replicate, nil_from_length}
-use Rattle.sfv_spec.proofs.Marks.{equals_sign}
+use Rattle.sfv_spec.proofs.Marks.{equals_sign, is_symbol}
 use Rattle.sfv_spec.specs.Texts.{RunOf}
 use Rattle.sfv_spec.specs.Classes.{is_one_of}
 use Rattle.sfv_spec.specs.Base64.{symbols}
-use Rattle.sfv_spec.proofs.Marks.{is_symbol}
 use Rattle.sfv_spec.proofs.Parts.{implied}
 use Rattle.sfv_model.specs.Content.{most_padding, valid_from, bytes_of, fault_place}
 use Rattle.sfv_model.specs.Claims.{LeavesOneOver}
 use Rattle.sfv_model.proofs.base64.Shape.{shape_of, shape_valid, symbol_below, valid_run, padding-nil}
-use Rattle.sfv_model.proofs.base64.Contents.{gives_the_bytes, well_formed}
-use Rattle.sfv_model.proofs.base64.Contents.{lone_symbol}
+use Rattle.sfv_model.proofs.base64.Contents.{gives_the_bytes, well_formed, lone_symbol}
+use Rattle.sfv_model.proofs.texts.Ranges.{run_weaker}
 
 -- the two forms of the class
 pub one_of_symbols : (c : ℕ) → is_symbol c ≡ true → is_one_of symbols c ≡ true
 unfolding is_symbol
 one_of_symbols c h = implied is_symbol (is_one_of symbols) refl c (symbol_below c h) h
 
-found_in : (bs : List ℕ) (q : ℕ → Bool) (c : ℕ) → list_all q bs ≡ true → is_one_of bs c ≡ true → q c ≡ true
+-- what holds of each of some bytes holds of one of them
+pub found_in : (bs : List ℕ) (q : ℕ → Bool) (c : ℕ) → list_all q bs ≡ true → is_one_of bs c ≡ true → q c ≡ true
 found_in [] q c a h = absurd (true≢false (sym h))
 found_in (b ∷ bs) q c a h =
     let p = and_parts (q b) (list_all q bs) a in
@@ -36,14 +36,10 @@ unfolding is_symbol
 is_of_symbols c h = found_in symbols is_symbol c refl h
 
 pub run_of_symbols : (cs : List ℕ) → list_all is_symbol cs ≡ true → RunOf (is_one_of symbols) cs
-run_of_symbols [] h = refl
-run_of_symbols (c ∷ cs) h = let p = and_parts (is_symbol c) (list_all is_symbol cs) h in
-    rw (one_of_symbols c p.0) (run_of_symbols cs p.1)
+run_of_symbols cs h = run_weaker is_symbol (is_one_of symbols) one_of_symbols cs h
 
 pub symbols_of_run : (cs : List ℕ) → RunOf (is_one_of symbols) cs → list_all is_symbol cs ≡ true
-symbols_of_run [] h = refl
-symbols_of_run (c ∷ cs) h = let p = and_parts (is_one_of symbols c) (list_all (is_one_of symbols) cs) h in
-    rw (is_of_symbols c p.0) (symbols_of_run cs p.1)
+symbols_of_run cs h = run_weaker (is_one_of symbols) is_symbol is_of_symbols cs h
 
 -- a content that is at fault at its end is symbols, and one of them is left over
 pub left_over_is : (content : List ℕ) → bytes_of content ≡ None → valid_from 0 content ≡ length content
@@ -59,8 +55,7 @@ left_over_is content none all =
     let z : 0 + length s.run ≡ length s.run = omega arith in
     let most : s.padding ≤ most_padding (length s.run) = rw z at s.within in
     elim (cases_Bool (length s.run % 4 == 1)) [
-      | inl y ↦
-          let one : length s.run % 4 ≡ 1 = eqb-true (length s.run % 4) 1 y in
+      | inl y ↦ let one = eqb-true (length s.run % 4) 1 y in
           let bare : s.padding ≡ 0 = omega (arith, rw one at most) in
           let run : content ≡ s.run = text ∙ rw (bare, append-nil) refl in
           let lone = lone_symbol s.run s.symbols one in

@@ -1,17 +1,14 @@
 -- A text is symbols, padding, and what no Base64 text goes on with.
+use Rattle.std.proofs.lemmas.Bool.Decides.{nat_tests}
 use Rattle.std.proofs.Common.{◌≡◌, ℕ, zero, suc, ◌<◌, ◌≤◌, ◌+◌, List, [], ◌∷◌, ◌++◌, length, map, take, replicate, refl}
 use Rattle.std.proofs.Common.{sym, ◌∙◌, ap, Bool, true, arith, ◌⊎◌, inl, inr}
-use Rattle.std.specs.Prelude.{◌==◌, ◌||◌}
-use Rattle.sfv_spec.proofs.Marks.{digit_zero, digit_nine, equals_sign, upper_a, upper_z, lower_a}
-use Rattle.sfv_spec.proofs.Marks.{plus_sign, slash}
-use Rattle.sfv_spec.proofs.Marks.{lower_z}
-use Rattle.sfv_spec.proofs.Marks.{is_between}
+use Rattle.std.specs.Prelude.{◌==◌}
+use Rattle.sfv_spec.proofs.Marks.{equals_sign, is_symbol}
 use Rattle.std.specs.List.{list_all}
-use Rattle.std.proofs.lemmas.Bool.{and_parts, eqb-true, ltb-true, cases_Bool, or_cases}
+use Rattle.std.proofs.lemmas.Bool.{and_parts, eqb-true, ltb-true, cases_Bool}
 use Rattle.sfv_spec.specs.Base64.{symbol}
-use Rattle.sfv_spec.proofs.Marks.{is_symbol}
 use Rattle.sfv_spec.proofs.Settled.{NotBegun}
-use Rattle.sfv_spec.proofs.Parts.{implied, between_below}
+use Rattle.sfv_spec.proofs.Parts.{implied}
 use Rattle.sfv_model.specs.Content.{symbol_value, most_padding, padding_in, valid_from, values_in}
 use Rattle.sfv_model.proofs.base64.Bits.{is_value}
 
@@ -32,22 +29,7 @@ value-symbol v h = eqb-true (symbol_value (symbol v)) v
 
 pub symbol_below : (c : ℕ) → is_symbol c ≡ true → c < 128
 unfolding is_symbol
-symbol_below c h = elim (or_cases (is_between upper_a upper_z c || is_between lower_a lower_z c
-    || is_between digit_zero digit_nine c || c == plus_sign) (c == slash) h) [
-      | inl g ↦ elim (or_cases (is_between upper_a upper_z c || is_between lower_a lower_z c
-          || is_between digit_zero digit_nine c) (c == plus_sign) g) [
-            | inl f ↦ elim (or_cases (is_between upper_a upper_z c || is_between lower_a lower_z c)
-                (is_between digit_zero digit_nine c) f) [
-                  | inl e ↦ elim (or_cases (is_between upper_a upper_z c) (is_between lower_a lower_z c) e) [
-                    | inl d ↦ between_below upper_a upper_z c (omega arith) d
-                    | inr d ↦ between_below lower_a lower_z c (omega arith) d
-                  ]
-                  | inr e ↦ between_below digit_zero digit_nine c (omega arith) e
-                ]
-            | inr f ↦ omega (arith, eqb-true c plus_sign f)
-          ]
-      | inr g ↦ omega (arith, eqb-true c slash g)
-    ]
+symbol_below c h = grind (arith, nat_tests)
 
 pub symbol-value : (c : ℕ) → is_symbol c ≡ true → symbol (symbol_value c) ≡ c
 unfolding is_symbol symbol_value
@@ -91,8 +73,7 @@ pub padded : (most : ℕ) (t : List ℕ) → Padded most t
 padded zero t = record { padding = 0; rest = t; text = refl; within = omega arith; ends = inl refl }
 padded (suc k) [] = record { padding = 0; rest = []; text = refl; within = omega arith; ends = inr refl }
 padded (suc k) (c ∷ t) = elim (cases_Bool (is_equals c)) [
-  | inl p ↦
-      let e : c ≡ equals_sign = eqb-true c equals_sign p in
+  | inl p ↦ let e = eqb-true c equals_sign p in
       let h = padded k t in
       record {
         padding = suc h.padding;
@@ -204,8 +185,7 @@ pub shape_valid : (n : ℕ) (t : List ℕ) (s : Shape n t)
 shape_valid n t s =
     let v = valid_run n s.run (replicate s.padding equals_sign ++ s.rest) s.symbols s.apart in
     rw (s.text) (
-      v.0 ∙ ap (λ k. length s.run + k) (padding-padded (most_padding (n + length s.run)) s.padding s.rest
-          s.within s.ends),
+      simp (v.0, padding-padded (most_padding (n + length s.run)) s.padding s.rest s.within s.ends),
       v.1,
     )
 

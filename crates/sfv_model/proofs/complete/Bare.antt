@@ -1,31 +1,28 @@
 -- A text of a bare item is read, as that bare item.
-use Rattle.std.proofs.Common.{◌≡◌, ℕ, ◌≤◌, Bool, true, false, eqb, not, ℤ, List, [], ◌∷◌, ◌++◌, length, Ok, refl, sym}
-use Rattle.std.proofs.Common.{ap, ◌∙◌, arith, inl, inr}
+use Rattle.std.proofs.lemmas.Bool.Decides.{nat_tests}
+use Rattle.std.proofs.Common.{◌≡◌, ℕ, ◌≤◌, Bool, true, false, eqb, ℤ, List, [], ◌∷◌, ◌++◌, length, Ok, refl, sym, ap}
+use Rattle.std.proofs.Common.{◌∙◌, arith, inl, inr}
 use Rattle.std.specs.Prelude.{◌⊎◌, IsTrue}
 use Rattle.std.specs.List.{list_all}
-use Rattle.std.proofs.lemmas.Bool.{eqb-true, or_left, or_from, ne_eqb, and_parts, true≢false, both_ways, cases_Bool}
-use Rattle.std.proofs.lemmas.Bool.{or_cases, not-true}
-use Rattle.sfv_spec.proofs.Marks.{double_quote, percent_sign, digit_zero, digit_nine, colon}
-use Rattle.sfv_spec.proofs.Marks.{minus_sign, dot, digit_one}
-use Rattle.sfv_spec.proofs.Marks.{question_mark, at_sign}
+use Rattle.std.proofs.lemmas.Bool.{eqb-true, or_left, or_from, ne_eqb, and_parts, true≢false, cases_Bool}
+use Rattle.sfv_spec.proofs.Marks.{double_quote, percent_sign, digit_zero, colon, minus_sign, dot, digit_one}
+use Rattle.sfv_spec.proofs.Marks.{question_mark, at_sign, is_digit, minus_text}
 use Rattle.sfv_spec.specs.Texts.{begins_with, RunOf}
 use Rattle.sfv_spec.specs.Classes.{is_token, is_token_start, is_token_inner}
-use Rattle.sfv_spec.proofs.Marks.{is_digit}
-use Rattle.sfv_spec.specs.Values.{BareValue, integer, decimal, string, token, byte_sequence, boolean}
+use Rattle.sfv_spec.specs.Values.{BareValue, integer, decimal, string, token, byte_sequence, boolean, date}
+use Rattle.sfv_spec.specs.Values.{display_string}
 use Rattle.sfv_spec.specs.declared.version.Version.{Version}
 use Rattle.sfv_spec.specs.declared.version.Version.TheVariants.{Rfc9651}
-use Rattle.sfv_spec.specs.Values.{date, display_string}
 use Rattle.sfv_spec.specs.Numbers.{IsIntegerText, IsDecimalText}
-use Rattle.sfv_spec.proofs.Marks.{minus_text}
 use Rattle.sfv_spec.specs.Grammar.{IsBareText, boolean_text}
-use Rattle.sfv_spec.proofs.Parts.{implied, between_below, no_digit, no_point, integer_text, decimal_text}
+use Rattle.sfv_spec.proofs.Parts.{no_digit, no_point, integer_text, decimal_text}
 use Rattle.sfv_model.specs.Reader.{Apart, byte, give, ◌>>=◌, branch, ahead}
 use Rattle.sfv_model.specs.Content.{bytes_at}
 use Rattle.sfv_model.specs.Quoted.{string_at, IsDisplayEnd}
 use Rattle.sfv_model.specs.Bare.{is_number_start, number_at, boolean_at, token_at, date_at, quoted_at, bare_at}
 use Rattle.sfv_model.proofs.sound.Combinators.{run_head}
-use Rattle.sfv_model.proofs.complete.Combinators.{Apart-cons, branch_past, branch_take, ahead_past, ahead_take}
-use Rattle.sfv_model.proofs.complete.Combinators.{bind_complete, back_complete, span_complete}
+use Rattle.sfv_model.proofs.complete.Combinators.{Apart-cons, branch_past, branch_take, bind_complete, back_complete}
+use Rattle.sfv_model.proofs.complete.Combinators.{span_complete}
 use Rattle.sfv_model.proofs.complete.ByteSequences.{bytes_complete}
 use Rattle.sfv_model.proofs.complete.Quoted.{string_complete, display_complete}
 use Rattle.sfv_model.proofs.complete.Numbers.{goes_on, digit_apart, integer_complete, decimal_complete}
@@ -59,41 +56,38 @@ pub bare_percent : (version : Version) (r : List ℕ)
 unfolding bare_at branch ahead
 bare_percent version r = refl
 
-number_no_token : (c : ℕ) → is_number_start c ≡ true → is_token_start c ≡ false
-number_no_token c e = elim (or_cases (is_digit c) (eqb c minus_sign) e) [
-  | inl d ↦ not-true (is_token_start c) (implied is_digit (λ c. not (is_token_start c)) refl c
-      (between_below digit_zero digit_nine c (omega arith) d) d)
-  | inr m ↦ ap is_token_start (eqb-true c minus_sign m)
-]
-
 token_no_number : (c : ℕ) → is_token_start c ≡ true → is_number_start c ≡ false
-token_no_number c e = elim (cases_Bool (is_number_start c)) [
-  | inl h ↦
-      absurd (both_ways (is_token_start c) (number_no_token c h) e)
-  | inr h ↦ h
-]
+token_no_number c e = grind (arith, nat_tests)
 
 bare_token_start : (version : Version) (c : ℕ) (r : List ℕ) → is_token_start c ≡ true
     → bare_at version (c ∷ r) ≡ token_at (c ∷ r)
-unfolding bare_at
-bare_token_start version c r e =
-    branch_past _ _ _ (c ∷ r) (Apart-cons (byte question_mark) c r (apart_from is_token_start question_mark refl c e))
-    ∙ branch_past _ _ _ (c ∷ r) (Apart-cons (byte double_quote) c r (apart_from is_token_start double_quote refl c e))
-    ∙ branch_past _ _ _ (c ∷ r) (Apart-cons (byte colon) c r (apart_from is_token_start colon refl c e))
-    ∙ ahead_past _ _ _ (c ∷ r) (Apart-cons (byte at_sign) c r (apart_from is_token_start at_sign refl c e))
-    ∙ ahead_past _ _ _ (c ∷ r) (Apart-cons (byte percent_sign) c r (apart_from is_token_start percent_sign refl c e))
-    ∙ ahead_past _ _ _ (c ∷ r) (Apart-cons is_number_start c r (token_no_number c e))
+unfolding bare_at branch ahead
+bare_token_start version c r e = rw (
+  out question_mark refl,
+  out double_quote refl,
+  out colon refl,
+  out at_sign refl,
+  out percent_sign refl,
+  token_no_number c e,
+) refl
+  where
+    out : (n : ℕ) → is_token_start n ≡ false → eqb c n ≡ false
+    out n none = apart_from is_token_start n none c e
 
 pub bare_number : (version : Version) (c : ℕ) (r : List ℕ) → is_number_start c ≡ true
     → bare_at version (c ∷ r) ≡ number_at false (c ∷ r)
-unfolding bare_at
-bare_number version c r e =
-    branch_past _ _ _ (c ∷ r) (Apart-cons (byte question_mark) c r (apart_from is_number_start question_mark refl c e))
-    ∙ branch_past _ _ _ (c ∷ r) (Apart-cons (byte double_quote) c r (apart_from is_number_start double_quote refl c e))
-    ∙ branch_past _ _ _ (c ∷ r) (Apart-cons (byte colon) c r (apart_from is_number_start colon refl c e))
-    ∙ ahead_past _ _ _ (c ∷ r) (Apart-cons (byte at_sign) c r (apart_from is_number_start at_sign refl c e))
-    ∙ ahead_past _ _ _ (c ∷ r) (Apart-cons (byte percent_sign) c r (apart_from is_number_start percent_sign refl c e))
-    ∙ ahead_take _ _ _ c r e
+unfolding bare_at branch ahead
+bare_number version c r e = rw (
+  out question_mark refl,
+  out double_quote refl,
+  out colon refl,
+  out at_sign refl,
+  out percent_sign refl,
+  e,
+) refl
+  where
+    out : (n : ℕ) → is_number_start n ≡ false → eqb c n ≡ false
+    out n none = apart_from is_number_start n none c e
 
 -- which of these it is
 pub first_byte : (version : Version) (c : ℕ) (r : List ℕ)
@@ -162,8 +156,7 @@ number_from version [] h = absurd (true≢false (sym h))
 number_from version (c ∷ r) h = bare_number version c r h
 
 integer_front : (t q : List ℕ) (z : ℤ) → IsIntegerText z t → begins_with is_number_start (t ++ q) ≡ true
-integer_front t q z i = ap (begins_with is_number_start) (integer_text z t q i)
-    ∙ front i.negative i.digits q i.counted.0 i.counted.2
+integer_front t q z i = simp (integer_text z t q i, front i.negative i.digits q i.counted.0 i.counted.2)
 
 decimal_front : (t q : List ℕ) (z : ℤ) → IsDecimalText z t → begins_with is_number_start (t ++ q) ≡ true
 decimal_front t q z i = ap (begins_with is_number_start) (decimal_text z t q i)
@@ -186,26 +179,18 @@ bare_complete version (decimal z) t q i h = number_from version (t ++ q) (decima
 bare_complete version (string s) t q i h =
     let all : t ++ q ≡ double_quote ∷ (i.back ++ q) =
     ap (λ (l : List ℕ). l ++ q) (i.text ∙ ap (λ (l : List ℕ). l ++ i.back) i.first) in
-    ap (bare_at version) all ∙ bare_quote version (i.back ++ q)
-    ∙ bind_complete _ _ _ _ _ (string_complete s i.back q i.second)
-bare_complete version (token s) t q i h = ap (λ (l : List ℕ). bare_at version (l ++ q)) i.1
-    ∙ token_complete version s q i.0 h
+    rw (all, bare_quote version (i.back ++ q), bind_complete _ _ _ _ _ (string_complete s i.back q i.second)) refl
+bare_complete version (token s) t q i h = simp (i.1, token_complete version s q i.0 h)
 bare_complete version (byte_sequence s) t q i h =
-    let all : t ++ q ≡ colon ∷ (i.back ++ q) = ap (λ (l : List ℕ). l ++ q) (i.text
-    ∙ ap (λ (l : List ℕ). l ++ i.back) i.first) in
-    ap (bare_at version) all ∙ bare_colon version (i.back ++ q)
-    ∙ bind_complete _ _ _ _ _ (bytes_complete s i.back q i.second)
-bare_complete version (boolean b) t q i h = ap (λ (l : List ℕ). bare_at version (l ++ q)) i
-    ∙ boolean_complete version b q
+    let all = ap (λ (l : List ℕ). l ++ q) (i.text ∙ ap (λ (l : List ℕ). l ++ i.back) i.first) in
+    rw (all, bare_colon version (i.back ++ q), bind_complete _ _ _ _ _ (bytes_complete s i.back q i.second)) refl
+bare_complete version (boolean b) t q i h = simp (i, boolean_complete version b q)
 bare_complete version (date z) t q i h =
     let d = i.1 in
-    let all : t ++ q ≡ at_sign ∷ (d.back ++ q) = ap (λ (l : List ℕ). l ++ q) (d.text
-    ∙ ap (λ (l : List ℕ). l ++ d.back) d.first) in
-    ap (λ e. bare_at e (t ++ q)) i.0 ∙ ap (bare_at Rfc9651) all ∙ bare_at_sign Rfc9651 (d.back ++ q)
-    ∙ date_complete z d.back q d.second (number_ends q h)
+    let all = ap (λ (l : List ℕ). l ++ q) (d.text ∙ ap (λ (l : List ℕ). l ++ d.back) d.first) in
+    simp (i.0, all, bare_at_sign Rfc9651 (d.back ++ q), date_complete z d.back q d.second (number_ends q h))
 bare_complete version (display_string s) t q i h =
     let d = i.1 in
     let all : t ++ q ≡ percent_sign ∷ double_quote ∷ (d.back ++ q) =
     ap (λ (l : List ℕ). l ++ q) (d.text ∙ ap (λ (l : List ℕ). l ++ d.back) d.first) in
-    ap (λ e. bare_at e (t ++ q)) i.0 ∙ ap (bare_at Rfc9651) all ∙ bare_percent Rfc9651 (double_quote ∷ (d.back ++ q))
-    ∙ quoted_complete s d.back q d.second
+    simp (i.0, all, bare_percent Rfc9651 (double_quote ∷ (d.back ++ q)), quoted_complete s d.back q d.second)

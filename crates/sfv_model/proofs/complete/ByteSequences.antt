@@ -1,5 +1,5 @@
 -- A text of a Byte Sequence is read, as its bytes.
-use Rattle.std.proofs.Common.{◌≡◌, ℕ, List, [], ◌∷◌, ◌++◌, ◌∙◌, ap, append_assoc, Ok}
+use Rattle.std.proofs.Common.{◌≡◌, ℕ, List, ◌∷◌, ◌++◌, ◌∙◌, ap, append_assoc, Ok}
 use Rattle.sfv_spec.proofs.Marks.{colon}
 use Rattle.sfv_spec.specs.Base64.{IsBase64Text}
 use Rattle.sfv_model.specs.Content.{IsBytesEnd, bytes_at}
@@ -14,6 +14,5 @@ reads_its_texts bytes content rest h = read_value content rest bytes (text_apart
 
 pub bytes_complete : (bytes t q : List ℕ) → IsBytesEnd bytes t → bytes_at (t ++ q) ≡ Ok (bytes, q)
 bytes_complete bytes t q h =
-    let all : t ++ q ≡ h.front ++ colon ∷ q = ap (λ (l : List ℕ). l ++ q) (h.text
-    ∙ ap (λ (l : List ℕ). h.front ++ l) h.second) ∙ append_assoc h.front (colon ∷ []) q in
+    let all : t ++ q ≡ h.front ++ colon ∷ q = simp (h.text, h.second, append_assoc) in
     ap bytes_at all ∙ reads_its_texts bytes h.front q h.first

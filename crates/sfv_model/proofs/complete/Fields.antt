@@ -1,11 +1,9 @@
 -- A text of a field is read, as that field.
-use Rattle.std.proofs.Common.{◌≡◌, ℕ, List, [], ◌∷◌, ◌++◌, Ok, refl, sym, ap, subst, ◌∙◌, append_assoc}
+use Rattle.std.proofs.Common.{◌≡◌, ℕ, List, [], ◌∷◌, ◌++◌, Ok, refl, sym, ap, ◌∙◌, append_assoc}
 use Rattle.std.proofs.lemmas.List.{append-nil}
 use Rattle.std.proofs.lemmas.Bool.{eqb-true}
-use Rattle.sfv_spec.proofs.Marks.{space}
-use Rattle.sfv_spec.proofs.Marks.{comma}
+use Rattle.sfv_spec.proofs.Marks.{space, comma, is_space}
 use Rattle.sfv_spec.specs.Texts.{RunOf}
-use Rattle.sfv_spec.proofs.Marks.{is_space}
 use Rattle.sfv_spec.specs.Values.{RawField, RawItem}
 use Rattle.sfv_spec.specs.declared.field_kind.FieldKind.{FieldKind}
 use Rattle.sfv_spec.specs.declared.field_kind.FieldKind.TheVariants.{Item as item_field, List as list_field}
@@ -25,8 +23,7 @@ use Rattle.sfv_model.proofs.complete.Members.{entry_complete, entry_fresh, keyed
 
 pub spaces_end : (s q : List ℕ) → RunOf is_space s → Apart lengthens_item q → Apart lengthens_item (s ++ q)
 spaces_end [] q each f = f
-spaces_end (c ∷ s) q each f = subst (λ (c : ℕ). Apart lengthens_item (c ∷ (s ++ q)))
-    (sym (eqb-true c space (run_head is_space c s each))) (space_ends (s ++ q))
+spaces_end (c ∷ s) q each f = rw (eqb-true c space (run_head is_space c s each)) (space_ends (s ++ q))
 
 -- an item, whatever follows it that is no more of it
 pub item_field_complete : (version : Version) (i : RawItem) (t q : List ℕ) (h : IsFieldText version item_field i t)

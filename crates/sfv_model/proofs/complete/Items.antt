@@ -1,13 +1,12 @@
 -- A text of parameters, an item, a member is read, as that.
+use Rattle.std.proofs.lemmas.Bool.Decides.{nat_tests}
 use Rattle.std.proofs.Common.{◌≡◌, ℕ, ◌≤◌, Bool, true, false, eqb, ◌||◌, List, [], ◌∷◌, ◌++◌, length, Some, None, Ok}
-use Rattle.std.proofs.Common.{refl, sym, ap, subst, ◌∙◌, append_assoc, arith, inl, inr}
+use Rattle.std.proofs.Common.{refl, sym, ap, ◌∙◌, append_assoc, arith, inl, inr}
 use Rattle.std.specs.List.{list_all}
-use Rattle.std.proofs.lemmas.Bool.{eqb-true, or_parts, or_cases, ne_eqb, and_parts, true≢false}
-use Rattle.sfv_spec.proofs.Marks.{tab, space, equals_sign}
-use Rattle.sfv_spec.proofs.Marks.{semicolon}
+use Rattle.std.proofs.lemmas.Bool.{or_parts, ne_eqb, and_parts, true≢false}
+use Rattle.sfv_spec.proofs.Marks.{space, equals_sign, semicolon, is_space, is_space_or_tab}
 use Rattle.sfv_spec.specs.Texts.{Exactly, ◌⨾◌}
 use Rattle.sfv_spec.specs.Classes.{is_key_start, is_key_inner, is_token_inner}
-use Rattle.sfv_spec.proofs.Marks.{is_space, is_space_or_tab}
 use Rattle.sfv_spec.specs.Values.{BareValue, RawParameters, RawItem}
 use Rattle.sfv_spec.specs.declared.version.Version.{Version}
 use Rattle.sfv_spec.specs.Grammar.{IsKeyText, IsValueText, IsParameterText, IsParametersText, IsItemText}
@@ -35,13 +34,11 @@ token_apart q h = Apart-part is_token_inner lengthens q
 
 pub key_apart : (q : List ℕ) → Apart lengthens q → Apart is_key_inner q
 key_apart q h = Apart-part is_key_inner lengthens q
-    (λ c e. (or_parts (is_key_inner c) (eqb c equals_sign)
-    (or_parts (is_token_inner c) (is_key_inner c || eqb c equals_sign) e).1).0) h
+    (λ c e. grind (arith, nat_tests)) h
 
 pub equals_apart : (q : List ℕ) → Apart lengthens q → Apart (byte equals_sign) q
 equals_apart q h = Apart-part (byte equals_sign) lengthens q
-    (λ c e. (or_parts (is_key_inner c) (eqb c equals_sign)
-    (or_parts (is_token_inner c) (is_key_inner c || eqb c equals_sign) e).1).1) h
+    (λ c e. grind (arith, nat_tests)) h
 
 pub item_part : (q : List ℕ) → Apart lengthens_item q → Apart lengthens q
 item_part q h = Apart-part lengthens lengthens_item q (λ c e. (or_parts (lengthens c) (eqb c semicolon) e).0) h
@@ -55,8 +52,7 @@ unfolding key_at give
 key_complete [] t q k h = absurd (true≢false (sym k.0))
 key_complete (c ∷ cs) t q k h =
     let p = and_parts (is_key_start c) (list_all is_key_inner cs) k.0 in
-    ap (λ (l : List ℕ). key_at (l ++ q)) k.1 ∙ branch_take _ _ _ c (cs ++ q) p.0
-    ∙ bind_complete _ _ _ _ _ (span_complete is_key_inner cs q p.1 h)
+    rw (k.1, branch_take _ _ _ c (cs ++ q) p.0, bind_complete _ _ _ _ _ (span_complete is_key_inner cs q p.1 h)) refl
 
 -- after a sign of a class
 after_sign : {Q : List ℕ → Type 0} (n : ℕ) (t q : List ℕ) (h : (Exactly (n ∷ []) ⨾ Q) t) → t ++ q ≡ n ∷ (h.back ++ q)
@@ -65,16 +61,15 @@ after_sign n t q h = ap (λ (l : List ℕ). l ++ q) (h.text ∙ ap (λ (l : List
 value_complete : (version : Version) (v : BareValue) (t q : List ℕ) → IsValueText version v t → Apart lengthens q
     → value_at version (t ++ q) ≡ Ok (v, q)
 unfolding value_at give
-value_complete version v t q (inl e) h = ap (λ (l : List ℕ). value_at version (l ++ q)) e.1
-    ∙ branch_past _ _ _ q (equals_apart q h) ∙ ap (λ (v : BareValue). Ok (v, q)) (sym e.0)
+value_complete version v t q (inl e) h = cc (e.1, branch_past _ _ _ q (equals_apart q h), e.0)
 value_complete version v t q (inr e) h = ap (value_at version) (after_sign equals_sign t q e)
     ∙ branch_take _ _ _ equals_sign (e.back ++ q) refl ∙ bare_complete version v e.back q e.second (token_apart q h)
 
 -- what stands after a key is no more of it
 value_apart : (version : Version) (v : BareValue) (t q : List ℕ) → IsValueText version v t → Apart is_key_inner q
     → Apart is_key_inner (t ++ q)
-value_apart version v t q (inl e) h = subst (λ (l : List ℕ). Apart is_key_inner (l ++ q)) (sym e.1) h
-value_apart version v t q (inr e) h = subst (Apart is_key_inner) (sym (after_sign equals_sign t q e))
+value_apart version v t q (inl e) h = rw e.1 h
+value_apart version v t q (inr e) h = rw (after_sign equals_sign t q e)
     (Apart-cons is_key_inner equals_sign (e.back ++ q) refl)
 
 -- a key begins with no byte n that begins none
@@ -82,8 +77,7 @@ pub key_no : (n : ℕ) (key t q : List ℕ) → is_key_start n ≡ false → IsK
 key_no n [] t q none k = absurd (true≢false (sym k.0))
 key_no n (c ∷ cs) t q none k =
     let p = and_parts (is_key_start c) (list_all is_key_inner cs) k.0 in
-    subst (λ (l : List ℕ). Apart (byte n) (l ++ q)) (sym k.1)
-    (Apart-cons (byte n) c (cs ++ q) (ne_eqb c n (λ i. true≢false (sym p.0 ∙ ap is_key_start i ∙ none))))
+    rw k.1 (Apart-cons (byte n) c (cs ++ q) (ne_eqb c n (λ i. true≢false (sym p.0 ∙ ap is_key_start i ∙ none))))
 
 parameter_complete : (version : Version) (p : List ℕ × BareValue) (t q : List ℕ) → IsParameterText version p t
     → Apart lengthens q → (parameter_at version (t ++ q) ≡ Ok (Some p, q)) × Apart lengthens (t ++ q)
@@ -93,15 +87,14 @@ parameter_complete version p t q i h =
     let k = s.second in
     let inner : i.back ++ q ≡ s.front ++ (k.front ++ (k.back ++ q)) =
     ap (λ (l : List ℕ). l ++ q) (s.text ∙ ap (λ (l : List ℕ). s.front ++ l) k.text) ∙ simp append_assoc in
-    let all : t ++ q ≡ semicolon ∷ (s.front ++ (k.front ++ (k.back ++ q))) = after_sign semicolon t q i
-    ∙ ap (λ (l : List ℕ). semicolon ∷ l) inner in (
+    let all : t ++ q ≡ semicolon ∷ (s.front ++ (k.front ++ (k.back ++ q))) = cc (after_sign semicolon t q i) in (
       ap (parameter_at version) all ∙ branch_take _ _ _ semicolon (s.front ++ (k.front ++ (k.back ++ q))) refl
           ∙ bind_complete _ _ _ _ _ (span_complete is_space s.front (k.front ++ (k.back ++ q)) s.first
           (key_no space p.0 k.front (k.back ++ q) refl k.first))
           ∙ bind_complete _ _ _ _ _ (key_complete p.0 k.front (k.back ++ q) k.first
           (value_apart version p.1 k.back q k.second (key_apart q h)))
           ∙ bind_complete _ _ _ _ _ (value_complete version p.1 k.back q k.second h),
-      subst (Apart lengthens) (sym all) (Apart-cons lengthens semicolon _ refl),
+      rw all (Apart-cons lengthens semicolon _ refl),
     )
 
 no_parameter : (version : Version) (q : List ℕ) → Apart (byte semicolon) q → parameter_at version q ≡ Ok (None, q)
@@ -115,9 +108,8 @@ parameters_complete version ps t q i h = many_complete parameter_event (paramete
     (Consumes-parameter version) (IsParameterText version) (Exactly []) (Apart lengthens) q
     (λ p a q i f. parameter_complete version p a q i f)
     (λ e n. (
-      ap (λ (l : List ℕ). parameter_at version (l ++ q)) n
-          ∙ no_parameter version q (semicolon_apart q h),
-      subst (λ (l : List ℕ). Apart lengthens (l ++ q)) (sym n) (item_part q h),
+      simp (n, no_parameter version q (semicolon_apart q h)),
+      rw n (item_part q h),
     )) ps t
     (end_joined (IsParameterText version) ps t i)
 
@@ -140,10 +132,8 @@ begun_apart class n (c ∷ t) none b = Apart-cons (byte n) c t (ne_eqb c n (λ i
 
 pub item_begun : (version : Version) (i : RawItem) (t q : List ℕ) → IsItemText version i t
     → begins is_bare_start (t ++ q) ≡ true
-item_begun version i t q h = subst (λ (l : List ℕ). begins is_bare_start l
-    ≡ true) (sym (ap (λ (l : List ℕ). l ++ q) h.text
-    ∙ append_assoc h.front h.back q)) (begins-append is_bare_start h.front (h.back ++ q)
-    (bare_begins version i.bare h.front h.first))
+item_begun version i t q h = rw (ap (λ (l : List ℕ). l ++ q) h.text ∙ append_assoc h.front h.back q)
+    (begins-append is_bare_start h.front (h.back ++ q) (bare_begins version i.bare h.front h.first))
 
 pub item_no : (n : ℕ) (version : Version) (i : RawItem) (t q : List ℕ) → is_bare_start n ≡ false
     → IsItemText version i t → Apart (byte n) (t ++ q)
@@ -157,7 +147,4 @@ pub space_ends : (q : List ℕ) → Apart lengthens_item (space ∷ q)
 space_ends q = Apart-cons lengthens_item space q refl
 
 pub blank_ends : (c : ℕ) (q : List ℕ) → is_space_or_tab c ≡ true → Apart lengthens_item (c ∷ q)
-blank_ends c q e = elim (or_cases (eqb c space) (eqb c tab) e) [
-  | inl s ↦ Apart-cons lengthens_item c q (ap lengthens_item (eqb-true c space s))
-  | inr t ↦ Apart-cons lengthens_item c q (ap lengthens_item (eqb-true c tab t))
-]
+blank_ends c q e = Apart-cons lengthens_item c q (grind (arith, nat_tests))

@@ -1,13 +1,12 @@
 -- A text of an inner list, or of a member, is read, as that.
-use Rattle.std.proofs.Common.{◌≡◌, ℕ, ◌≤◌, eqb, List, [], ◌∷◌, ◌++◌, length, Some, None, Ok, refl, sym, ap, subst, ◌∙◌}
+use Rattle.std.proofs.Common.{◌≡◌, ℕ, ◌≤◌, List, [], ◌∷◌, ◌++◌, length, Some, None, Ok, refl, sym, ap, ◌∙◌}
 use Rattle.std.proofs.Common.{append_assoc, arith, inl, inr}
 use Rattle.std.proofs.lemmas.List.{length-append}
-use Rattle.std.proofs.lemmas.Bool.{eqb-true, or_from, true≢false}
-use Rattle.sfv_spec.proofs.Marks.{tab, space, equals_sign}
-use Rattle.sfv_spec.proofs.Marks.{left_parenthesis, right_parenthesis}
+use Rattle.std.proofs.lemmas.Bool.{eqb-true, true≢false}
+use Rattle.sfv_spec.proofs.Marks.{tab, space, equals_sign, left_parenthesis, right_parenthesis, is_space}
+use Rattle.sfv_spec.proofs.Marks.{is_space_or_tab}
 use Rattle.sfv_spec.specs.Texts.{RunOf}
 use Rattle.sfv_spec.specs.Classes.{is_key_inner}
-use Rattle.sfv_spec.proofs.Marks.{is_space, is_space_or_tab}
 use Rattle.sfv_spec.specs.Values.{RawParameters, RawItem, RawMember, item, inner_list}
 use Rattle.sfv_spec.specs.declared.version.Version.{Version}
 use Rattle.sfv_spec.specs.Grammar.{IsKeyText, IsParametersText, IsItemText, IsMemberText, IsMemberValueText}
@@ -20,7 +19,7 @@ use Rattle.sfv_model.specs.Members.{entry_at, member_value_at, keyed_at}
 use Rattle.sfv_model.proofs.sound.Combinators.{run_head, run_tail}
 use Rattle.sfv_model.proofs.complete.Combinators.{Apart-cons, branch_past, branch_take, ahead_any, bind_complete}
 use Rattle.sfv_model.proofs.complete.Combinators.{led_complete, span_complete}
-use Rattle.sfv_model.proofs.texts.Joining.{joined_split}
+use Rattle.sfv_model.proofs.texts.Joining.{joined_split, in_turn}
 use Rattle.sfv_model.proofs.sound.Many.{many_complete}
 use Rattle.sfv_model.proofs.sound.Members.{IsClosed, IsNextItem, IsItems, Consumes-next_item}
 use Rattle.sfv_model.proofs.complete.Items.{lengthens_item, key_apart, equals_apart, key_complete, key_no}
@@ -55,7 +54,7 @@ next_item_complete version i t q h f =
           (item_no space version i h.back q refl h.second))
           ∙ branch_past _ _ _ (h.back ++ q) (item_no right_parenthesis version i h.back q refl h.second)
           ∙ bind_complete _ _ _ _ _ (inner_item_complete version i h.back q h.second f),
-      subst (Apart lengthens_item) (sym all) (space_ends (s.back ++ (h.back ++ q))),
+      rw all (space_ends (s.back ++ (h.back ++ q))),
     )
 
 closed_on : (version : Version) (spaces q : List ℕ) → RunOf is_space spaces
@@ -71,28 +70,22 @@ closed_on version (c ∷ s) q each = (
   branch_take _ _ _ c (s ++ right_parenthesis ∷ q) (run_head is_space c s each)
       ∙ bind_complete _ _ _ _ _ (span_complete is_space s (right_parenthesis ∷ q) (run_tail is_space c s each)
       (bracket_no_space q)) ∙ branch_take _ _ _ right_parenthesis q refl,
-  subst (λ (c : ℕ). Apart lengthens_item (c ∷ (s ++ right_parenthesis ∷ q)))
-      (sym (eqb-true c space (run_head is_space c s each))) (space_ends (s ++ right_parenthesis ∷ q)),
+  rw (eqb-true c space (run_head is_space c s each)) (space_ends (s ++ right_parenthesis ∷ q)),
 )
 
 closed_whole : (e q : List ℕ) (h : IsClosed e) → e ++ q ≡ h.front ++ right_parenthesis ∷ q
-closed_whole e q h = ap (λ (l : List ℕ). l ++ q) (h.text ∙ ap (λ (l : List ℕ). h.front ++ l) h.second)
-    ∙ append_assoc h.front (right_parenthesis ∷ []) q
+closed_whole e q h = simp (h.text, h.second, append_assoc)
 
 closed_complete : (version : Version) (e q : List ℕ) → IsClosed e
     → (next_item_at version (e ++ q) ≡ Ok (None, q)) × Apart lengthens_item (e ++ q)
-closed_complete version e q h = subst (λ (l : List ℕ). (next_item_at version l ≡ Ok (None, q))
-    × Apart lengthens_item l) (sym (closed_whole e q h)) (closed_on version h.front q h.first)
+closed_complete version e q h = rw (closed_whole e q h) (closed_on version h.front q h.first)
 
 items_complete : (version : Version) (is : List RawItem) (t q : List ℕ) → IsItems version is t
     → inner_items_at version (t ++ q) ≡ Ok (is, q)
 unfolding inner_items_at give
 items_complete version [] t q h =
     ap (inner_items_at version) (closed_whole t q h)
-    ∙ ahead_any _ _ (h.front ++ right_parenthesis ∷ q) (omega (
-      arith,
-      length-append h.front (right_parenthesis ∷ q),
-    ))
+    ∙ ahead_any _ _ (h.front ++ right_parenthesis ∷ q) (omega (arith, length-append {A = ℕ}))
     ∙ bind_complete _ _ _ _ _ (span_complete is_space h.front (right_parenthesis ∷ q) h.first (bracket_no_space q))
     ∙ branch_take _ _ _ right_parenthesis q refl
 items_complete version (i ∷ is) t q h =
@@ -104,11 +97,8 @@ items_complete version (i ∷ is) t q h =
     ap (λ (l : List ℕ). l ++ q) (h.text ∙ ap (λ (l : List ℕ). h.front ++ l) o.text) ∙ simp append_assoc in
     let some : 1 ≤ length (o.front ++ (o.back ++ q)) =
     begun_some is_bare_start (o.front ++ (o.back ++ q)) (item_begun version i o.front (o.back ++ q) o.first) in
-    ap (inner_items_at version) all ∙ ahead_any _ _ (h.front ++ (o.front ++ (o.back ++ q))) (omega (
-      arith,
-      some,
-      length-append h.front (o.front ++ (o.back ++ q)),
-    ))
+    ap (inner_items_at version) all ∙ ahead_any _ _ (h.front ++ (o.front ++ (o.back ++ q)))
+    (omega (arith, length-append {A = ℕ}))
     ∙ bind_complete _ _ _ _ _ (span_complete is_space h.front (o.front ++ (o.back ++ q)) h.first
     (item_no space version i o.front (o.back ++ q) refl o.first))
     ∙ branch_past _ _ _ (o.front ++ (o.back ++ q))
@@ -134,19 +124,8 @@ inner_parts version [] ps t h =
     record {
       items = s.front ++ right_parenthesis ∷ [];
       rest = c.back;
-      text =
-          h.text ∙ ap (λ (l : List ℕ). l ++ h.back) h.first
-          ∙ ap (λ (l : List ℕ). left_parenthesis ∷ l) (s.text
-          ∙ ap (λ (l : List ℕ). s.front ++ l) (s.second.text
-          ∙ ap (λ (l : List ℕ). l ++ s.second.back) s.second.first ∙ c.text
-          ∙ ap (λ (l : List ℕ). l ++ c.back) c.first) ∙ sym (append_assoc s.front (right_parenthesis ∷ []) c.back));
-      are_items = record {
-        front = s.front;
-        back = right_parenthesis ∷ [];
-        text = refl;
-        first = s.first;
-        second = refl;
-      };
+      text = simp (h.text, h.first, s.text, s.second.text, s.second.first, c.text, c.first, append_assoc);
+      are_items = in_turn s.front (right_parenthesis ∷ []) s.first refl;
       are_parameters = c.second;
     }
 inner_parts version (i ∷ is) ps t h =
@@ -155,7 +134,7 @@ inner_parts version (i ∷ is) ps t h =
     let z = s.second.first in
     let o = z.first in
     let end : IsClosed (z.back ++ right_parenthesis ∷ []) =
-    record { front = z.back; back = right_parenthesis ∷ []; text = refl; first = z.second; second = refl } in
+    in_turn z.back (right_parenthesis ∷ []) z.second refl in
     let whole : s.second.front ++ s.second.back ≡ (o.front ++ (o.back ++ (z.back ++ right_parenthesis ∷ [])))
     ++ c.back =
     ap (λ (l : List ℕ). l ++ s.second.back) (z.text ∙ ap (λ (l : List ℕ). l ++ z.back) o.text)
@@ -164,23 +143,10 @@ inner_parts version (i ∷ is) ps t h =
     record {
       items = s.front ++ (o.front ++ (o.back ++ (z.back ++ right_parenthesis ∷ [])));
       rest = c.back;
-      text = h.text ∙ ap (λ (l : List ℕ). l ++ h.back) h.first
-          ∙ ap (λ (l : List ℕ). left_parenthesis ∷ l) (s.text
-          ∙ ap (λ (l : List ℕ). s.front ++ l) (s.second.text ∙ whole) ∙ sym (append_assoc s.front _ c.back));
-      are_items = record {
-        front = s.front;
-        back = o.front ++ (o.back ++ (z.back ++ right_parenthesis ∷ []));
-        text = refl;
-        first = s.first;
-        second = record {
-          front = o.front;
-          back = o.back ++ (z.back ++ right_parenthesis ∷ []);
-          text = refl;
-          first = o.first;
-          second = joined_split (IsNextItem version) IsClosed is o.back (z.back
-              ++ right_parenthesis ∷ []) o.second end;
-        };
-      };
+      text = simp (h.text, h.first, s.text, s.second.text, whole, append_assoc);
+      are_items = in_turn s.front (o.front ++ (o.back ++ (z.back ++ right_parenthesis ∷ []))) s.first
+          (in_turn o.front (o.back ++ (z.back ++ right_parenthesis ∷ [])) o.first
+          (joined_split (IsNextItem version) IsClosed is o.back (z.back ++ right_parenthesis ∷ []) o.second end));
       are_parameters = c.second;
     }
 
@@ -190,8 +156,7 @@ inner_complete : (version : Version) (is : List RawItem) (ps : RawParameters) (t
 unfolding member_at inner_at give
 inner_complete version is ps t q h f =
     let p = inner_parts version is ps t h in
-    let all : t ++ q ≡ left_parenthesis ∷ (p.items ++ (p.rest ++ q)) = ap (λ (l : List ℕ). l ++ q) p.text
-    ∙ ap (λ (l : List ℕ). left_parenthesis ∷ l) (append_assoc p.items p.rest q) in
+    let all : t ++ q ≡ left_parenthesis ∷ (p.items ++ (p.rest ++ q)) = simp (p.text, append_assoc) in
     let parameters = parameters_complete version ps p.rest q p.are_parameters f in
     ap (member_at version) all ∙ branch_take _ _ _ left_parenthesis (p.items ++ (p.rest ++ q)) refl
     ∙ led_complete _ _ _ _ _ (bind_complete _ _ _ _ _ (items_complete version is p.items (p.rest ++ q) p.are_items)
@@ -216,16 +181,15 @@ pub entry_fresh : (version : Version) (m : RawMember) (t q : List ℕ) → IsMem
     → Apart is_space_or_tab (t ++ q) × (1 ≤ length (t ++ q))
 entry_fresh version (item i) t q h = (
   record {
-    apart = λ c e. or_from (eqb c space) (eqb c tab) ((item_no space version i t q refl h).apart c e)
-        ((item_no tab version i t q refl h).apart c e);
+    apart = λ c e. rw ((item_no space version i t q refl h).apart c e, (item_no tab version i t q refl h).apart c e)
+        refl;
   },
   begun_some is_bare_start (t ++ q) (item_begun version i t q h),
 )
 entry_fresh version (inner_list l) t q h =
     let p = inner_parts version l.items l.parameters t h in
     let all : t ++ q ≡ left_parenthesis ∷ ((p.items ++ p.rest) ++ q) = ap (λ (l : List ℕ). l ++ q) p.text in
-    subst (λ (l : List ℕ). Apart is_space_or_tab l
-    × (1 ≤ length l)) (sym all) (Apart-cons is_space_or_tab left_parenthesis _ refl, omega arith)
+    rw all (Apart-cons is_space_or_tab left_parenthesis _ refl, omega arith)
 
 -- ---- members of dictionaries
 
@@ -235,9 +199,8 @@ unfolding member_value_at give
 member_value_complete version m t q (inl h) f =
     let all : t ++ q ≡ equals_sign ∷ (h.back ++ q) =
     ap (λ (l : List ℕ). l ++ q) (h.text ∙ ap (λ (l : List ℕ). l ++ h.back) h.first) in (
-      ap (member_value_at version) all ∙ branch_take _ _ _ equals_sign (h.back ++ q) refl
-          ∙ member_complete version m h.back q h.second f,
-      subst (Apart is_key_inner) (sym all) (Apart-cons is_key_inner equals_sign (h.back ++ q) refl),
+      rw (all, branch_take _ _ _ equals_sign (h.back ++ q) refl, member_complete version m h.back q h.second f) refl,
+      rw all (Apart-cons is_key_inner equals_sign (h.back ++ q) refl),
     )
 member_value_complete version m t q (inr h) f =
     let ps = parameters_complete version h.0 t q h.2 f in (
@@ -264,11 +227,12 @@ pub keyed_fresh : (version : Version) (m : List ℕ × RawMember) (t q : List �
 keyed_fresh version m t q h =
     let all : t ++ q ≡ h.front ++ (h.back ++ q) = ap (λ (l : List ℕ). l ++ q) h.text ∙ append_assoc h.front h.back q in
     let some = key_some m.0 h.front h.first in
-    subst (λ (l : List ℕ). Apart is_space_or_tab l × (1 ≤ length l)) (sym all) (
+    rw all (
       record {
-        apart = λ c e. or_from (eqb c space) (eqb c tab)
-            ((key_no space m.0 h.front (h.back ++ q) refl h.first).apart c e)
-            ((key_no tab m.0 h.front (h.back ++ q) refl h.first).apart c e);
+        apart = λ c e. rw (
+          (key_no space m.0 h.front (h.back ++ q) refl h.first).apart c e,
+          (key_no tab m.0 h.front (h.back ++ q) refl h.first).apart c e,
+        ) refl;
       },
       omega (arith, some, length-append h.front (h.back ++ q)),
     )

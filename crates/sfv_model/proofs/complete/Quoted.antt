@@ -5,8 +5,7 @@ use Rattle.std.specs.List.{concat}
 use Rattle.std.proofs.lemmas.List.{append-nil}
 use Rattle.std.proofs.lemmas.Str.{is_utf8-from_IsUtf8}
 use Rattle.sfv_spec.proofs.Marks.{double_quote}
-use Rattle.sfv_model.specs.Quoted.{after_bytes, IsStringEnd, IsDisplayEnd, string_at, outside, pieces_from, checked}
-use Rattle.sfv_model.specs.Quoted.{display_at}
+use Rattle.sfv_model.specs.Quoted.{IsStringEnd, IsDisplayEnd, string_at, outside, pieces_from, checked, display_at}
 use Rattle.sfv_model.proofs.quoted.Pieces.{past_string, past_display, quote_string, quote_display}
 
 -- Each String is read, whatever follows it.
@@ -14,10 +13,8 @@ pub string_complete : (s t q : List ℕ) → IsStringEnd s t → string_at (t ++
 string_complete s t q h =
     let pieces = h.first.pieces in
     let whole : t ++ q ≡ concat pieces ++ double_quote ∷ q =
-    ap (λ (l : List ℕ). l ++ q) (h.text ∙ ap (λ (l : List ℕ). l ++ h.back) h.first.text
-    ∙ ap (λ (l : List ℕ). concat pieces ++ l) h.second) ∙ append_assoc (concat pieces) (double_quote ∷ []) q in
-    ap string_at whole ∙ past_string s pieces (double_quote ∷ q) h.first.each ∙ ap (after_bytes s) (quote_string q)
-    ∙ ap (λ (l : List ℕ). Ok (l, q)) (append-nil s)
+    cc (h.text, h.first.text, h.second, append_assoc (concat pieces) (double_quote ∷ []) q) in
+    simp (whole, past_string s pieces (double_quote ∷ q) h.first.each, quote_string q, append-nil)
 
 -- a text of UTF-8 passes
 pub passes : (t : List ℕ) (s r : List ℕ) → IsUtf8 s → checked t (Ok (s, r)) ≡ Ok (s, r)
@@ -29,9 +26,7 @@ unfolding display_at
 display_complete s t q h =
     let pieces = h.first.0.pieces in
     let whole : t ++ q ≡ concat pieces ++ double_quote ∷ q =
-    ap (λ (l : List ℕ). l ++ q) (h.text ∙ ap (λ (l : List ℕ). l ++ h.back) h.first.0.text
-    ∙ ap (λ (l : List ℕ). concat pieces ++ l) h.second) ∙ append_assoc (concat pieces) (double_quote ∷ []) q in
-    let read : pieces_from outside (t ++ q) ≡ Ok (s, q) = ap (pieces_from outside) whole
-    ∙ past_display s pieces (double_quote ∷ q) h.first.0.each ∙ ap (after_bytes s) (quote_display q)
-    ∙ ap (λ (l : List ℕ). Ok (l, q)) (append-nil s) in
+    rw (h.text, h.first.0.text, h.second, append_assoc) refl in
+    let read : pieces_from outside (t ++ q) ≡ Ok (s, q) = simp
+    (whole, past_display s pieces (double_quote ∷ q) h.first.0.each, quote_display q, append-nil) in
     ap (checked (t ++ q)) read ∙ passes (t ++ q) s q h.first.1

@@ -1,43 +1,39 @@
 -- Where the faults between the bare items of an inner list stand.
-use Rattle.std.proofs.Common.{◌≡◌, ℕ, ◌≤◌, true, List, [], ◌∷◌, ◌++◌, length, Option, refl}
-use Rattle.std.proofs.Common.{sym, ap, subst, ◌∙◌, append_assoc, arith}
+use Rattle.std.proofs.Common.{◌≡◌, ℕ, true, List, [], ◌∷◌, ◌++◌, Option, refl, sym, ap, subst, ◌∙◌, append_assoc, rules}
 use Rattle.std.specs.Prelude.{⊤, codes}
 use Rattle.std.proofs.lemmas.List.{append-nil}
 use Rattle.std.proofs.lemmas.Bool.{eqb-true}
-use Rattle.sfv_spec.proofs.Marks.{space, equals_sign}
-use Rattle.sfv_spec.proofs.Marks.{left_parenthesis, right_parenthesis, comma}
+use Rattle.sfv_spec.proofs.Marks.{space, equals_sign, left_parenthesis, right_parenthesis, comma, is_space}
+use Rattle.sfv_spec.proofs.Marks.{is_space_or_tab}
 use Rattle.sfv_spec.specs.Texts.{RunOf, IsJoining}
-use Rattle.sfv_spec.proofs.Marks.{is_space, is_space_or_tab}
 use Rattle.sfv_spec.specs.Values.{boolean, RawItem}
 use Rattle.sfv_spec.specs.declared.version.Version.{Version}
-use Rattle.sfv_spec.specs.Grammar.{IsItemText, IsMemberText, IsMemberValueText, IsDictionaryMemberText}
-use Rattle.sfv_spec.specs.Grammar.{IsParameterText, IsKeyText}
+use Rattle.sfv_spec.specs.Grammar.{IsItemText, IsMemberText, IsMemberValueText, IsDictionaryMemberText, IsParameterText}
+use Rattle.sfv_spec.specs.Grammar.{IsKeyText}
 use Rattle.sfv_spec.specs.Events.{inner_item_events}
 use Rattle.sfv_spec.specs.declared.error_kind.ErrorKind.{ErrorKind}
 use Rattle.sfv_spec.specs.declared.error_kind.ErrorKind.TheVariants.{TrailingCharactersAfterMember, TrailingComma}
 use Rattle.sfv_spec.specs.declared.error_kind.ErrorKind.TheVariants.{TrailingCharactersAfterParsedValue}
-use Rattle.sfv_spec.specs.declared.error_kind.ErrorKind.TheVariants.{ExpectedInnerListDelimiter}
-use Rattle.sfv_spec.specs.declared.error_kind.ErrorKind.TheVariants.{UnterminatedInnerList}
-use Rattle.sfv_spec.proofs.Settled.{joining-nil, joining-cons}
-use Rattle.sfv_model.specs.Reader.{Fault, Reader, span, many, any}
+use Rattle.sfv_spec.specs.declared.error_kind.ErrorKind.TheVariants.{ExpectedInnerListDelimiter, UnterminatedInnerList}
+use Rattle.sfv_spec.proofs.Settled.{joining-nil}
+use Rattle.sfv_model.specs.Reader.{Fault, Reader, many, any}
 use Rattle.sfv_model.specs.Items.{key_at, item_of}
 use Rattle.sfv_model.specs.Members.{inner_item_at, next_item_at, inner_items_at, inner_of, inner_at, member_at}
-use Rattle.sfv_model.specs.Members.{entry_at}
-use Rattle.sfv_model.specs.Members.{member_value_at, keyed_at}
-use Rattle.sfv_model.proofs.TrailingBytes.{IsOther, Shuns, Shuns-item, Shuns-key, Shuns-parameters, Shuns-led, Shuns-bind}
-use Rattle.sfv_model.proofs.TrailingBytes.{Shuns-give, Shuns-branch, Shuns-span}
-use Rattle.sfv_model.proofs.sound.Combinators.{Steady-span, Sound-steady, IsSpan}
+use Rattle.sfv_model.specs.Members.{entry_at, member_value_at, keyed_at}
+use Rattle.sfv_model.proofs.TrailingBytes.{IsOther, Shuns, Shuns-item, Shuns-key, Shuns-parameters, Shuns-led}
+use Rattle.sfv_model.proofs.TrailingBytes.{Shuns-bind, Shuns-give, Shuns-branch, Shuns-span}
 use Rattle.sfv_model.proofs.sound.Items.{Sound-key, parameter_of, true_value}
-use Rattle.sfv_model.proofs.sound.Members.{IsClosed, IsNextItem, Sound-inner_item, Sound-next_item}
-use Rattle.sfv_model.proofs.sound.Members.{Consumes-next_item, IsItems, items_with, bracket, Sound-items}
-use Rattle.sfv_model.proofs.sound.Members.{inner_text, given}
+use Rattle.sfv_model.proofs.sound.Members.{IsClosed, IsNextItem, Sound-inner_item, Sound-next_item, Consumes-next_item}
+use Rattle.sfv_model.proofs.sound.Members.{IsItems, items_with, bracket, Sound-items, inner_text, given}
 use Rattle.sfv_model.proofs.sound.Members.{Sound-member_value, keyed}
 use Rattle.sfv_model.proofs.sound.Steps.{Sound-steps}
-use Rattle.sfv_model.proofs.texts.Joining.{joining_none, joining_into, joining_push, joined_split}
-use Rattle.sfv_model.proofs.faults.Combinators.{Rules, Rules-give, Rules-steady, Rules-led, Rules-bind, Rules-branch}
+use Rattle.sfv_model.proofs.texts.Joining.{joining_none, joining_push, joined_split}
+use Rattle.sfv_model.proofs.faults.Combinators.{Rules, Rules-give, Rules-span, Rules-led, Rules-bind, Rules-branch}
 use Rattle.sfv_model.proofs.faults.Combinators.{Rules-ahead, Rules-any, Rules-weaker, fail_at}
 use Rattle.sfv_model.proofs.faults.Many.{Rules-many}
-use Rattle.sfv_model.proofs.faults.ItemEnds.{IsTight, tight_after, item_tight, outer_space}
+use Rattle.sfv_model.proofs.faults.InnerListCutOff.{joining_last}
+use Rattle.sfv_model.proofs.faults.ItemEnds.{IsTight, tight_after, item_tight, outer_space, second_longer, tight_both}
+use Rattle.sfv_model.proofs.faults.ItemEnds.{joining_tight, after_front}
 
 -- front ends in an inner list, where a parenthesis can stand, and, after an item, a parameter too
 pub record IsOpen {A : Type 0} (P : A → List ℕ → Type 0) (k : ErrorKind) (t rest : List ℕ) : Type 0 where
@@ -46,7 +42,6 @@ pub record IsOpen {A : Type 0} (P : A → List ℕ → Type 0) (k : ErrorKind) (
   pub closes : (v : A) × P v (front ++ codes ")")
   pub tight : IsTight space front
   pub longer : k ≡ ExpectedInnerListDelimiter → (v : A) × P v (front ++ codes ";a)")
-  pub some : k ≡ ExpectedInnerListDelimiter → 1 ≤ length rest
   pub ends : k ≡ UnterminatedInnerList → rest ≡ []
 
 -- front is a whole text with a member
@@ -56,7 +51,6 @@ pub record IsWhole {A : Type 0} (P : A → List ℕ → Type 0) (Has : A → Typ
   pub text : t ≡ front ++ rest
   pub means : P value front
   pub has : Has value
-  pub some : 1 ≤ length rest
 
 -- the comma at the end, after such a text
 pub record IsLastComma {A : Type 0} (P : A → List ℕ → Type 0) (Has : A → Type 0) (t rest : List ℕ) : Type 0 where
@@ -87,13 +81,10 @@ open_within : {A B : Type 0} (P : A → List ℕ → Type 0) (Q : B → List ℕ
     → IsOpen Q k (p ++ t) rest
 open_within P Q p h k t rest o = record {
   front = p ++ o.front;
-  text = ap (λ (l : List ℕ). p ++ l) o.text ∙ sym (append_assoc p o.front rest);
-  closes = let m = h o.closes.0 (o.front ++ codes ")") o.closes.1 in
-      (m.0, subst (Q m.0) (sym (append_assoc p o.front (codes ")"))) m.1);
+  text = rw o.text (simp append_assoc);
+  closes = let m = h o.closes.0 (o.front ++ codes ")") o.closes.1 in (m.0, rw append_assoc m.1);
   tight = tight_after space p o.front o.tight;
-  longer = λ e. let w = o.longer e in let m = h w.0 (o.front ++ codes ";a)") w.1 in
-      (m.0, subst (Q m.0) (sym (append_assoc p o.front (codes ";a)"))) m.1);
-  some = o.some;
+  longer = λ e. let w = o.longer e in let m = h w.0 (o.front ++ codes ";a)") w.1 in (m.0, rw append_assoc m.1);
   ends = o.ends;
 }
 
@@ -103,9 +94,9 @@ pub stands_within : {A B : Type 0} (P : A → List ℕ → Type 0) (Q : B → Li
     → ((v : A) (s : List ℕ) → P v s → (w : B) × Q w (p ++ s) × (Has v → More w)) → (k : ErrorKind) (t rest : List ℕ)
     → Stands P Has k t rest → Stands Q More k (p ++ t) rest
 stands_within P Q Has More p h ExpectedInnerListDelimiter t rest o =
-    open_within P Q p (λ v s m. let w = h v s m in (w.0, w.1)) ExpectedInnerListDelimiter t rest o
+    open_within P Q p (λ v s m. let w = h v s m in (w.0, w.1)) _ t rest o
 stands_within P Q Has More p h UnterminatedInnerList t rest o =
-    open_within P Q p (λ v s m. let w = h v s m in (w.0, w.1)) UnterminatedInnerList t rest o
+    open_within P Q p (λ v s m. let w = h v s m in (w.0, w.1)) _ t rest o
 stands_within P Q Has More p h TrailingCharactersAfterMember t rest o =
     let w = h o.value o.front o.means in
     record {
@@ -114,7 +105,6 @@ stands_within P Q Has More p h TrailingCharactersAfterMember t rest o =
       text = ap (λ (l : List ℕ). p ++ l) o.text ∙ sym (append_assoc p o.front rest);
       means = w.1;
       has = w.2 o.has;
-      some = o.some;
     }
 stands_within P Q Has More p h TrailingComma t rest o =
     let w = h o.value o.front o.means in
@@ -135,18 +125,12 @@ stands_within P Q Has More p h _ t rest o = tt
 stands_other : {A : Type 0} (P : A → List ℕ → Type 0) (Has : A → Type 0) (k : ErrorKind) (t rest : List ℕ)
     → IsOther k → Stands P Has k t rest
 stands_other P Has ExpectedInnerListDelimiter t rest o = absurd o
-stands_other P Has UnterminatedInnerList t rest o = absurd o
-stands_other P Has TrailingCharactersAfterMember t rest o = absurd o
-stands_other P Has TrailingComma t rest o = absurd o
-stands_other P Has TrailingCharactersAfterParsedValue t rest o = o
-stands_other P Has _ t rest o = tt
+stands_other P Has _ t rest o = search (rules, o)
 
 pub Rules-other : {A B : Type 0} (f : Reader A) (P : B → List ℕ → Type 0) (Has : B → Type 0) (at : List ℕ → List ℕ)
     → Shuns f → Rules f (λ t e. Stands P Has e.kind (at t) e.rest)
-Rules-other f P Has at h = record {
-  rules = λ t e i.
-      stands_other P Has e.kind (at t) e.rest (h.rules t e i);
-}
+Rules-other f P Has at h =
+    record { rules = λ t e i. stands_other P Has e.kind (at t) e.rest (h.rules t e i) }
 
 -- ---- items, of which the last gets one more parameter
 
@@ -158,14 +142,8 @@ module _ (version : Version) where
       × IsItemText version j (t ++ codes ";a")
   item_longer i t h = (
     item_of i.bare (i.parameters ++ (codes "a", boolean true) ∷ []),
-    record {
-      front = h.front;
-      back = h.back ++ codes ";a";
-      text = ap (λ (l : List ℕ). l ++ codes ";a") h.text ∙ append_assoc h.front h.back (codes ";a");
-      first = h.first;
-      second = joining_push (IsParameterText version) i.parameters (codes "a", boolean true) h.back (codes ";a")
-          h.second parameter_a;
-    },
+    second_longer t (codes ";a") h (joining_push (IsParameterText version) i.parameters (codes "a", boolean true) h.back
+        (codes ";a") h.second parameter_a),
   )
 
   -- an item, others after it
@@ -187,39 +165,23 @@ module _ (version : Version) where
         is = [];
         one = s ++ codes ";a";
         others = [];
-        text = ap (λ (l : List ℕ). (s ++ l) ++ codes ";a") (joining-nil j)
-            ∙ ap (λ (l : List ℕ). l ++ codes ";a") (append-nil s) ∙ sym (append-nil (s ++ codes ";a"));
+        text = rw (joining-nil j) (simp append-nil);
         first = m.1;
         second = joining_none (IsNextItem version);
       }
   items_longer i (next ∷ is) s u h j =
-      let c = joining-cons j in
-      let n = c.first in
-      let m = items_longer next is n.back c.back n.second c.second in
+      let l = joining_last (IsNextItem version) next is u j in
+      let m = item_longer l.1 l.6.back l.6.second in
       record {
         i = i;
-        is = m.i ∷ m.is;
+        is = l.0 ++ m.0 ∷ [];
         one = s;
-        others = (n.front ++ m.one) ++ m.others;
-        text = append_assoc s u (codes ";a") ∙ ap (λ (l : List ℕ). s ++ l)
-            (ap (λ (l : List ℕ). l ++ codes ";a") (c.text ∙ ap (λ (l : List ℕ). l ++ c.back) n.text
-            ∙ append_assoc n.front n.back c.back) ∙ append_assoc n.front (n.back ++ c.back) (codes ";a")
-            ∙ ap (λ (l : List ℕ). n.front ++ l) m.text ∙ sym (append_assoc n.front m.one m.others));
+        others = l.2 ++ (l.3 ++ codes ";a");
+        text = ap (λ (x : List ℕ). (s ++ x) ++ codes ";a") l.4 ∙ simp append_assoc;
         first = h;
-        second = joining_into (IsNextItem version) m.i m.is (n.front ++ m.one) m.others
-            (record { front = n.front; back = m.one; text = refl; first = n.first; second = m.first }) m.second;
+        second = joining_push (IsNextItem version) l.0 m.0 l.2 (l.3 ++ codes ";a") l.5
+            (second_longer l.3 (codes ";a") l.6 m.1);
       }
-
-  items_tight : (i : RawItem) (is : List RawItem) (s u : List ℕ) → IsItemText version i s
-      → IsJoining (IsNextItem version) is u → IsTight space (s ++ u)
-  items_tight i [] s u h j = subst (IsTight space) (sym (ap (λ (l : List ℕ). s ++ l) (joining-nil j) ∙ append-nil s))
-      (item_tight space outer_space version i s h)
-  items_tight i (next ∷ is) s u h j =
-      let c = joining-cons j in
-      let n = c.first in
-      tight_after space s u (subst (IsTight space) (sym (c.text ∙ ap (λ (l : List ℕ). l ++ c.back) n.text
-      ∙ append_assoc n.front n.back c.back)) (tight_after space n.front (n.back ++ c.back)
-      (items_tight next is n.back c.back n.second c.second)))
 
   -- ---- inner lists
 
@@ -237,38 +199,33 @@ module _ (version : Version) where
     abbrev Here : List ℕ → Fault → Type 0
     Here x e = Stands Opened HasNone e.kind (left_parenthesis ∷ (s ++ (t ++ (u ++ x)))) e.rest
 
-    placed : (k : ErrorKind) (x : List ℕ) → (k ≡ ExpectedInnerListDelimiter → 1 ≤ length x)
-        → (k ≡ UnterminatedInnerList → x ≡ []) → IsOpen Opened k (left_parenthesis ∷ (s ++ (t ++ (u ++ x)))) x
-    placed k x some ends =
-        let front : List ℕ = left_parenthesis ∷ (s ++ (t ++ u)) in
-        let m = items_longer i is t u h j in
-        record {
-          front = front;
-          text = ap (λ (l : List ℕ). left_parenthesis ∷ l) (simp append_assoc);
-          closes = (
-            i ∷ is,
-            (
-              s ++ (t ++ (u ++ codes ")")),
-              ap (λ (l : List ℕ). left_parenthesis ∷ l) (simp append_assoc),
-              items_with version s t (u ++ codes ")") i is each h
-                  (joined_split (IsNextItem version) IsClosed is u (codes ")") j bracket),
-            ),
-          );
-          tight = tight_after space (left_parenthesis ∷ s) (t ++ u) (items_tight i is t u h j);
-          longer = λ _. (
-            m.i ∷ m.is,
-            (
-              s ++ (m.one ++ (m.others ++ codes ")")),
-              ap (λ (l : List ℕ). left_parenthesis ∷ l) (append_assoc s (t ++ u) (codes ";a)")
-                  ∙ ap (λ (l : List ℕ). s ++ l) (sym (append_assoc (t ++ u) (codes ";a") (codes ")"))
-                  ∙ ap (λ (l : List ℕ). l ++ codes ")") m.text ∙ append_assoc m.one m.others (codes ")"))),
-              items_with version s m.one (m.others ++ codes ")") m.i m.is each m.first
-                  (joined_split (IsNextItem version) IsClosed m.is m.others (codes ")") m.second bracket),
-            ),
-          );
-          some = some;
-          ends = ends;
-        }
+    -- the parenthesis can close an item and others
+    opened : (x : List ℕ) → AreItems x → (is : List RawItem) × Opened is ((left_parenthesis ∷ (s ++ x)) ++ codes ")")
+    opened x a = (
+      a.i ∷ a.is,
+      (
+        s ++ (a.one ++ (a.others ++ codes ")")),
+        ap (λ (l : List ℕ). left_parenthesis ∷ l) (ap (λ (l : List ℕ). (s ++ l) ++ codes ")") a.text
+            ∙ simp append_assoc),
+        items_with version s a.one (a.others ++ codes ")") a.i a.is each a.first
+            (joined_split (IsNextItem version) IsClosed a.is a.others (codes ")") a.second bracket),
+      ),
+    )
+
+    placed : (k : ErrorKind) (x : List ℕ) → (k ≡ UnterminatedInnerList → x ≡ [])
+        → IsOpen Opened k (left_parenthesis ∷ (s ++ (t ++ (u ++ x)))) x
+    placed k x ends = record {
+      front = left_parenthesis ∷ (s ++ (t ++ u));
+      text = ap (λ (l : List ℕ). left_parenthesis ∷ l) (simp append_assoc);
+      closes = opened (t ++ u) (record { i = i; is = is; one = t; others = u; text = refl; first = h; second = j });
+      tight = tight_after space (left_parenthesis ∷ s) (t ++ u) (tight_both space outer_space t u
+          (item_tight space outer_space version i t h) (joining_tight space outer_space (IsNextItem version)
+          (λ v x k. after_front space outer_space x k (item_tight space outer_space version v k.back k.second))
+          is u j));
+      longer = λ _. let o = opened ((t ++ u) ++ codes ";a") (items_longer i is t u h j) in
+          (o.0, subst (Opened o.0) (simp append_assoc) o.1);
+      ends = ends;
+    }
 
     next_item_rules : Rules (next_item_at version) Here
     unfolding next_item_at
@@ -277,10 +234,10 @@ module _ (version : Version) where
         (Shuns-bind _ _ shuns-inner_item (λ i. Shuns-give _)))))
         (Rules-branch _ _ _ _ (λ _ _. Rules-give _ _) (Rules-ahead any _ _ _
         (λ c r e _ q. fail_at (Option RawItem) ExpectedInnerListDelimiter Here (c ∷ r) e q
-        (placed ExpectedInnerListDelimiter (c ∷ r) (λ _. omega arith) (λ k. absurd cc)))
+        (placed ExpectedInnerListDelimiter (c ∷ r) (λ k. absurd cc)))
         (λ c r e y q. absurd cc)
         (λ e q. fail_at (Option RawItem) UnterminatedInnerList Here [] e q
-        (placed UnterminatedInnerList [] (λ k. absurd cc) (λ _. refl)))))
+        (placed UnterminatedInnerList [] (λ _. refl)))))
 
   abbrev AfterBracket : List ℕ → Fault → Type 0
   AfterBracket x e = Stands Opened HasNone e.kind (left_parenthesis ∷ x) e.rest
@@ -288,10 +245,7 @@ module _ (version : Version) where
   items_rules : Rules (inner_items_at version) AfterBracket
   unfolding inner_items_at
   items_rules = Rules-any _ _ _
-      (Rules-bind (IsSpan is_space) (λ _ _. Unit {0}) (λ _. Unit {0}) (span is_space) _ _
-      (Sound-steady _ _ _ _ (Steady-span is_space)) (Rules-steady _ _ _ (Steady-span is_space)) (λ s v z.
-      let each : RunOf is_space s = subst (RunOf is_space) (sym z.0) z.1 in
-      Rules-branch _ _ _ _ (λ _ _. Rules-give _ _)
+      (Rules-span is_space _ _ (λ s each. Rules-branch _ _ _ _ (λ _ _. Rules-give _ _)
       (Rules-bind (IsItemText version) _ _ (inner_item_at version) _ _ (Sound-inner_item version)
       (Rules-other _ Opened HasNone _ shuns-inner_item)
       (λ t i h. Rules-led _ _ _ (Rules-bind _ _ _ (many inner_item_events (next_item_at version)) _ _
@@ -309,7 +263,6 @@ module _ (version : Version) where
         closes = ([], (right_parenthesis ∷ [], refl, bracket));
         tight = record { before = []; last = left_parenthesis; text = refl; other = refl };
         longer = λ k. absurd cc;
-        some = λ k. absurd cc;
         ends = λ _. refl;
       }))
 

@@ -1,15 +1,15 @@
 -- The faults of Byte Sequences, and what shows that there are no others.
-use Rattle.std.proofs.Common.{◌≡◌, ℕ, ◌+◌, List, [], ◌∷◌, ◌++◌, drop, refl, sym, ◌∙◌, ap, subst}
-use Rattle.std.proofs.Common.{false, inl, inr, Option, Some, None, Ok, Err}
+use Rattle.std.proofs.Common.{◌≡◌, ℕ, ◌+◌, List, [], ◌∷◌, ◌++◌, drop, refl, sym, ◌∙◌, ap, subst, false, inl, inr}
+use Rattle.std.proofs.Common.{Option, Some, None, Ok, Err}
 use Rattle.std.specs.Prelude.{not}
 use Rattle.std.specs.List.{list_all, list_any}
-use Rattle.std.proofs.lemmas.Bool.{and_parts, cases_Bool, true≢false}
+use Rattle.std.proofs.lemmas.Bool.{and_parts, cases_Bool, not-true}
 use Rattle.std.proofs.lemmas.List.{drop-drop}
 use Rattle.sfv_spec.proofs.Marks.{colon}
 use Rattle.sfv_spec.specs.declared.error_kind.ErrorKind.TheVariants.{UnterminatedByteSequence}
 use Rattle.sfv_model.specs.Reader.{Fault, by_rule}
-use Rattle.sfv_model.specs.Content.{bytes_of, fault_place, is_colon, HasNoColon}
-use Rattle.sfv_model.specs.Content.{content_in, content_fault, closed_by, bytes_at, IsBytesAt, IsInvalidAt}
+use Rattle.sfv_model.specs.Content.{bytes_of, fault_place, is_colon, HasNoColon, content_in, content_fault, closed_by}
+use Rattle.sfv_model.specs.Content.{bytes_at, IsBytesAt, IsInvalidAt}
 use Rattle.sfv_model.specs.Claims.{IsBytesFault}
 use Rattle.sfv_model.proofs.sound.ByteSequences.{no_colon, content_split, read_closed, read_value, read_fault}
 use Rattle.sfv_model.proofs.sound.ByteSequences.{read_unclosed}
@@ -19,11 +19,7 @@ pub no_colon_any : (u : List ℕ) → HasNoColon u → list_any is_colon u ≡ f
 no_colon_any [] h = refl
 no_colon_any (c ∷ u) h =
     let p = and_parts (not (is_colon c)) (list_all (λ c. not (is_colon c)) u) h in
-    let no : is_colon c ≡ false = elim (cases_Bool (is_colon c)) [
-      | inl y ↦ absurd (true≢false (sym (rw y at p.0)))
-      | inr n ↦ n
-    ] in
-    rw no (no_colon_any u p.1)
+    rw (not-true (is_colon c) p.0) (no_colon_any u p.1)
 
 -- Exactly these faults are given.
 closed_fault : (content rest : List ℕ) (e : Fault) (value : Option (List ℕ)) → HasNoColon content

@@ -1,37 +1,32 @@
 -- A fault of a Display String is the one that its rule says.
-use Rattle.std.proofs.Common.{◌≡◌, ℕ, zero, suc, ◌≤◌, ◌+◌, ◌-◌, Bool, cond, not, ◌||◌, List, [], ◌∷◌, ◌++◌, length}
-use Rattle.std.proofs.Common.{take, drop, refl, sym, ap, subst, ◌∙◌, append_assoc, arith, inl, inr}
+use Rattle.std.proofs.Common.{◌≡◌, ℕ, zero, suc, ◌≤◌, ◌+◌, ◌-◌, not, ◌||◌, List, [], ◌∷◌, ◌++◌, length, take, drop}
+use Rattle.std.proofs.Common.{refl, sym, ap, subst, ◌∙◌, append_assoc, arith, inl, inr}
 use Rattle.std.specs.Prelude.{◌==◌, codes}
 use Rattle.std.specs.List.{concat, AllZip}
 use Rattle.std.specs.Str.Lossy.{utf8_valid_len}
 use Rattle.std.proofs.lemmas.Bool.{and_parts, or_parts, not-true, both_ways}
 use Rattle.std.proofs.lemmas.List.{length-append, take_at}
+use Rattle.std.proofs.Math.Seq.{take-append-add}
 use Rattle.std.proofs.lemmas.Str.{utf8_valid_len_le}
-use Rattle.sfv_spec.proofs.Marks.{double_quote, percent_sign}
+use Rattle.sfv_spec.proofs.Marks.{double_quote, percent_sign, AreDisplayPieces}
 use Rattle.sfv_spec.specs.Texts.{begins_with, IsLongestBeginning}
 use Rattle.sfv_spec.specs.Classes.{is_string_byte, is_lower_hexadecimal}
 use Rattle.sfv_spec.specs.declared.field_kind.FieldKind.{FieldKind}
 use Rattle.sfv_spec.specs.declared.version.Version.{Version}
 use Rattle.sfv_spec.specs.declared.version.Version.TheVariants.{Rfc9651}
 use Rattle.sfv_spec.specs.Strings.{IsDisplayPiece}
-use Rattle.sfv_spec.proofs.Marks.{AreDisplayPieces}
 use Rattle.sfv_spec.specs.declared.error_kind.ErrorKind.{ErrorKind}
 use Rattle.sfv_spec.specs.declared.error_kind.ErrorKind.TheVariants.{UnterminatedEscapeSequence, InvalidEscapeSequence}
 use Rattle.sfv_spec.specs.declared.error_kind.ErrorKind.TheVariants.{InvalidUtf8InDisplayString}
 use Rattle.sfv_spec.specs.declared.error_kind.ErrorKind.TheVariants.{InvalidDisplayStringCharacter}
-use Rattle.sfv_spec.specs.Faults.{WantsBetween, DisplayFault}
 use Rattle.sfv_spec.specs.declared.error_kind.ErrorKind.TheVariants.{UnterminatedDisplayString}
-use Rattle.sfv_spec.specs.Faults.{open_display, open_escape, wrong_escape, wrong_byte, wrong_utf8, RuledFault, bare, display}
+use Rattle.sfv_spec.specs.Faults.{WantsBetween, DisplayFault, open_display, open_escape, wrong_escape, wrong_byte}
+use Rattle.sfv_spec.specs.Faults.{wrong_utf8, RuledFault, bare, display}
 use Rattle.sfv_model.specs.Quoted.{outside, after_pieces, DisplayStops, IsDisplayFault}
 use Rattle.sfv_model.proofs.quoted.Pieces.{closed, closed_past, closed_pieces, IsStuck, stuck, stuck_quote}
 use Rattle.sfv_model.proofs.texts.Utf8.{longest_text}
 
 -- ---- the pieces are the longest
-
-take_past : (xs ys : List ℕ) (n : ℕ) → take (length xs + n) (xs ++ ys) ≡ xs ++ take n ys
-take_past [] ys n = let e : 0 + n ≡ n = omega arith in ap (λ (n : ℕ). take n ys) e
-take_past (x ∷ xs) ys n = let e : suc (length xs) + n ≡ suc (length xs + n) = omega arith in
-    ap (λ (n : ℕ). take n (x ∷ (xs ++ ys))) e ∙ ap (λ (l : List ℕ). x ∷ l) (take_past xs ys n)
 
 pub longest_pieces : (bytes : List ℕ) (pieces : List (List ℕ)) (left : List ℕ) → AllZip IsDisplayPiece bytes pieces
     → IsStuck left → IsLongestBeginning (λ d. (any : List ℕ)
@@ -50,7 +45,7 @@ longest_pieces bytes pieces left h k = record {
       let j : ℕ = m - length (concat pieces) - 1 in
       let e : m ≡ length (concat pieces) + suc j = omega (arith, l) in
       let front : take m (concat pieces ++ left) ≡ concat pieces ++ take (suc j) left =
-      ap (λ (m : ℕ). take m (concat pieces ++ left)) e ∙ take_past (concat pieces) left (suc j) in
+      ap (λ (m : ℕ). take m (concat pieces ++ left)) e ∙ take-append-add (concat pieces) left (suc j) in
       let shut = closed_pieces w.0 w.1.pieces w.1.each in
       let same : concat pieces ++ take (suc j) left ≡ concat w.1.pieces = sym front ∙ w.1.text in
       let fits : suc j ≤ length left = omega (arith, e, n, length-append (concat pieces) left) in
@@ -65,9 +60,8 @@ drop_one p r b (inl h) n =
     let a = and_parts (is_string_byte b) (not ((b == percent_sign) || (b == double_quote))) h.0 in
     let o = or_parts (b == percent_sign) (b == double_quote)
     (not-true ((b == percent_sign) || (b == double_quote)) a.1) in
-    ap (λ (l : List ℕ). after_pieces (suc n) (l ++ r)) h.1
-    ∙ ap (λ (x : Bool). after_pieces n (cond x (drop 2 r) r)) o.0
-drop_one p r b (inr h) n = ap (λ (l : List ℕ). after_pieces (suc n) (l ++ r)) h.4
+    rw (h.1, o.0) refl
+drop_one p r b (inr h) n = rw h.4 refl
 
 -- after the first n pieces
 pub after_drop : (n : ℕ) (bytes : List ℕ) (pieces : List (List ℕ)) (left : List ℕ)

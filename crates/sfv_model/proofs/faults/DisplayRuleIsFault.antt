@@ -1,34 +1,26 @@
 -- A rule for a Display String holds only where the reader gives that fault, at that place.
-use Rattle.std.proofs.Common.{◌≡◌, ℕ, ◌≤◌, ◌+◌, ◌*◌, ◌&&◌, List, [], ◌∷◌, ◌++◌, length, take, drop, refl, sym, ap, subst}
-use Rattle.std.proofs.Common.{◌∙◌, append_assoc, arith, inl, inr}
-use Rattle.std.specs.Prelude.{IsUtf8, not}
+use Rattle.std.proofs.Common.{◌≡◌, ℕ, ◌≤◌, ◌+◌, ◌*◌, ◌&&◌, List, [], ◌∷◌, ◌++◌, length, take, refl, sym, ap, subst, ◌∙◌}
+use Rattle.std.proofs.Common.{append_assoc, arith, inr}
+use Rattle.std.specs.Prelude.{not}
 use Rattle.std.specs.List.{concat, AllZip, list_all}
 use Rattle.std.specs.Str.Lossy.{utf8_valid_len}
-use Rattle.std.proofs.lemmas.Bool.{and_parts, and_from, cases_order, not-true}
+use Rattle.std.proofs.lemmas.Bool.{and_parts, and_from, not-true}
 use Rattle.std.proofs.lemmas.List.{length-append, append-nil, take_at}
 use Rattle.std.proofs.lemmas.Str.{utf8_valid_len_le}
-use Rattle.sfv_spec.proofs.Marks.{percent_sign}
+use Rattle.sfv_spec.proofs.Marks.{percent_sign, AreDisplayPieces}
 use Rattle.sfv_spec.specs.Texts.{RunOf, IsLongestBeginning}
 use Rattle.sfv_spec.specs.Classes.{is_string_byte, is_lower_hexadecimal}
 use Rattle.sfv_spec.specs.Strings.{IsDisplayPiece}
 use Rattle.std.specs.Char.{digit_value as hexadecimal_value}
-use Rattle.sfv_spec.proofs.Marks.{AreDisplayPieces}
+use Rattle.sfv_spec.proofs.Versions.{one_longest}
 use Rattle.sfv_spec.specs.Faults.{DisplayFault, open_display, open_escape, wrong_escape, wrong_byte, wrong_utf8}
 use Rattle.sfv_spec.specs.declared.error_kind.ErrorKind.{ErrorKind}
 use Rattle.sfv_model.specs.Quoted.{IsDisplayFault}
+use Rattle.sfv_model.proofs.faults.Quoted.{traced}
 use Rattle.sfv_model.proofs.sound.Quoted.{zip_more, concat_more}
 use Rattle.sfv_model.proofs.faults.NumberShapes.{next_of}
 use Rattle.sfv_model.proofs.faults.DisplayFaultIsRule.{after_drop}
 use Rattle.sfv_model.proofs.texts.Utf8.{longest_text}
-
--- two texts with a longest beginning of one kind, of one length
-pub same_longest : (P : List ℕ → Type 0) (t : List ℕ) (n m : ℕ) → IsLongestBeginning P t n → IsLongestBeginning P t m
-    → n ≡ m
-same_longest P t n m a b = elim (cases_order n m) as (λ x. n ≡ m) [
-  | inl e ↦ e
-  | inr (inl l) ↦ absurd (a.longest m l b.within b.holds)
-  | inr (inr l) ↦ absurd (b.longest n l a.within a.holds)
-]
 
 -- no piece more can be read of what is left
 abbrev IsLongest : List (List ℕ) → List ℕ → Type 0
@@ -43,25 +35,18 @@ few_digits bytes pieces (a ∷ []) rest h l r = omega arith
 few_digits bytes pieces (a ∷ b ∷ ds) rest h l r =
     let p = and_parts (is_lower_hexadecimal a) (is_lower_hexadecimal b && list_all is_lower_hexadecimal ds) r in
     let q = and_parts (is_lower_hexadecimal b) (list_all is_lower_hexadecimal ds) p.1 in
+    let two = and_from (is_lower_hexadecimal a) (is_lower_hexadecimal b) p.0 q.0 in
     let piece : List ℕ = percent_sign ∷ a ∷ b ∷ [] in
     let n : ℕ = length (concat pieces ++ piece) in
-    let len = length-append (concat pieces) piece in
-    let all = length-append (concat pieces) (percent_sign ∷ (a ∷ b ∷ ds ++ rest)) in
     let front : take n (concat pieces ++ (percent_sign ∷ (a ∷ b ∷ ds ++ rest))) ≡ concat (pieces ++ piece ∷ []) =
     ap (take n) (sym (append_assoc (concat pieces) piece (ds ++ rest)))
     ∙ take_at (concat pieces ++ piece) (ds ++ rest) n refl ∙ sym (concat_more pieces piece) in
-    absurd (l.longest n (omega (arith, len)) (omega (arith, len, all)) (
+    absurd (l.longest n (omega (arith, length-append {A = ℕ})) (omega (arith, length-append {A = ℕ})) (
       bytes ++ (16 * hexadecimal_value a + hexadecimal_value b) ∷ [],
       record {
         pieces = pieces ++ piece ∷ [];
         text = front;
-        each = zip_more IsDisplayPiece bytes pieces (16 * hexadecimal_value a + hexadecimal_value b) piece h (inr (
-          a,
-          b,
-          and_from (is_lower_hexadecimal a) (is_lower_hexadecimal b) p.0 q.0,
-          refl,
-          refl,
-        ));
+        each = zip_more IsDisplayPiece bytes pieces _ piece h (inr (a, b, two, refl, refl));
       },
     ))
 
@@ -69,73 +54,31 @@ few_digits bytes pieces (a ∷ b ∷ ds) rest h l r =
 pub faults_ruled : (bytes : List ℕ) (pieces : List (List ℕ)) (left there : List ℕ) (k : ErrorKind)
     → AllZip IsDisplayPiece bytes pieces
     → IsLongest pieces left → DisplayFault bytes pieces left there k → IsDisplayFault (concat pieces ++ left) k there
-faults_ruled bytes pieces left there _ h longest (open_display none end) = record {
-  bytes = bytes;
-  pieces = pieces;
-  left = left;
-  text = refl;
-  content = h;
-  ends = (none, end);
-}
-faults_ruled bytes pieces left there _ h longest (open_escape digits run text end) = record {
-  bytes = bytes;
-  pieces = pieces;
-  left = left;
-  text = refl;
-  content = h;
-  ends = (
-    digits,
-    text,
-    end,
-    run,
-    few_digits bytes pieces digits [] h (subst (IsLongest pieces)
-        (text ∙ ap (λ (l : List ℕ). percent_sign ∷ l) (sym (append-nil digits))) longest) run,
-  );
-}
+faults_ruled bytes pieces left there _ h longest (open_display none end) = traced _ bytes pieces left refl h (none, end)
+faults_ruled bytes pieces left there _ h longest (open_escape digits run text end) =
+    traced _ bytes pieces left refl h (
+      digits,
+      text,
+      end,
+      run,
+      few_digits bytes pieces digits [] h (subst (IsLongest pieces)
+          (text ∙ ap (λ (l : List ℕ). percent_sign ∷ l) (sym (append-nil digits))) longest) run,
+    )
 faults_ruled bytes pieces left there _ h longest (wrong_escape digits run text wrong) =
     let n = next_of (λ c. not (is_lower_hexadecimal c)) there wrong in
     let all = text ∙ ap (λ (l : List ℕ). percent_sign ∷ (digits ++ l)) n.text in
-    record {
-      bytes = bytes;
-      pieces = pieces;
-      left = left;
-      text = refl;
-      content = h;
-      ends = (
-        digits,
-        n.c,
-        n.rest,
-        all,
-        n.text,
-        run,
-        few_digits bytes pieces digits (n.c ∷ n.rest) h (subst (IsLongest pieces) all longest) run,
-        not-true (is_lower_hexadecimal n.c) n.is,
-      );
-    }
+    let few = few_digits bytes pieces digits (n.c ∷ n.rest) h (subst (IsLongest pieces) all longest) run in
+    traced _ bytes pieces left refl h
+    (digits, n.c, n.rest, all, n.text, run, few, not-true (is_lower_hexadecimal n.c) n.is)
 faults_ruled bytes pieces left there _ h longest (wrong_byte text wrong) =
     let n = next_of (λ c. not (is_string_byte c)) there wrong in
-    record {
-      bytes = bytes;
-      pieces = pieces;
-      left = left;
-      text = refl;
-      content = h;
-      ends = (n.c, n.rest, text ∙ n.text, n.text, not-true (is_string_byte n.c) n.is);
-    }
+    traced _ bytes pieces left refl h (n.c, n.rest, text ∙ n.text, n.text, not-true (is_string_byte n.c) n.is)
 faults_ruled bytes pieces left there _ h longest (wrong_utf8 more valid not_text most text place) =
-    let same : valid ≡ utf8_valid_len bytes =
-    same_longest IsUtf8 bytes valid (utf8_valid_len bytes) most (longest_text bytes) in
-    record {
-      bytes = bytes;
-      pieces = pieces;
-      left = left;
-      text = refl;
-      content = h;
-      ends = (
-        more,
-        text,
-        not_text,
-        place ∙ ap (λ (n : ℕ). concat (drop n pieces) ++ left) same
-            ∙ sym (after_drop (utf8_valid_len bytes) bytes pieces left h (utf8_valid_len_le bytes)),
-      );
-    }
+    let same = one_longest most (longest_text bytes) in
+    traced _ bytes pieces left refl h (
+      more,
+      text,
+      not_text,
+      rw same at place
+          ∙ sym (after_drop (utf8_valid_len bytes) bytes pieces left h (utf8_valid_len_le bytes)),
+    )

@@ -1,11 +1,10 @@
 -- Where the faults between the members of a field stand.
-use Rattle.std.proofs.Common.{◌≡◌, ℕ, List, [], ◌∷◌, ◌++◌, Option, Some, None, Ok, refl}
-use Rattle.std.proofs.Common.{sym, ap, subst, ◌∙◌, append_assoc, arith}
+use Rattle.std.proofs.Common.{◌≡◌, ℕ, List, [], ◌∷◌, ◌++◌, Option, Some, None, Ok, refl, sym, ap, subst, ◌∙◌}
+use Rattle.std.proofs.Common.{append_assoc}
 use Rattle.std.proofs.lemmas.List.{append-nil}
 use Rattle.std.proofs.lemmas.Bool.{eqb-true}
-use Rattle.sfv_spec.proofs.Marks.{comma}
+use Rattle.sfv_spec.proofs.Marks.{comma, is_space, is_space_or_tab}
 use Rattle.sfv_spec.specs.Texts.{RunOf, IsJoining}
-use Rattle.sfv_spec.proofs.Marks.{is_space, is_space_or_tab}
 use Rattle.sfv_spec.specs.Values.{RawField, HasMember}
 use Rattle.sfv_spec.specs.declared.field_kind.FieldKind.{FieldKind}
 use Rattle.sfv_spec.specs.declared.field_kind.FieldKind.TheVariants.{Item as item_field, List as list_field}
@@ -16,51 +15,45 @@ use Rattle.sfv_spec.specs.Grammar.{AreMembersText}
 use Rattle.sfv_spec.specs.Events.{TreeEvent, entry_events, keyed_events}
 use Rattle.sfv_model.specs.Commas.{HasManyMembers}
 use Rattle.sfv_spec.specs.declared.error_kind.ErrorKind.TheVariants.{TrailingComma, TrailingCharactersAfterMember}
-use Rattle.sfv_model.specs.Reader.{Fault, Reader, by_rule, byte, any, ahead, back, many, span, ◌>>=◌, give}
+use Rattle.sfv_model.specs.Reader.{Fault, Reader, by_rule, byte, any, ahead, back, many, ◌>>=◌, give}
 use Rattle.sfv_model.specs.Fields.{comma_at, next_at, members_at, whole_field_at}
 use Rattle.sfv_model.specs.Members.{entry_at, keyed_at}
-use Rattle.sfv_model.proofs.sound.Combinators.{Sound-back, Sound-steady, Steady-span, IsSpan, Reads, Somewhere, Goes}
+use Rattle.sfv_model.proofs.sound.Combinators.{Sound-back, Steady-span, Reads, Somewhere, Goes}
 use Rattle.sfv_model.proofs.complete.Combinators.{branch_take, bind_complete}
-use Rattle.sfv_model.proofs.texts.Joining.{joining_push, joined_split}
+use Rattle.sfv_model.proofs.texts.Joining.{joined_split}
 use Rattle.sfv_model.proofs.sound.Steps.{Sound-steps}
 use Rattle.sfv_model.proofs.sound.Members.{Sound-entry, Sound-keyed}
-use Rattle.sfv_model.proofs.sound.Separated.{IsComma, Sound-comma, IsNext, Sound-next, Consumes-next, dictionary_members_text}
-use Rattle.sfv_model.proofs.sound.Separated.{next_member}
+use Rattle.sfv_model.proofs.sound.Separated.{IsComma, Sound-comma, IsNext, Sound-next, Consumes-next}
+use Rattle.sfv_model.proofs.sound.Separated.{dictionary_members_text}
 use Rattle.sfv_model.proofs.TrailingBytes.{Shuns-item, Shuns-bind, Shuns-span, Shuns-give}
-use Rattle.sfv_model.proofs.faults.Combinators.{Rules, Rules-give, Rules-steady, Rules-led, Rules-bind}
-use Rattle.sfv_model.proofs.faults.Combinators.{Rules-branch, Rules-back, Rules-ahead, Rules-any, Rules-weaker}
-use Rattle.sfv_model.proofs.faults.Combinators.{fail_at, no_fault, ahead_at}
+use Rattle.sfv_model.proofs.faults.Combinators.{Rules, Rules-give, Rules-span, Rules-led, Rules-bind, Rules-branch}
+use Rattle.sfv_model.proofs.faults.Combinators.{Rules-back, Rules-ahead, Rules-any, Rules-weaker, fail_at, no_fault}
+use Rattle.sfv_model.proofs.faults.Combinators.{ahead_at}
 use Rattle.sfv_model.proofs.faults.Many.{Rules-many}
-use Rattle.sfv_model.proofs.faults.BetweenInnerItems.{Stands, HasNone, stands_within, Rules-other, entry_rules, keyed_rules}
+use Rattle.sfv_model.proofs.faults.InnerListCutOff.{put, spaces, members}
+use Rattle.sfv_model.proofs.faults.ItemEnds.{parted}
+use Rattle.sfv_model.proofs.faults.BetweenInnerItems.{Stands, HasNone, stands_within, Rules-other, entry_rules}
+use Rattle.sfv_model.proofs.faults.BetweenInnerItems.{keyed_rules}
 
 -- no member after the comma: the text ends
 comma_none : (r q : List ℕ) → comma_at (comma ∷ r) ≡ Ok (None, q) → RunOf is_space_or_tab r
 unfolding comma_at give ahead
 comma_none r q i =
     let m = (Steady-span is_space_or_tab).steady r in
-    let whole : comma_at (comma ∷ r) ≡ ahead any (give (Some tt)) (give None) m.2 = branch_take _ _ _ comma r refl
-    ∙ bind_complete _ _ _ _ _ m.3 in
-    let on : (p : List ℕ) → r ≡ m.0 ++ p → ahead any (give (Some tt)) (give None) p ≡ Ok (None, q)
-    → RunOf is_space_or_tab r = λ p. elim p as (λ (p : List ℕ). r ≡ m.0 ++ p
-    → ahead any (give (Some tt)) (give None) p ≡ Ok (None, q) → RunOf is_space_or_tab r) [
-      | [] ↦ λ e j. subst (RunOf is_space_or_tab) (sym (e ∙ append-nil m.0 ∙ m.5.0)) m.5.1
-      | c ∷ p ↦ λ e j.
-          let k : give {A = Option (Unit {0})} (Some tt) (c ∷ p) ≡ Ok (None, q) = j in
-          let found : Option (Unit {0}) × List ℕ = (Some tt, c ∷ p) in
-          let none : Option (Unit {0}) × List ℕ = (None, q) in
-          let pairs : found ≡ none = cc in
-          let some : Option (Unit {0}) = Some tt in
-          let same : some ≡ None = ap (λ (x : Option (Unit {0}) × List ℕ). x.0) pairs in absurd cc
-    ] in on m.2 m.4 (sym whole ∙ i)
+    on m.0 m.2 m.4 (rw m.5.0 m.5.1) (sym (branch_take _ _ _ comma r refl ∙ bind_complete _ _ _ _ _ m.3) ∙ i)
+  where
+    on : (s p : List ℕ) → r ≡ s ++ p → RunOf is_space_or_tab s
+        → ahead any (give {A = Option (Unit {0})} (Some tt)) (give None) p ≡ Ok (None, q) → RunOf is_space_or_tab r
+    on s [] e each j = subst (RunOf is_space_or_tab) (sym (e ∙ append-nil s)) each
+    on s (c ∷ p) e each j =
+        let pairs : ◌≡◌ {A = Option (Unit {0}) × List ℕ} (Some tt, c ∷ p) (None, q) = cc in
+        let same = ap (λ (x : Option (Unit {0}) × List ℕ). x.0) pairs in absurd cc
 
 -- it never faults
 comma_rules : (V : List ℕ → Fault → Type 0) → Rules comma_at V
 unfolding comma_at
-comma_rules V = Rules-branch _ _ _ _ (λ c e. Rules-bind (IsSpan is_space_or_tab) (λ _ _. Unit {0}) (λ _. Unit {0})
-    (span is_space_or_tab) _ _ (Sound-steady _ _ _ _ (Steady-span is_space_or_tab))
-    (Rules-steady _ _ _ (Steady-span is_space_or_tab))
-    (λ z v i. Rules-any _ _ _ (Rules-give _ _) (λ e j. absurd (no_fault _ [] e j))))
-    (Rules-give _ _)
+comma_rules V = Rules-branch _ _ _ _ (λ c e. Rules-span is_space_or_tab _ _
+    (λ z _. Rules-any _ _ _ (Rules-give _ _) (λ e j. absurd (no_fault _ [] e j)))) (Rules-give _ _)
 
 -- there are members
 abbrev HasSome : {A : Type 0} → List A → Type 0
@@ -88,15 +81,9 @@ module _ {A : Type 0} (P : A → List ℕ → Type 0) (parts : A
     more z c x blank w is e o =
         subst (λ (l : List ℕ). Stands (AreMembersText P) HasSome e.kind l e.rest) (simp append_assoc)
         (stands_within P (AreMembersText P) HasNone HasSome (s ++ (t ++ (u ++ (z ++ c))))
-        (λ v y n. (
-          m ∷ (vs ++ v ∷ []),
-          subst (AreMembersText P (m ∷ (vs ++ v ∷ []))) (simp (append_assoc, append-nil))
-              (dictionary_members_text P parts one s t ((u ++ (z ++ (c ++ y))) ++ []) m (vs ++ v ∷ []) each k
-              (joined_split (IsNext P parts one) OptionalWhitespace (vs ++ v ∷ []) (u ++ (z ++ (c ++ y))) []
-              (joining_push (IsNext P parts one) vs v u (z ++ (c ++ y)) j
-              (next_member P parts one z c y w v blank is n)) refl)),
-          λ n. absurd n,
-        )) e.kind x e.rest o)
+        (λ v y n.
+        let p = put P parts one _ y v (members m vs s t u (z ++ c) each k j (parted z c _ refl blank is)) n in
+        (p.0 ∷ p.1, p.2, λ n. absurd n)) e.kind x e.rest o)
 
     met : (z r : List ℕ) → RunOf is_space_or_tab z → RunOf is_space_or_tab r
         → Here z (comma ∷ r) (by_rule TrailingComma (comma ∷ r))
@@ -125,11 +112,7 @@ module _ {A : Type 0} (P : A → List ℕ → Type 0) (parts : A
     pub next_rules : Rules (next_at one) (λ x e. Placed (s ++ (t ++ (u ++ x))) e)
     unfolding next_at
     next_rules =
-        Rules-bind (IsSpan is_space_or_tab) (λ _ _. Unit {0}) (λ _. Unit {0}) (span is_space_or_tab) _ _
-        (Sound-steady _ _ _ _ (Steady-span is_space_or_tab)) (Rules-steady _ _ _ (Steady-span is_space_or_tab))
-        (λ z v i.
-        let blank : RunOf is_space_or_tab z = subst (RunOf is_space_or_tab) (sym i.0) i.1 in
-        Rules-ahead any _ _ _
+        Rules-span is_space_or_tab _ _ (λ z blank. Rules-ahead any _ _ _
         (λ c r e _ i. ahead_at (byte comma) _ _ (Here z) c r e
         (λ is met. (at_comma z blank).rules (c ∷ r) e met r (ap (λ (b : ℕ). b ∷ r) (eqb-true c comma is)))
         (λ _ q. fail_at (Option A) TrailingCharactersAfterMember (Here z) (c ∷ r) e q (record {
@@ -138,24 +121,16 @@ module _ {A : Type 0} (P : A → List ℕ → Type 0) (parts : A
           text = simp append_assoc;
           means = whole z blank;
           has = (m, vs, refl);
-          some = omega arith;
         })) i)
         (λ c r e y q. absurd cc)
         (λ e q. absurd (no_fault _ [] e q)))
 
   pub members_rules : Rules (members_at parts one) Placed
   unfolding members_at
-  members_rules = Rules-bind (IsSpan is_space) (λ _ _. Unit {0}) (λ _. Unit {0}) (span is_space) _ _
-      (Sound-steady _ _ _ _ (Steady-span is_space)) (Rules-steady _ _ _ (Steady-span is_space)) (λ s v i.
-      let each : RunOf is_space s = subst (RunOf is_space) (sym i.0) i.1 in
-      Rules-any _ _ _
+  members_rules = Rules-span is_space _ _ (λ s each. Rules-any _ _ _
       (Rules-bind P (Goes P parts) (Somewhere (Goes P parts)) one _ _ h
-      (Rules-weaker one _ _ stands (λ x e o. stands_within P (AreMembersText P) HasNone HasSome s (λ v t k. (
-        v ∷ [],
-        subst (λ (l : List ℕ). AreMembersText P (v ∷ []) (s ++ l)) (append-nil t)
-            (dictionary_members_text P parts one s t [] v [] each k refl),
-        λ n. absurd n,
-      )) e.kind x e.rest o))
+      (Rules-weaker one _ _ stands (λ x e o. stands_within P (AreMembersText P) HasNone HasSome s (λ v t k.
+      let p = put P parts one s t v (spaces s each) k in (p.0 ∷ p.1, p.2, λ n. absurd n)) e.kind x e.rest o))
       (λ t m k. Rules-led (parts m) _ _
       (Rules-bind _ _ _ (many parts (next_at one)) _ _
       (Sound-steps (IsNext P parts one) OptionalWhitespace parts [] refl (next_at one) (Sound-next P parts one h))

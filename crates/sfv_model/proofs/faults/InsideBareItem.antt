@@ -1,32 +1,26 @@
 -- What can stand in a bare item in place of a question mark or an asterisk.
-use Rattle.std.proofs.Common.{◌≡◌, ℕ, zero, suc, ◌<◌, Bool, true, false, ◌||◌, ℤ, List, [], ◌∷◌, ◌++◌}
-use Rattle.std.proofs.Common.{length, map, replicate, refl, sym, ap, subst, ◌∙◌, append_assoc, arith, inl, inr}
-use Rattle.std.specs.Prelude.{not, ◌==◌, ◌⊎◌, IsTrue, IsUtf8, if◌then◌else◌, codes}
+use Rattle.std.proofs.Common.{◌≡◌, ℕ, zero, suc, ◌<◌, Bool, true, false, ◌||◌, ℤ, List, [], ◌∷◌, ◌++◌, length, map}
+use Rattle.std.proofs.Common.{replicate, refl, sym, ap, subst, ◌∙◌, append_assoc, arith, inl, inr}
+use Rattle.std.specs.Prelude.{not, ◌==◌, ◌⊎◌, IsTrue, IsUtf8, codes}
 use Rattle.std.specs.List.{list_all}
 use Rattle.std.proofs.Math.Seq.{get_or-append_seam}
 use Rattle.std.proofs.lemmas.Bool.{and_parts, and_from, true≢false, both_ways, or_left, and_right, leb-true}
 use Rattle.std.proofs.lemmas.List.{append-nil, length-append, take_at}
 use Rattle.std.proofs.lemmas.List.Folds.{list_all-append}
 use Rattle.std.proofs.lemmas.Str.{IsUtf8-take, IsUtf8-append, IsCharBoundary-before_ascii}
-use Rattle.sfv_spec.proofs.Marks.{double_quote, percent_sign, asterisk, colon}
-use Rattle.sfv_spec.proofs.Marks.{minus_sign, dot, question_mark, at_sign}
-use Rattle.sfv_spec.proofs.Marks.{backslash, equals_sign}
+use Rattle.sfv_spec.proofs.Marks.{double_quote, percent_sign, asterisk, colon, minus_sign, dot, question_mark, at_sign}
+use Rattle.sfv_spec.proofs.Marks.{backslash, equals_sign, is_digit, minus_text, is_symbol, is_plain_in_string}
 use Rattle.sfv_spec.specs.Texts.{RunOf, IsJoining}
-use Rattle.sfv_spec.specs.Classes.{is_token_start, is_token_inner, is_token, is_string_byte}
-use Rattle.sfv_spec.proofs.Marks.{is_digit}
-use Rattle.sfv_spec.specs.Classes.{is_lower_hexadecimal}
+use Rattle.sfv_spec.specs.Classes.{is_token_start, is_token_inner, is_token, is_string_byte, is_lower_hexadecimal}
 use Rattle.sfv_spec.specs.Values.{BareValue, integer, decimal, string, token, byte_sequence, boolean, date}
-use Rattle.sfv_spec.specs.declared.version.Version.{Version}
 use Rattle.sfv_spec.specs.Values.{display_string}
+use Rattle.sfv_spec.specs.declared.version.Version.{Version}
 use Rattle.sfv_spec.specs.Numbers.{signed, place_value, IsIntegerText, IsDecimalText}
-use Rattle.sfv_spec.proofs.Marks.{minus_text}
 use Rattle.sfv_spec.specs.Base64.{symbol}
-use Rattle.sfv_spec.proofs.Marks.{is_symbol}
-use Rattle.sfv_spec.specs.Strings.{is_escaped_in_string, IsStringPiece, is_plain_in_display}
-use Rattle.sfv_spec.proofs.Marks.{is_plain_in_string}
-use Rattle.sfv_spec.specs.Strings.{IsDisplayPiece}
-use Rattle.sfv_spec.specs.Grammar.{IsBareText, boolean_text}
+use Rattle.sfv_spec.specs.Strings.{IsStringPiece, is_plain_in_display, IsDisplayPiece}
+use Rattle.sfv_spec.specs.Grammar.{IsBareText}
 use Rattle.sfv_spec.proofs.Settled.{joining-nil, joining-cons}
+use Rattle.sfv_model.proofs.faults.ItemEnds.{parted}
 use Rattle.sfv_model.specs.Content.{IsBytesEnd}
 use Rattle.sfv_model.specs.Quoted.{IsStringEnd, IsDisplayEnd}
 use Rattle.sfv_model.specs.BareFaults.{MarkInside, AsteriskInside}
@@ -37,9 +31,6 @@ use Rattle.sfv_model.proofs.texts.Joining.{joining_none, joining_into, joining_a
 use Rattle.sfv_model.proofs.texts.Ranges.{run_weaker}
 
 -- ---- a byte in a run
-
-run_both : (class : ℕ → Bool) (s t : List ℕ) → RunOf class s → RunOf class t → RunOf class (s ++ t)
-run_both class s t h k = list_all-append class s t ∙ and_from (list_all class s) (list_all class t) h k
 
 run_parts : (class : ℕ → Bool) (s t : List ℕ) → RunOf class (s ++ t) → RunOf class s × RunOf class t
 run_parts class s t h = and_parts (list_all class s) (list_all class t) (sym (list_all-append class s t) ∙ h)
@@ -70,16 +61,16 @@ minus_run true = refl
 minus_run false = refl
 
 integer_run : (z : ℤ) (t : List ℕ) → IsIntegerText z t → RunOf is_number_byte t
-integer_run z t h = subst (RunOf is_number_byte) (sym h.text)
-    (run_both is_number_byte (minus_text h.negative) h.digits (minus_run h.negative) (number_run h.digits h.counted.2))
+integer_run z t h = simp (h.text, list_all-append, minus_run h.negative, number_run h.digits h.counted.2)
 
 decimal_run : (z : ℤ) (t : List ℕ) → IsDecimalText z t → RunOf is_number_byte t
-decimal_run z t h = subst (RunOf is_number_byte) (sym h.text)
-    (run_both is_number_byte (minus_text h.negative ++ h.whole ++ codes ".") h.fraction
-    (run_both is_number_byte (minus_text h.negative ++ h.whole) (codes ".")
-    (run_both is_number_byte (minus_text h.negative) h.whole (minus_run h.negative)
-    (number_run h.whole h.counted.0.2)) refl)
-    (number_run h.fraction h.counted.1.2))
+decimal_run z t h = simp (
+  h.text,
+  list_all-append,
+  minus_run h.negative,
+  number_run h.whole h.counted.0.2,
+  number_run h.fraction h.counted.1.2,
+)
 
 abbrev is_bytes_byte : ℕ → Bool
 is_bytes_byte c = is_symbol c || (c == equals_sign || c == colon)
@@ -88,13 +79,11 @@ bytes_run : (bytes t : List ℕ) → IsBytesEnd bytes t → RunOf is_bytes_byte 
 unfolding is_symbol
 bytes_run bytes t h =
     let b = h.first in
-    let content : RunOf is_bytes_byte h.front = subst (RunOf is_bytes_byte) (sym b.text)
-    (run_both is_bytes_byte (map symbol b.values) (replicate b.padding equals_sign)
-    (run_weaker is_symbol is_bytes_byte (λ c e. or_left (is_symbol c) (c == equals_sign || c == colon) e)
-    (map symbol b.values) (are_symbols b.values b.in_range.0))
-    (run_replicate is_bytes_byte b.padding equals_sign refl)) in
-    subst (RunOf is_bytes_byte) (sym h.text)
-    (run_both is_bytes_byte h.front h.back content (subst (RunOf is_bytes_byte) (sym h.second) refl))
+    let symbols : RunOf is_bytes_byte (map symbol b.values) =
+    run_weaker is_symbol is_bytes_byte (λ c e. or_left (is_symbol c) (c == equals_sign || c == colon) e)
+    (map symbol b.values) (are_symbols b.values b.in_range.0) in
+    let padding = run_replicate is_bytes_byte b.padding equals_sign refl in
+    simp (h.text, b.text, h.second, list_all-append, symbols, padding)
 
 -- ---- a byte among pieces: it is one itself
 
@@ -108,7 +97,7 @@ record Parted (P : ℕ → List ℕ → Type 0) (m : ℕ) (bytes x : List ℕ) :
 abbrev IsAfter : ℕ → ℕ → List ℕ → List ℕ → List ℕ → List ℕ → Type 0
 IsAfter m c p x q r = ((x ≡ []) × (c ≡ m)) ⊎ ((y : List ℕ) × (x ≡ p ++ y) × (r ≡ y ++ m ∷ q))
 
-module _ (P : ℕ → List ℕ → Type 0) (m : ℕ) (no_quote : m ≡ double_quote → ⊥) (after : (c : ℕ) (p x q r : List ℕ)
+module _ (P : ℕ → List ℕ → Type 0) (m : ℕ) (no_quote : m ≡ double_quote → ⊥) (goes : (c : ℕ) (p x q r : List ℕ)
     → P c p → p ++ r ≡ x ++ m ∷ q → IsAfter m c p x q r) where
   part : (bytes t x q : List ℕ) → IsJoining P bytes t → t ++ double_quote ∷ [] ≡ x ++ m ∷ q → Parted P m bytes x
   part [] t x q j e = absurd (alone x (ap (λ (l : List ℕ). l ++ double_quote ∷ []) (sym (joining-nil j)) ∙ e))
@@ -121,7 +110,7 @@ module _ (P : ℕ → List ℕ → Type 0) (m : ℕ) (no_quote : m ≡ double_qu
       let split : k.front ++ (k.back ++ double_quote ∷ []) ≡ x ++ m ∷ q =
       sym (append_assoc k.front k.back (double_quote ∷ []))
       ∙ ap (λ (l : List ℕ). l ++ double_quote ∷ []) (sym k.text) ∙ e in
-      elim (after c k.front x q (k.back ++ double_quote ∷ []) k.first split) as (λ z. Parted P m (c ∷ bytes) x) [
+      elim (goes c k.front x q (k.back ++ double_quote ∷ []) k.first split) as (λ z. Parted P m (c ∷ bytes) x) [
         | inl w ↦ record {
           front = [];
           past = bytes;
@@ -141,33 +130,18 @@ module _ (P : ℕ → List ℕ → Type 0) (m : ℕ) (no_quote : m ≡ double_qu
 after_one : (m c : ℕ) (p x q r : List ℕ) → p ≡ c ∷ [] → p ++ r ≡ x ++ m ∷ q → IsAfter m c p x q r
 after_one m c p [] q r s e = let all : c ∷ r ≡ m ∷ q = ap (λ (p : List ℕ). p ++ r) (sym s) ∙ e in inl (refl, cc)
 after_one m c p (a ∷ y) q r s e =
-    let all : c ∷ r ≡ a ∷ (y ++ m ∷ q) = ap (λ (p : List ℕ). p ++ r) (sym s) ∙ e in
-    let same : c ≡ a = cc in
-    let rest : r ≡ y ++ m ∷ q = cc in
-    inr (y, ap (λ (c : ℕ). c ∷ y) (sym same) ∙ ap (λ (p : List ℕ). p ++ y) (sym s), rest)
+    let all : c ∷ r ≡ a ∷ (y ++ m ∷ q) = ap (λ (p : List ℕ). p ++ r) (sym s) ∙ e in inr (y, rw s cc, cc)
 
 after_string : (m : ℕ) → is_plain_in_string m ≡ true → (c : ℕ) (p x q r : List ℕ) → IsStringPiece c p
     → p ++ r ≡ x ++ m ∷ q → IsAfter m c p x q r
 after_string m plain c p x q r (inl h) e = after_one m c p x q r h.1 e
 after_string m plain c p x q r (inr h) e = two x (ap (λ (p : List ℕ). p ++ r) (sym h.1) ∙ e)
   where
-    escaped : (c : ℕ) → is_escaped_in_string c ≡ true → is_plain_in_string c ≡ false
-    escaped c h = and_right (is_string_byte c) _ (ap not h)
-
     two : (x : List ℕ) → backslash ∷ c ∷ r ≡ x ++ m ∷ q → IsAfter m c p x q r
     two [] e = let same : backslash ≡ m = cc in absurd (differ is_plain_in_string m backslash plain refl (sym same))
     two (a ∷ []) e = let same : c ≡ m = cc in
-        absurd (both_ways (is_plain_in_string m) (ap is_plain_in_string (sym same) ∙ escaped c h.0) plain)
-    two (a ∷ b ∷ y) e =
-        let first : backslash ≡ a = cc in
-        let second : c ≡ b = cc in
-        let rest : r ≡ y ++ m ∷ q = cc in
-        inr (
-          y,
-          ap (λ (a : ℕ). a ∷ b ∷ y) (sym first) ∙ ap (λ (b : ℕ). backslash ∷ b ∷ y) (sym second)
-              ∙ ap (λ (p : List ℕ). p ++ y) (sym h.1),
-          rest,
-        )
+        absurd (both_ways (is_plain_in_string m) (rw (← same) (and_right (is_string_byte c) _ (ap not h.0))) plain)
+    two (a ∷ b ∷ y) e = inr (y, rw h.1 cc, cc)
 
 after_display : (m : ℕ) → is_plain_in_display m ≡ true → is_lower_hexadecimal m ≡ false → (c : ℕ) (p x q r : List ℕ)
     → IsDisplayPiece c p → p ++ r ≡ x ++ m ∷ q → IsAfter m c p x q r
@@ -181,30 +155,9 @@ after_display m plain no_digit c p x q r (inr h) e = three x (ap (λ (p : List �
         absurd (differ is_lower_hexadecimal h.0 m (and_parts (is_lower_hexadecimal h.0) _ h.2).0 no_digit same)
     three (a ∷ b ∷ []) e = let same : h.1 ≡ m = cc in
         absurd (differ is_lower_hexadecimal h.1 m (and_parts (is_lower_hexadecimal h.0) _ h.2).1 no_digit same)
-    three (a ∷ b ∷ d ∷ y) e =
-        let first : percent_sign ≡ a = cc in
-        let second : h.0 ≡ b = cc in
-        let third : h.1 ≡ d = cc in
-        let rest : r ≡ y ++ m ∷ q = cc in
-        inr (
-          y,
-          ap (λ (a : ℕ). a ∷ b ∷ d ∷ y) (sym first) ∙ ap (λ (b : ℕ). percent_sign ∷ b ∷ d ∷ y) (sym second)
-              ∙ ap (λ (d : ℕ). percent_sign ∷ h.0 ∷ d ∷ y) (sym third) ∙ ap (λ (p : List ℕ). p ++ y) (sym h.4),
-          rest,
-        )
+    three (a ∷ b ∷ d ∷ y) e = inr (y, rw h.4 cc, cc)
 
 -- ---- in any bare item
-
--- where m stands, but not first, the bytes of run can stand
-record Stands (m : ℕ) (run : List ℕ) : Type 0 where
-  in_string : is_plain_in_string m ≡ true
-  in_display : is_plain_in_display m ≡ true
-  no_hexadecimal : is_lower_hexadecimal m ≡ false
-  no_number : is_number_byte m ≡ false
-  no_bytes : is_bytes_byte m ≡ false
-  run_string : RunOf is_plain_in_string run
-  run_display : RunOf is_plain_in_display run
-  run_token : is_token_inner m ≡ true → RunOf is_token_inner run
 
 -- what is in front of an ASCII byte is UTF-8
 utf8_front : (s z : List ℕ) (m : ℕ) → m < 128 → IsUtf8 (s ++ m ∷ z) → IsUtf8 s
@@ -215,53 +168,46 @@ utf8_front s z m l u =
     (IsUtf8-take bs (length s) u (IsCharBoundary-before_ascii bs (length s) (omega (arith, length-append s (m ∷ z)))
     (omega (arith, here, l))))
 
-module _ (version : Version) (m : ℕ) (run : List ℕ) (can : Stands m run) where
+-- where m stands, but not first, the bytes of run can stand
+module _ (version : Version) (m : ℕ) (run : List ℕ) (in_string : is_plain_in_string m ≡ true)
+    (in_display : is_plain_in_display m ≡ true) (no_hexadecimal : is_lower_hexadecimal m ≡ false)
+    (no_number : is_number_byte m ≡ false) (no_bytes : is_bytes_byte m ≡ false)
+    (run_string : RunOf is_plain_in_string run) (run_display : RunOf is_plain_in_display run)
+    (run_token : is_token_inner m ≡ true → RunOf is_token_inner run) where
   -- some bare item begins so
   abbrev Begins : List ℕ → Type 0
   Begins t = (w : BareValue) × (more : List ℕ) × IsBareText version w (t ++ more)
 
   no_quote : m ≡ double_quote → ⊥
-  no_quote e = differ is_plain_in_string m double_quote can.in_string refl e
+  no_quote e = differ is_plain_in_string m double_quote in_string refl e
 
   in_number : (x c : List ℕ) → RunOf is_number_byte (x ++ m ∷ c) → ⊥
-  in_number x c h = both_ways (is_number_byte m) can.no_number (run_holds is_number_byte x m c h)
+  in_number x c h = both_ways (is_number_byte m) no_number (run_holds is_number_byte x m c h)
 
   in_string_end : (s x c : List ℕ) → IsStringEnd s (x ++ m ∷ c)
       → (w : List ℕ) × IsStringEnd w (x ++ run ++ double_quote ∷ [])
   in_string_end s x c h =
-      let p = part IsStringPiece m no_quote (after_string m can.in_string) s h.front x c h.first
+      let p = part IsStringPiece m no_quote (after_string m in_string) s h.front x c h.first
       (ap (λ (l : List ℕ). h.front ++ l) (sym h.second) ∙ sym h.text) in (
         p.front ++ run,
-        record {
-          front = x ++ run;
-          back = double_quote ∷ [];
-          text = refl;
-          first = joining_append IsStringPiece p.front run x run p.text
-              (joining_run IsStringPiece is_plain_in_string (λ c e. inl (e, refl)) run can.run_string);
-          second = refl;
-        },
+        parted (x ++ run) (codes "\"") _ refl (joining_append IsStringPiece p.front run x run p.text
+            (joining_run IsStringPiece is_plain_in_string (λ c e. inl (e, refl)) run run_string)) refl,
       )
 
   in_display_end : (s x c : List ℕ) → IsDisplayEnd s (x ++ m ∷ c)
       → (w : List ℕ) × IsDisplayEnd w (x ++ run ++ double_quote ∷ [])
   in_display_end s x c h =
-      let p = part IsDisplayPiece m no_quote (after_display m can.in_display can.no_hexadecimal) s h.front x c h.first.0
+      let p = part IsDisplayPiece m no_quote (after_display m in_display no_hexadecimal) s h.front x c h.first.0
       (ap (λ (l : List ℕ). h.front ++ l) (sym h.second) ∙ sym h.text) in
-      let byte = and_parts (is_string_byte m) _ can.in_display in
+      let byte = and_parts (is_string_byte m) _ in_display in
       let ascii : m < 128 = omega (arith, leb-true m 0x7e (and_parts _ _ byte.0).1) in
       let text : IsUtf8 p.front = utf8_front p.front p.past m ascii (subst IsUtf8 p.all h.first.1) in (
         p.front ++ run,
-        record {
-          front = x ++ run;
-          back = double_quote ∷ [];
-          text = refl;
-          first = (
-            joining_append IsDisplayPiece p.front run x run p.text
-                (joining_run IsDisplayPiece is_plain_in_display (λ c e. inl (e, refl)) run can.run_display),
-            IsUtf8-append p.front run text (plain_utf8 run can.run_display),
-          );
-          second = refl;
-        },
+        parted (x ++ run) (codes "\"") _ refl (
+          joining_append IsDisplayPiece p.front run x run p.text
+              (joining_run IsDisplayPiece is_plain_in_display (λ c e. inl (e, refl)) run run_display),
+          IsUtf8-append p.front run text (plain_utf8 run run_display),
+        ) refl,
       )
 
   inside : (v : BareValue) (b : ℕ) (x c : List ℕ) → IsBareText version v (b ∷ (x ++ m ∷ c)) → Begins (b ∷ (x ++ run))
@@ -269,25 +215,17 @@ module _ (version : Version) (m : ℕ) (run : List ℕ) (can : Stands m run) whe
   inside (decimal z) b x c h = absurd (in_number (b ∷ x) c (decimal_run z (b ∷ (x ++ m ∷ c)) h))
   inside (string s) b x c h =
       let text : b ∷ (x ++ m ∷ c) ≡ double_quote ∷ h.back = h.text ∙ ap (λ (l : List ℕ). l ++ h.back) h.first in
-      let first : b ≡ double_quote = cc in
       let rest : h.back ≡ x ++ m ∷ c = cc in
       let w = in_string_end s x c (subst (IsStringEnd s) rest h.second) in (
         string w.0,
         double_quote ∷ [],
-        record {
-          front = double_quote ∷ [];
-          back = x ++ run ++ double_quote ∷ [];
-          text = ap (λ (b : ℕ). b ∷ (x ++ run ++ double_quote ∷ [])) first;
-          first = refl;
-          second = w.1;
-        },
+        parted {Q = IsStringEnd w.0} (codes "\"") (x ++ run ++ codes "\"") _ (cc) refl w.1,
       )
   inside (token s) b x c h =
       let all = subst (λ (s : List ℕ). IsTrue (is_token s)) (sym h.1) h.0 in
       let p = and_parts (is_token_start b) (list_all is_token_inner (x ++ m ∷ c)) all in
-      let word : RunOf is_token_inner (x ++ run) =
-      run_both is_token_inner x run (run_parts is_token_inner x (m ∷ c) p.1).0
-      (can.run_token (run_holds is_token_inner x m c p.1)) in (
+      let word : RunOf is_token_inner (x ++ run) = list_all-append is_token_inner x run ∙ and_from _ _
+      (run_parts is_token_inner x (m ∷ c) p.1).0 (run_token (run_holds is_token_inner x m c p.1)) in (
         token (b ∷ (x ++ run)),
         [],
         (
@@ -298,20 +236,12 @@ module _ (version : Version) (m : ℕ) (run : List ℕ) (can : Stands m run) whe
   inside (byte_sequence s) b x c h =
       let text : b ∷ (x ++ m ∷ c) ≡ colon ∷ h.back = h.text ∙ ap (λ (l : List ℕ). l ++ h.back) h.first in
       let rest : h.back ≡ x ++ m ∷ c = cc in
-      absurd (both_ways (is_bytes_byte m) can.no_bytes
+      absurd (both_ways (is_bytes_byte m) no_bytes
       (run_holds is_bytes_byte x m c (subst (RunOf is_bytes_byte) rest (bytes_run s h.back h.second))))
-  inside (boolean v) b x c h = absurd (in_number x c (subst (RunOf is_number_byte) (tail v h) (digit_run v)))
-    where
-      digit_of : Bool → List ℕ
-      digit_of v = if v then codes "1" else codes "0"
-
-      digit_run : (v : Bool) → RunOf is_number_byte (digit_of v)
-      digit_run true = refl
-      digit_run false = refl
-
-      tail : (v : Bool) → b ∷ (x ++ m ∷ c) ≡ boolean_text v → digit_of v ≡ x ++ m ∷ c
-      tail true h = cc
-      tail false h = cc
+  inside (boolean true) b x c h = let rest : codes "1" ≡ x ++ m ∷ c = cc in
+      absurd (in_number x c (subst (RunOf is_number_byte) rest refl))
+  inside (boolean false) b x c h = let rest : codes "0" ≡ x ++ m ∷ c = cc in
+      absurd (in_number x c (subst (RunOf is_number_byte) rest refl))
   inside (date z) b x c h =
       let d = h.1 in
       let text : b ∷ (x ++ m ∷ c) ≡ at_sign ∷ d.back = d.text ∙ ap (λ (l : List ℕ). l ++ d.back) d.first in
@@ -319,45 +249,23 @@ module _ (version : Version) (m : ℕ) (run : List ℕ) (can : Stands m run) whe
       absurd (in_number x c (subst (RunOf is_number_byte) rest (integer_run z d.back d.second)))
   inside (display_string s) b [] c h =
       let d = h.1 in
-      let text : b ∷ m ∷ c ≡ percent_sign ∷ double_quote ∷ d.back =
-      d.text ∙ ap (λ (l : List ℕ). l ++ d.back) d.first in
+      let text = d.text ∙ ap (λ (l : List ℕ). l ++ d.back) d.first in
       let same : m ≡ double_quote = cc in
       absurd (no_quote same)
   inside (display_string s) b (a ∷ x) c h =
       let d = h.1 in
-      let text : b ∷ a ∷ (x ++ m ∷ c) ≡ percent_sign ∷ double_quote ∷ d.back =
-      d.text ∙ ap (λ (l : List ℕ). l ++ d.back) d.first in
-      let first : b ≡ percent_sign = cc in
-      let second : a ≡ double_quote = cc in
+      let text = d.text ∙ ap (λ (l : List ℕ). l ++ d.back) d.first in
       let rest : d.back ≡ x ++ m ∷ c = cc in
       let w = in_display_end s x c (subst (IsDisplayEnd s) rest d.second) in (
         display_string w.0,
         double_quote ∷ [],
-        (
-          h.0,
-          record {
-            front = percent_sign ∷ double_quote ∷ [];
-            back = x ++ run ++ double_quote ∷ [];
-            text = ap (λ (b : ℕ). b ∷ a ∷ (x ++ run ++ double_quote ∷ [])) first
-                ∙ ap (λ (a : ℕ). percent_sign ∷ a ∷ (x ++ run ++ double_quote ∷ [])) second;
-            first = refl;
-            second = w.1;
-          },
-        ),
+        (h.0, parted {Q = IsDisplayEnd w.0} (codes "%\"") (x ++ run ++ codes "\"") _ (cc) refl w.1),
       )
 
 pub mark_inside : MarkInside
 unfolding is_symbol
-mark_inside version v b x c h = inside version question_mark (codes "((") (record {
-  in_string = refl;
-  in_display = refl;
-  no_hexadecimal = refl;
-  no_number = refl;
-  no_bytes = refl;
-  run_string = refl;
-  run_display = refl;
-  run_token = λ e. absurd (true≢false (sym e));
-}) v b x c h
+mark_inside version v b x c h = inside version question_mark (codes "((") refl refl refl refl refl refl refl
+    (λ e. absurd (true≢false (sym e))) v b x c h
 
 pub asterisk_inside : AsteriskInside
 unfolding is_symbol
@@ -372,13 +280,5 @@ asterisk_inside version v [] c h = (
     value = refl;
   },
 )
-asterisk_inside version v (b ∷ x) c h = inside version asterisk (codes "1") (record {
-  in_string = refl;
-  in_display = refl;
-  no_hexadecimal = refl;
-  no_number = refl;
-  no_bytes = refl;
-  run_string = refl;
-  run_display = refl;
-  run_token = λ e. refl;
-}) v b x c h
+asterisk_inside version v (b ∷ x) c h = inside version asterisk (codes "1") refl refl refl refl refl refl refl
+    (λ _. refl) v b x c h

@@ -1,25 +1,32 @@
 -- The text of an item ends with no space, and with no parenthesis.
 use Rattle.std.proofs.Common.{◌≡◌, ℕ, ◌≤◌, Bool, true, false, eqb, List, [], ◌∷◌, ◌++◌, length, refl, sym, ap, subst}
-use Rattle.std.proofs.Common.{◌∙◌}
-use Rattle.std.proofs.Common.{append_assoc, arith, inl, inr, ◌⊎◌}
+use Rattle.std.proofs.Common.{◌∙◌, append_assoc, arith, inl, inr, ◌⊎◌}
 use Rattle.std.specs.Prelude.{codes}
 use Rattle.std.specs.List.{list_all}
 use Rattle.std.proofs.lemmas.List.{append-nil, length-append}
 use Rattle.std.proofs.lemmas.Bool.{and_parts, both_ways, eq-eqb, true≢false}
-use Rattle.sfv_spec.proofs.Marks.{space, double_quote, colon, digit_zero}
-use Rattle.sfv_spec.proofs.Marks.{right_parenthesis, digit_one}
-use Rattle.sfv_spec.specs.Texts.{RunOf, ◌⨾◌, Exactly}
+use Rattle.sfv_spec.proofs.Marks.{space, double_quote, colon, digit_zero, right_parenthesis, digit_one, is_digit}
+use Rattle.sfv_spec.specs.Texts.{IsJoining, RunOf, ◌⨾◌, Exactly}
 use Rattle.sfv_spec.specs.Classes.{is_token_start, is_token_inner, is_key_start, is_key_inner}
-use Rattle.sfv_spec.proofs.Marks.{is_digit}
 use Rattle.sfv_spec.specs.Values.{BareValue, integer, decimal, string, token, byte_sequence, boolean, date}
-use Rattle.sfv_spec.specs.declared.version.Version.{Version}
 use Rattle.sfv_spec.specs.Values.{display_string, RawParameters, RawItem}
+use Rattle.sfv_spec.specs.declared.version.Version.{Version}
 use Rattle.sfv_spec.specs.Numbers.{IsIntegerText, AreDigits}
-use Rattle.sfv_spec.proofs.Marks.{minus_text}
 use Rattle.sfv_spec.specs.Grammar.{IsBareText, IsKeyText, IsValueText, IsParameterText, IsParametersText, IsItemText}
 use Rattle.sfv_spec.proofs.Settled.{joining-nil, joining-cons}
 use Rattle.sfv_model.proofs.sound.Combinators.{run_head, run_tail}
 use Rattle.sfv_model.proofs.complete.Bare.{apart_from}
+
+-- a text in two parts
+abbrev pub parted : {P Q : List ℕ → Type 0} (a b t : List ℕ) → t ≡ a ++ b → P a → Q b → (P ⨾ Q) t
+parted a b t e p q = record { front = a; back = b; text = e; first = p; second = q }
+
+-- with a longer second part
+pub second_longer : {P Q R : List ℕ → Type 0} (t more : List ℕ) (h : (P ⨾ Q) t) → R (h.back ++ more)
+    → (P ⨾ R) (t ++ more)
+second_longer t more h k =
+    parted h.front (h.back ++ more) _ (ap (λ (l : List ℕ). l ++ more) h.text ∙ append_assoc h.front h.back more)
+    h.first k
 
 -- the last byte is another one than n
 pub record IsTight (n : ℕ) (t : List ℕ) : Type 0 where
@@ -73,39 +80,34 @@ module _ (n : ℕ) (outer : IsOuter n) where
   tight_byte : (c : ℕ) → eqb c n ≡ false → IsTight n (c ∷ [])
   tight_byte c e = record { before = []; last = c; text = refl; other = e }
 
-  run_tight : (class : ℕ → Bool) → class n ≡ false → (c : ℕ) (s : List ℕ) → RunOf class (c ∷ s) → IsTight n (c ∷ s)
-  run_tight class none c [] each = tight_byte c (apart_from class n none c (run_head class c [] each))
-  run_tight class none c (d ∷ s) each =
-      tight_after n (c ∷ []) (d ∷ s) (run_tight class none d s (run_tail class c (d ∷ s) each))
-
-  digits_tight : (least most : ℕ) (ds : List ℕ) → 1 ≤ least → AreDigits least most ds → IsTight n ds
-  digits_tight least most [] le h = absurd (omega (arith, le, h.0))
-  digits_tight least most (d ∷ ds) le h = run_tight is_digit outer.digit d ds h.2
-
   -- after a byte of one class a run of another
   started_tight : (start inner : ℕ → Bool) → start n ≡ false → inner n ≡ false → (c : ℕ) (s : List ℕ)
       → start c ≡ true → RunOf inner s → IsTight n (c ∷ s)
   started_tight start inner no_start no_inner c [] e each = tight_byte c (apart_from start n no_start c e)
-  started_tight start inner no_start no_inner c (d ∷ s) e each =
-      tight_after n (c ∷ []) (d ∷ s) (run_tight inner no_inner d s each)
+  started_tight start inner no_start no_inner c (d ∷ s) e each = tight_after n (c ∷ []) (d ∷ s)
+      (started_tight inner inner no_inner no_inner d s (run_head inner d s each) (run_tail inner d s each))
+
+  digits_tight : (least most : ℕ) (ds : List ℕ) → 1 ≤ least → AreDigits least most ds → IsTight n ds
+  digits_tight least most [] le h = absurd (omega (arith, le, h.0))
+  digits_tight least most (d ∷ ds) le h = started_tight is_digit is_digit outer.digit outer.digit d ds
+      (run_head is_digit d ds h.2) (run_tail is_digit d ds h.2)
 
   -- a closing byte
   closed_tight : {Q : List ℕ → Type 0} (c : ℕ) (t : List ℕ) → eqb c n ≡ false → (Q ⨾ Exactly (c ∷ [])) t → IsTight n t
   closed_tight c t e h = subst (IsTight n) (sym (h.text ∙ ap (λ (l : List ℕ). h.front ++ l) h.second))
       (tight_after n h.front (c ∷ []) (tight_byte c e))
 
-  after_front : {P Q : List ℕ → Type 0} (t : List ℕ) (h : (P ⨾ Q) t) → IsTight n h.back → IsTight n t
+  -- with a second part that ends so
+  pub after_front : {P Q : List ℕ → Type 0} (t : List ℕ) (h : (P ⨾ Q) t) → IsTight n h.back → IsTight n t
   after_front t h k = subst (IsTight n) (sym h.text) (tight_after n h.front h.back k)
 
   integer_tight : {z : _} (t : List ℕ) → IsIntegerText z t → IsTight n t
-  integer_tight t h = subst (IsTight n) (sym h.text) (tight_after n _ h.digits (digits_tight 1 15 h.digits
-      (omega arith) h.counted))
+  integer_tight t h = rw h.text (tight_after n _ h.digits (digits_tight 1 15 h.digits (omega arith) h.counted))
 
   bare_tight : (version : Version) (v : BareValue) (t : List ℕ) → IsBareText version v t → IsTight n t
   bare_tight version (integer z) t h = integer_tight t h
-  bare_tight version (decimal z) t h = subst (IsTight n) (sym h.text) (tight_after n
-      (minus_text h.negative ++ h.whole ++ codes ".")
-      h.fraction (digits_tight 1 3 h.fraction (omega arith) h.counted.1))
+  bare_tight version (decimal z) t h =
+      rw h.text (tight_after n _ h.fraction (digits_tight 1 3 h.fraction (omega arith) h.counted.1))
   bare_tight version (string s) t h = after_front t h (closed_tight double_quote h.back outer.closing.0 h.second)
   bare_tight version (token []) t h = absurd (true≢false (sym h.0))
   bare_tight version (token (c ∷ s)) t h =
@@ -137,14 +139,18 @@ module _ (n : ℕ) (outer : IsOuter n) where
       after_front t h (after_front h.back h.second (subst (IsTight n) (sym k.text)
       (tight_both k.front k.back (key_tight p.0 k.front k.first) (value_tight version p.1 k.back k.second))))
 
+  -- values whose texts end so
+  pub joining_tight : {A : Type 0} (P : A → List ℕ → Type 0) → ((v : A) (t : List ℕ) → P v t → IsTight n t)
+      → (vs : List A) (t : List ℕ) → IsJoining P vs t → TightOrNone n t
+  joining_tight P tight [] t h = inl (joining-nil h)
+  joining_tight P tight (v ∷ vs) t h =
+      let c = joining-cons h in
+      inr (subst (IsTight n) (sym c.text) (tight_both c.front c.back (tight v c.front c.first)
+      (joining_tight P tight vs c.back c.second)))
+
   pub parameters_tight : (version : Version) (ps : RawParameters) (t : List ℕ) → IsParametersText version ps t
       → TightOrNone n t
-  parameters_tight version [] t h = inl (joining-nil h)
-  parameters_tight version (p ∷ ps) t h =
-      let c = joining-cons h in
-      inr (subst (IsTight n) (sym c.text)
-      (tight_both c.front c.back (parameter_tight version p c.front c.first)
-      (parameters_tight version ps c.back c.second)))
+  parameters_tight version ps t h = joining_tight (IsParameterText version) (parameter_tight version) ps t h
 
   pub item_tight : (version : Version) (i : RawItem) (t : List ℕ) → IsItemText version i t → IsTight n t
   item_tight version i t h = subst (IsTight n) (sym h.text)

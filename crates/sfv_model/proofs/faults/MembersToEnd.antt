@@ -1,19 +1,18 @@
 -- Members are read up to the end of the text.
-use Rattle.std.proofs.Common.{◌≡◌, ℕ, zero, suc, ◌<◌, Bool, true, false, cond, List, [], ◌∷◌, length, Option, Some}
-use Rattle.std.proofs.Common.{None, Ok, Err, refl, sym, ap, ◌∙◌, arith}
+use Rattle.std.proofs.Common.{◌≡◌, ℕ, zero, suc, ◌<◌, List, [], ◌∷◌, length, Option, Some, None, Ok, Err, refl, sym, ap}
+use Rattle.std.proofs.Common.{◌∙◌, arith, inl, inr}
+use Rattle.std.proofs.lemmas.Bool.{cases_Bool}
 use Rattle.sfv_spec.proofs.Marks.{comma}
-use Rattle.sfv_spec.specs.Events.{TreeEvent}
+use Rattle.sfv_spec.specs.Events.{TreeEvent, entry_events, keyed_events}
 use Rattle.sfv_spec.specs.Values.{RawField}
 use Rattle.sfv_spec.specs.declared.field_kind.FieldKind.{FieldKind}
 use Rattle.sfv_spec.specs.declared.field_kind.FieldKind.TheVariants.{Item as item_field, List as list_field}
 use Rattle.sfv_spec.specs.declared.field_kind.FieldKind.TheVariants.{Dictionary as dictionary_field}
 use Rattle.sfv_spec.specs.declared.version.Version.{Version}
-use Rattle.sfv_spec.specs.Events.{entry_events, keyed_events}
 use Rattle.sfv_spec.specs.Grammar.{IsMemberText, IsDictionaryMemberText}
 use Rattle.sfv_model.specs.Commas.{HasManyMembers}
 use Rattle.sfv_spec.specs.declared.error_kind.ErrorKind.TheVariants.{TrailingComma, TrailingCharactersAfterMember}
-use Rattle.sfv_model.specs.Reader.{Answer, Reader, any, byte, and_then, give, fail, ◌>>=◌, bind, led_answer, led}
-use Rattle.sfv_model.specs.Reader.{ahead}
+use Rattle.sfv_model.specs.Reader.{Answer, Reader, any, byte, and_then, give, fail, ◌>>=◌, bind, led_answer, led, ahead}
 use Rattle.sfv_model.specs.Reader.{go_on, many, back, one_and_more}
 use Rattle.sfv_model.specs.Members.{entry_at, keyed_at}
 use Rattle.sfv_model.specs.Fields.{comma_at, next_at, members_at, whole_field_at}
@@ -48,26 +47,21 @@ give_read {A} v w t r i =
     let pairs : (v, t) ≡ (w, r) = cc in
     (ap (λ (x : A × List ℕ). x.0) pairs, ap (λ (x : A × List ℕ). x.1) pairs)
 
--- something was read
-some_read : {A : Type 0} (f : Reader A) (t r : List ℕ) → (f >>= λ m. give (Some m)) t ≡ Ok (None, r) → ⊥
-some_read f t r i = let b = bind_read f (λ m. give (Some m)) t r None i in
-    let none = (give_read _ _ b.1 r b.3).0 in absurd cc
-
+-- no step more: the text ends
 next_none : {A : Type 0} (one : Reader A) (t r : List ℕ) → next_at one t ≡ Ok (None, r) → r ≡ []
 unfolding next_at ahead fail
 next_none {A} one t r i = let b = bind_read _ _ t r None i in on b.1 b.3
   where
-    at : (b : Bool) (q : List ℕ) (x : Answer (Option A)) → (x ≡ Ok (None, r) → ⊥)
-        → cond b x (Err (record { kind = TrailingCharactersAfterMember; exact = true; rest = q; events = [] }))
-        ≡ Ok (None, r) → r ≡ []
-    at true q x h j = absurd (h j)
-    at false q x h j = absurd cc
-
     on : (q : List ℕ) → ahead any (ahead (byte comma) (back TrailingComma comma_at >>= λ _. one >>= λ m. give (Some m))
         (fail TrailingCharactersAfterMember)) (give None) q ≡ Ok (None, r) → r ≡ []
     on [] j = sym (give_read _ _ [] r j).1
-    on (c ∷ q) j = at (byte comma c) (c ∷ q) _ (λ k. let b = bind_read _ _
-        (c ∷ q) r None k in some_read one b.1 r b.3) j
+    on (c ∷ q) j = elim (cases_Bool (byte comma c)) [
+      | inl y ↦
+          let b = bind_read _ _ (c ∷ q) r None (rw y at j) in
+          let d = bind_read one (λ m. give (Some m)) b.1 r None b.3 in
+          absurd (let none = (give_read _ _ d.1 r d.3).0 in cc)
+      | inr n ↦ absurd (let k = rw n at j in cc)
+    ]
 
 module _ {A : Type 0} (parts : A → List TreeEvent) (step : Reader (Option A)) (c : Consumes step)
     (h : (t r : List ℕ) → step t ≡ Ok (None, r) → r ≡ []) where
@@ -75,16 +69,15 @@ module _ {A : Type 0} (parts : A → List TreeEvent) (step : Reader (Option A)) 
   within zero t r vs lt i = absurd (omega arith)
   within (suc n) t r vs lt i =
       let b = bind_read step (go_on parts (many parts step)) t r vs (sym (many_is parts step c t) ∙ i) in
-      on (λ q ws less j. within n q r ws less j) b.0 b.1 b.2 b.3
+      on (λ q p ws less j. within n q p ws less j) b.0 b.1 b.2 b.3
     where
-      on : ((q : List ℕ) (ws : List A) → length q < n → many parts step q ≡ Ok (ws, r) → r ≡ [])
+      on : ((q p : List ℕ) (ws : List A) → length q < n → many parts step q ≡ Ok (ws, p) → p ≡ [])
           → (o : Option A) (q : List ℕ) → step t ≡ Ok (o, q) → go_on parts (many parts step) o q ≡ Ok (vs, r) → r ≡ []
       on again None q e j = sym (give_read _ _ q r j).1 ∙ h t q e
       on again (Some v) q e j =
           let less : length q < length t = c.consumes t q v e in
           let b = bind_read (many parts step) (λ vs. give (v ∷ vs)) q r vs (led_read (parts v) _ q r vs j) in
-          let same : b.1 ≡ r = (give_read _ _ b.1 r b.3).1 in
-          again q b.0 (omega arith) (b.2 ∙ ap (λ (l : List ℕ). Ok (b.0, l)) same)
+          sym (give_read _ _ b.1 r b.3).1 ∙ again q b.1 b.0 (omega arith) b.2
 
   pub many_none : (t r : List ℕ) (vs : List A) → many parts step t ≡ Ok (vs, r) → r ≡ []
   many_none t r vs i = within (suc (length t)) t r vs (omega arith) i

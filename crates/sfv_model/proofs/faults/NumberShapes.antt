@@ -1,24 +1,22 @@
 -- What the reader of numbers gives, by the shape of the text: each text has one.
-use Rattle.std.proofs.Common.{◌≡◌, ℕ, zero, suc, ◌<◌, ◌≤◌, Bool, true, false, not, ℤ, List, [], ◌∷◌, ◌++◌}
-use Rattle.std.proofs.Common.{length, Ok, Err, refl, sym, ap, subst, ◌∙◌, append_assoc, arith, inl, inr}
+use Rattle.std.proofs.Common.{◌≡◌, ℕ, zero, suc, ◌≤◌, ◌⊎◌, Bool, true, false, not, ℤ, List, [], ◌∷◌, ◌++◌, ◌||◌, length}
+use Rattle.std.proofs.Common.{Ok, Err, refl, sym, ap, ◌∙◌, append_assoc, arith, inl, inr}
 use Rattle.std.specs.Prelude.{◌==◌}
-use Rattle.std.proofs.lemmas.Bool.{cases_Bool, eqb-true, eqb-false, cases_lt, true≢false, or_from, le-ltb, lt-ltb}
+use Rattle.std.proofs.lemmas.Bool.{cases_Bool, eqb-true, cases_lt, true≢false, or_from, le-ltb, lt-ltb}
 use Rattle.std.proofs.lemmas.List.{nil_from_length}
-use Rattle.sfv_spec.proofs.Marks.{minus_sign, dot}
+use Rattle.sfv_spec.proofs.Marks.{minus_sign, dot, is_digit, minus_text}
 use Rattle.sfv_spec.specs.Texts.{begins_with, RunOf}
-use Rattle.sfv_spec.proofs.Marks.{is_digit}
 use Rattle.sfv_spec.specs.Values.{BareValue, integer, decimal}
 use Rattle.sfv_spec.specs.Numbers.{AreDigits, signed, place_value, IsIntegerText, IsDecimalText}
-use Rattle.sfv_spec.proofs.Marks.{minus_text}
 use Rattle.sfv_spec.specs.declared.error_kind.ErrorKind.TheVariants.{ExpectedDigit, TooManyDigits}
 use Rattle.sfv_spec.specs.declared.error_kind.ErrorKind.TheVariants.{TooManyDigitsBeforeDecimalPoint}
 use Rattle.sfv_spec.specs.declared.error_kind.ErrorKind.TheVariants.{TooManyDigitsAfterDecimalPoint}
 use Rattle.sfv_spec.specs.declared.error_kind.ErrorKind.TheVariants.{TrailingDecimalPoint}
-use Rattle.sfv_model.specs.Reader.{Apart, Answer, Reader, byte, give, fail, ruled, ahead, back}
-use Rattle.sfv_model.specs.Reader.{at_start, at_reach, by_rule, placed}
+use Rattle.sfv_model.specs.Reader.{Apart, Answer, Reader, byte, give, fail, ruled, ahead, back, at_start, at_reach}
+use Rattle.sfv_model.specs.Reader.{by_rule, placed}
 use Rattle.sfv_model.specs.Bare.{long_at, decimal_at, fraction_at, point_at, whole_at, number_at}
-use Rattle.sfv_model.proofs.complete.Combinators.{Apart-nil, Apart-cons, branch_take, ahead_past}
-use Rattle.sfv_model.proofs.complete.Combinators.{ahead_take, bind_complete, up_to_taken}
+use Rattle.sfv_model.proofs.complete.Combinators.{Apart-nil, Apart-cons, branch_take, ahead_past, ahead_take}
+use Rattle.sfv_model.proofs.complete.Combinators.{bind_complete, up_to_taken}
 use Rattle.sfv_model.proofs.complete.Numbers.{goes_on, minus_apart, start_read, start_complete, some_eqb}
 use Rattle.sfv_model.proofs.complete.Numbers.{integer_complete, decimal_complete}
 use Rattle.sfv_model.proofs.sound.Combinators.{run_cons}
@@ -26,13 +24,15 @@ use Rattle.sfv_model.proofs.sound.Numbers.{thousandths}
 
 -- ---- the next byte
 
-pub apart_none : (class : ℕ → Bool) (t : List ℕ) → Apart class t → begins_with class t ≡ false
-apart_none class [] h = refl
-apart_none class (c ∷ t) h = h.apart c refl
-
 pub none_apart : (class : ℕ → Bool) (t : List ℕ) → begins_with class t ≡ false → Apart class t
 none_apart class [] h = Apart-nil class
 none_apart class (c ∷ t) h = Apart-cons class c t h
+
+-- the next byte is of neither class
+pub begins_neither : (p q : ℕ → Bool) (t : List ℕ) → begins_with p t ≡ false → begins_with q t ≡ false
+    → begins_with (λ c. p c || q c) t ≡ false
+begins_neither p q [] n m = refl
+begins_neither p q (c ∷ t) n m = or_from (p c) (q c) n m
 
 -- a byte of the class stands next
 pub record Next (class : ℕ → Bool) (t : List ℕ) : Type 0 where
@@ -50,11 +50,7 @@ pub ahead_next : {A : Type 0} (class : ℕ → Bool) (taken other : Reader A) (t
 ahead_next class taken other t h = let n = next_of class t h in
     ap (ahead class taken other) n.text ∙ ahead_take class taken other n.c n.rest n.is ∙ ap taken (sym n.text)
 
-pub ahead_none : {A : Type 0} (class : ℕ → Bool) (taken other : Reader A) (t : List ℕ) → begins_with class t ≡ false
-    → ahead class taken other t ≡ other t
-ahead_none class taken other t h = ahead_past class taken other t (none_apart class t h)
-
--- ---- at most n bytes of a class, and no more of them if there are fewer
+-- ---- at most n bytes of a class: no more of them follow, or one more than n
 
 pub record Taken (class : ℕ → Bool) (n : ℕ) (t : List ℕ) : Type 0 where
   pub front : List ℕ
@@ -62,25 +58,20 @@ pub record Taken (class : ℕ → Bool) (n : ℕ) (t : List ℕ) : Type 0 where
   pub text : t ≡ front ++ rest
   pub each : RunOf class front
   pub most : length front ≤ n
-  pub ends : length front < n → Apart class rest
+  pub ends : (begins_with class rest ≡ false) ⊎ ((begins_with class rest ≡ true) × (n ≤ length front))
+
+-- none of them
+none_taken : (class : ℕ → Bool) (n : ℕ) (t : List ℕ)
+    → (begins_with class t ≡ false) ⊎ ((begins_with class t ≡ true) × (n ≤ 0)) → Taken class n t
+none_taken class n t ends =
+    record { front = []; rest = t; text = refl; each = refl; most = omega arith; ends = ends }
 
 pub taken : (class : ℕ → Bool) (n : ℕ) (t : List ℕ) → Taken class n t
-taken class zero t = record {
-  front = [];
-  rest = t;
-  text = refl;
-  each = refl;
-  most = omega arith;
-  ends = λ l. absurd (omega (arith, l));
-}
-taken class (suc n) [] = record {
-  front = [];
-  rest = [];
-  text = refl;
-  each = refl;
-  most = omega arith;
-  ends = λ l. Apart-nil class;
-}
+taken class zero t = none_taken class zero t (elim (cases_Bool (begins_with class t)) [
+  | inl y ↦ inr (y, omega arith)
+  | inr m ↦ inl m
+])
+taken class (suc n) [] = none_taken class (suc n) [] (inl refl)
 taken class (suc n) (c ∷ t) = elim (cases_Bool (class c)) [
   | inl y ↦ let m = taken class n t in record {
     front = c ∷ m.front;
@@ -88,16 +79,9 @@ taken class (suc n) (c ∷ t) = elim (cases_Bool (class c)) [
     text = ap (λ (l : List ℕ). c ∷ l) m.text;
     each = run_cons class c m.front y m.each;
     most = omega (arith, m.most);
-    ends = λ l. m.ends (omega (arith, l));
+    ends = elim m.ends [ inl none ↦ inl none | inr (more, l) ↦ inr (more, omega (arith, l)) ];
   }
-  | inr n' ↦ record {
-    front = [];
-    rest = c ∷ t;
-    text = refl;
-    each = refl;
-    most = omega arith;
-    ends = λ l. Apart-cons class c t n';
-  }
+  | inr none ↦ none_taken class (suc n) (c ∷ t) (inl none)
 ]
 
 -- ---- the shapes of a text that is read as a number
@@ -124,15 +108,6 @@ pub data NumberShape (dated : Bool) (t : List ℕ) : Answer BareValue → Type 0
       → NumberShape dated t (Ok (integer z, q))
 
 -- ---- each is read so
-
--- a byte that isn't of the one class and is of the other
-apart_by : (class other : ℕ → Bool) (q : List ℕ) → ((c : ℕ) → other c ≡ true → class c ≡ false)
-    → begins_with other q ≡ true → begins_with class q ≡ false
-apart_by class other [] f h = refl
-apart_by class other (c ∷ q) f h = f c h
-
-point_no_digit : (c : ℕ) → byte dot c ≡ true → is_digit c ≡ false
-point_no_digit c h = ap is_digit (eqb-true c dot h)
 
 digits_whole : (least : ℕ) (digits : List ℕ) → AreDigits (suc least) 15 digits → AreDigits 1 15 digits
 digits_whole least digits h = (omega (arith, h.0), h.1, h.2)
@@ -166,10 +141,12 @@ shape_read dated t _ (sixteen_digits negative whole q text counted h) = ap (numb
     (λ _. minus_apart whole q (digits_whole 14 whole counted))
     ∙ rw (some_eqb (length whole) (omega (arith, counted.0))) (ahead_next _ _ _ q h)
 shape_read dated t _ (point_too_late negative whole q text counted h) =
-    let apart : begins_with is_digit q ≡ false = apart_by is_digit (byte dot) q point_no_digit h in
+    let n = next_of (byte dot) q h in
+    let apart : begins_with is_digit q ≡ false = rw (n.text, eqb-true n.c dot n.is) refl in
     ap (number_at dated) text
     ∙ start_complete dated negative whole q (digits_whole 12 whole counted) (none_apart is_digit q apart)
-    ∙ rw (some_eqb (length whole) (omega (arith, counted.0))) (ahead_none _ _ _ q apart ∙ ahead_next _ _ _ q h
+    ∙ rw (some_eqb (length whole) (omega (arith, counted.0))) (ahead_past _ _ _ q (none_apart is_digit q apart)
+    ∙ ahead_next _ _ _ q h
     ∙ rw (lt-ltb 12 (length whole) counted.0) refl)
 shape_read dated t _ (no_fraction negative whole q text counted h) = ap (number_at dated) text
     ∙ up_to_point dated negative whole q counted
@@ -187,6 +164,13 @@ shape_read dated t _ (a_decimal z number q means text h) = ap (number_at dated) 
 shape_read dated t _ (an_integer z number q means text h) = ap (number_at dated) text
     ∙ integer_complete dated number q z means (none_apart goes_on q h)
 
+-- where none is taken, none is next
+none_next : (class : ℕ → Bool) (n : ℕ) (t : List ℕ) (f : Taken class n t) → begins_with class f.rest ≡ false
+    → length f.front ≤ 0 → begins_with class t ≡ false
+none_next class n t f h none =
+    let nil : f.front ≡ [] = nil_from_length f.front (omega (arith, none)) in
+    rw (f.text, nil) h
+
 -- ---- each text has one
 
 abbrev Shaped : Bool → List ℕ → Type 0
@@ -197,35 +181,23 @@ fraction_shape : (dated negative : Bool) (t whole q : List ℕ) → AreDigits 1 
 fraction_shape dated negative t whole q counted text f =
     let all : t ≡ minus_text negative ++ (whole ++ dot ∷ (f.front ++ f.rest)) =
     text ∙ ap (λ (l : List ℕ). minus_text negative ++ (whole ++ dot ∷ l)) f.text in
-    elim (cases_Bool (length f.front == 0)) as (λ x. Shaped dated t) [
-      | inl none ↦
-          let nil : f.front ≡ [] = nil_from_length f.front (eqb-true _ _ none) in
-          let same : q ≡ f.rest = f.text ∙ ap (λ (l : List ℕ). l ++ f.rest) nil in (
-            _,
-            no_fraction negative whole q text counted (apart_none is_digit q
-                (subst (Apart is_digit) (sym same) (f.ends (omega (arith, eqb-true _ _ none))))),
-          )
-      | inr some ↦
-          let one : 1 ≤ length f.front = omega (arith, eqb-false _ _ some) in
-          elim (cases_Bool (begins_with is_digit f.rest)) as (λ x. Shaped dated t) [
-            | inl y ↦ elim (cases_lt (length f.front) 3) as (λ x. Shaped dated t) [
-              | inl l ↦ absurd (true≢false (sym y ∙ apart_none is_digit f.rest (f.ends l)))
-              | inr g ↦ (_, long_fraction negative whole f.front f.rest all counted (g, f.most, f.each) y)
-            ]
-            | inr n ↦ (
-              _,
-              a_decimal (signed negative (thousandths whole f.front))
-                  (minus_text negative ++ (whole ++ dot ∷ f.front)) f.rest
-                  (record {
-                    negative = negative;
-                    whole = whole;
-                    fraction = f.front;
-                    counted = (counted, (one, f.most, f.each));
-                    text = simp append_assoc;
-                    value = refl;
-                  }) (all ∙ simp append_assoc) n,
-            )
-          ]
+    elim f.ends as (λ x. Shaped dated t) [
+      | inl n ↦ elim (cases_lt 0 (length f.front)) as (λ x. Shaped dated t) [
+        | inl one ↦ (
+          _,
+          a_decimal (signed negative (thousandths whole f.front)) (minus_text negative ++ (whole ++ dot ∷ f.front))
+              f.rest (record {
+                negative = negative;
+                whole = whole;
+                fraction = f.front;
+                counted = (counted, (one, f.most, f.each));
+                text = simp append_assoc;
+                value = refl;
+              }) (all ∙ simp append_assoc) n,
+        )
+        | inr none ↦ (_, no_fraction negative whole q text counted (none_next is_digit 3 q f n none))
+      ]
+      | inr (y, g) ↦ (_, long_fraction negative whole f.front f.rest all counted (g, f.most, f.each) y)
     ]
 
 whole_shape : (dated negative : Bool) (t u : List ℕ) → t ≡ minus_text negative ++ u
@@ -233,51 +205,34 @@ whole_shape : (dated negative : Bool) (t u : List ℕ) → t ≡ minus_text nega
 whole_shape dated negative t u start plain w =
     let text : t ≡ minus_text negative ++ (w.front ++ w.rest) =
     start ∙ ap (λ (l : List ℕ). minus_text negative ++ l) w.text in
-    elim (cases_Bool (length w.front == 0)) as (λ x. Shaped dated t) [
-      | inl none ↦
-          let nil : w.front ≡ [] = nil_from_length w.front (eqb-true _ _ none) in
-          let same : u ≡ w.rest = w.text ∙ ap (λ (l : List ℕ). l ++ w.rest) nil in (
-            _,
-            no_digits negative u start (apart_none is_digit u
-                (subst (Apart is_digit) (sym same) (w.ends (omega (arith, eqb-true _ _ none))))) plain,
-          )
-      | inr some ↦
-          let one : 1 ≤ length w.front = omega (arith, eqb-false _ _ some) in
-          elim (cases_Bool (begins_with is_digit w.rest)) as (λ x. Shaped dated t) [
-            | inl y ↦ elim (cases_lt (length w.front) 15) as (λ x. Shaped dated t) [
-              | inl l ↦ absurd (true≢false (sym y ∙ apart_none is_digit w.rest (w.ends l)))
-              | inr g ↦ (_, sixteen_digits negative w.front w.rest text (g, w.most, w.each) y)
-            ]
-            | inr n ↦ elim (cases_Bool (begins_with (byte dot) w.rest)) as (λ x. Shaped dated t) [
-              | inl y ↦ elim (cases_lt 12 (length w.front)) as (λ x. Shaped dated t) [
-                | inl l ↦ (_, point_too_late negative w.front w.rest text (l, w.most, w.each) y)
-                | inr g ↦
-                    let p = next_of (byte dot) w.rest y in
-                    let point : w.rest ≡ dot ∷ p.rest = p.text ∙ ap (λ (c : ℕ). c ∷ p.rest) (eqb-true p.c dot p.is) in
-                    fraction_shape dated negative t w.front p.rest (one, g, w.each)
-                    (text ∙ ap (λ (l : List ℕ). minus_text negative ++ (w.front ++ l)) point)
-                    (taken is_digit 3 p.rest)
-              ]
-              | inr m ↦ (
-                _,
-                an_integer (signed negative (place_value w.front)) (minus_text negative ++ w.front) w.rest
-                    (record {
-                      negative = negative;
-                      digits = w.front;
-                      counted = (one, w.most, w.each);
-                      text = refl;
-                      value = refl;
-                    }) (text ∙ sym (append_assoc (minus_text negative) w.front w.rest))
-                    (neither w.rest n m),
-              )
-            ]
+    elim w.ends as (λ x. Shaped dated t) [
+      | inl n ↦ elim (cases_lt 0 (length w.front)) as (λ x. Shaped dated t) [
+        | inl one ↦ elim (cases_Bool (begins_with (byte dot) w.rest)) as (λ x. Shaped dated t) [
+          | inl y ↦ elim (cases_lt 12 (length w.front)) as (λ x. Shaped dated t) [
+            | inl l ↦ (_, point_too_late negative w.front w.rest text (l, w.most, w.each) y)
+            | inr g ↦
+                let p = next_of (byte dot) w.rest y in
+                let point : w.rest ≡ dot ∷ p.rest = p.text ∙ ap (λ (c : ℕ). c ∷ p.rest) (eqb-true p.c dot p.is) in
+                fraction_shape dated negative t w.front p.rest (one, g, w.each) (rw point at text)
+                (taken is_digit 3 p.rest)
           ]
+          | inr m ↦ (
+            _,
+            an_integer (signed negative (place_value w.front)) (minus_text negative ++ w.front) w.rest
+                (record {
+                  negative = negative;
+                  digits = w.front;
+                  counted = (one, w.most, w.each);
+                  text = refl;
+                  value = refl;
+                }) (text ∙ sym (append_assoc (minus_text negative) w.front w.rest))
+                (begins_neither is_digit (byte dot) w.rest n m),
+          )
+        ]
+        | inr none ↦ (_, no_digits negative u start (none_next is_digit 15 u w n none) plain)
+      ]
+      | inr (y, g) ↦ (_, sixteen_digits negative w.front w.rest text (g, w.most, w.each) y)
     ]
-  where
-    neither : (q : List ℕ) → begins_with is_digit q ≡ false → begins_with (byte dot) q ≡ false
-        → begins_with goes_on q ≡ false
-    neither [] n m = refl
-    neither (c ∷ q) n m = or_from (is_digit c) (c == dot) n m
 
 pub number_shape : (dated : Bool) (t : List ℕ) → Shaped dated t
 number_shape dated [] = whole_shape dated false [] [] refl (λ _. refl) (taken is_digit 15 [])

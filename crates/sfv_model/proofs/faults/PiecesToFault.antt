@@ -10,12 +10,7 @@ use Rattle.sfv_model.proofs.sound.Many.{Consumes, many_is}
 
 pub after_twice : (es fs : List TreeEvent) (e : Fault)
     → after_events es (after_events fs e) ≡ after_events (es ++ fs) e
-after_twice es fs e = ap (λ (l : List TreeEvent). record {
-  kind = e.kind;
-  exact = e.exact;
-  rest = e.rest;
-  events = l;
-}) (sym (append_assoc es fs e.events))
+after_twice es fs e = simp append_assoc
 
 pub bind_met : {A B : Type 0} (f : Reader A) (g : A → Reader B) (t : List ℕ) (e : Fault) → f t ≡ Err e
     → (f >>= g) t ≡ Err e

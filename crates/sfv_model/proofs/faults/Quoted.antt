@@ -1,10 +1,9 @@
 -- The faults of Strings and Display Strings: exactly these are given.
-use Rattle.std.proofs.Common.{◌≡◌, ℕ, Bool, true, false, cond, List, ◌∷◌, ◌++◌, Ok, Err, refl, sym, ap, subst, ◌∙◌}
+use Rattle.std.proofs.Common.{◌≡◌, ℕ, true, false, List, ◌∷◌, ◌++◌, Ok, Err, refl, sym, ap, subst, ◌∙◌, inl, inr}
 use Rattle.std.specs.Prelude.{IsUtf8}
-use Rattle.std.specs.List.{concat}
+use Rattle.std.specs.List.{concat, AllZip}
 use Rattle.std.specs.Str.{is_utf8}
-use Rattle.std.specs.Str.Lossy.{utf8_valid_len}
-use Rattle.std.proofs.lemmas.Bool.{both_ways}
+use Rattle.std.proofs.lemmas.Bool.{both_ways, cases_Bool}
 use Rattle.std.proofs.lemmas.List.{append-nil}
 use Rattle.std.proofs.lemmas.Str.{IsUtf8-from_is_utf8, is_utf8-from_IsUtf8}
 use Rattle.sfv_spec.proofs.Marks.{double_quote}
@@ -12,11 +11,17 @@ use Rattle.sfv_spec.specs.Strings.{IsStringPiece, IsDisplayPiece}
 use Rattle.sfv_spec.specs.declared.error_kind.ErrorKind.{ErrorKind}
 use Rattle.sfv_spec.specs.declared.error_kind.ErrorKind.TheVariants.{InvalidUtf8InDisplayString}
 use Rattle.sfv_model.specs.Reader.{Fault, Answer, at_reach, by_rule}
-use Rattle.sfv_model.specs.Quoted.{after_bytes, string_at, outside, pieces_from, after_pieces, checked, display_at}
-use Rattle.sfv_model.specs.Quoted.{StringStops, DisplayStops, Traced, IsStringFault, IsDisplayFault}
+use Rattle.sfv_model.specs.Quoted.{after_bytes, string_at, outside, pieces_from, checked, display_at, StringStops}
+use Rattle.sfv_model.specs.Quoted.{DisplayStops, Traced, IsStringFault, IsDisplayFault}
 use Rattle.sfv_model.proofs.quoted.Traces.{Ends, trace_of_string, trace_of_display}
 use Rattle.sfv_model.proofs.quoted.Pieces.{past_string, past_display, quote_display, string_stops, display_stops}
 use Rattle.sfv_model.proofs.sound.Quoted.{stopped_at, stopped}
+
+-- pieces, and what is left of the text
+pub traced : {P : ℕ → List ℕ → Type 0} {E : List ℕ → List ℕ → Type 0} (t bytes : List ℕ) (pieces : List (List ℕ))
+    (left : List ℕ) → t ≡ concat pieces ++ left → AllZip P bytes pieces → E bytes left → Traced P t E
+traced t bytes pieces left e h ends =
+    record { bytes = bytes; pieces = pieces; left = left; text = e; content = h; ends = ends }
 
 -- Exactly such a fault is given.
 pub string_faulty : (t there : List ℕ) (k : ErrorKind) → IsStringFault t k there
@@ -32,17 +37,7 @@ string_fault t e i =
 
 -- bytes that aren't UTF-8
 pub not_text : (s : List ℕ) → ¬ IsUtf8 s → is_utf8 s ≡ false
-not_text s n = on (is_utf8 s) refl
-  where
-    on : (b : Bool) → is_utf8 s ≡ b → b ≡ false
-    on true e = absurd (n (IsUtf8-from_is_utf8 s e))
-    on false e = refl
-
-fault_read : (t there : List ℕ) (k : ErrorKind) → Traced IsDisplayPiece t (λ bytes left. DisplayStops k left there)
-    → display_at t ≡ Err (by_rule k there)
-unfolding display_at
-fault_read t there k h = ap (checked t) (ap (pieces_from outside) h.text
-    ∙ past_display h.bytes h.pieces h.left h.content ∙ ap (after_bytes h.bytes) (display_stops k h.left there h.ends))
+not_text s n = elim (cases_Bool (is_utf8 s)) [ inl e ↦ absurd (n (IsUtf8-from_is_utf8 s e)) | inr e ↦ e ]
 
 -- Exactly such a fault is given.
 pub display_faulty : (t there : List ℕ) (k : ErrorKind) → IsDisplayFault t k there
@@ -56,7 +51,8 @@ display_faulty t there InvalidUtf8InDisplayString h =
     ∙ ap (λ (l : List ℕ). Ok (l, h.ends.0)) (append-nil h.bytes) in
     ap (checked t) read ∙ rw (not_text h.bytes h.ends.2)
     (ap (λ (l : List ℕ). Err (by_rule InvalidUtf8InDisplayString l)) (sym h.ends.3))
-display_faulty t there k h = fault_read t there k h
+display_faulty t there k h = ap (checked t) (ap (pieces_from outside) h.text
+    ∙ past_display h.bytes h.pieces h.left h.content ∙ ap (after_bytes h.bytes) (display_stops k h.left there h.ends))
 
 -- what an answer's fault is
 abbrev FaultIs : List ℕ → Answer (List ℕ) → Type 0
@@ -66,29 +62,18 @@ FaultIs t (Err e) = IsDisplayFault t e.kind e.rest × (e ≡ by_rule e.kind e.re
 fault_is : (t : List ℕ) (a : Answer (List ℕ)) → Traced IsDisplayPiece t (Ends false DisplayStops a)
     → FaultIs t (checked t a)
 fault_is t (Err e) h = (stopped t e.rest e.kind (stopped_at false IsDisplayPiece DisplayStops t e h), h.ends.0)
-fault_is t (Ok x) h =
-    let wrong : Answer (List ℕ) = Err (by_rule InvalidUtf8InDisplayString (after_pieces (utf8_valid_len x.0) t)) in
-    let on : (b : Bool) → is_utf8 x.0 ≡ b → FaultIs t (cond b (Ok x) wrong) =
-    λ b. elim b as (λ (b : Bool). is_utf8 x.0 ≡ b → FaultIs t (cond b (Ok x) wrong)) [
-      | true ↦ λ e. tt
-      | false ↦ λ e. (
-        record {
-          bytes = h.bytes;
-          pieces = h.pieces;
-          left = h.left;
-          text = h.text;
-          content = h.content;
-          ends = (
-            x.1,
-            h.ends.1,
-            λ u. both_ways (is_utf8 x.0) e
-                (is_utf8-from_IsUtf8 x.0 (subst IsUtf8 (sym h.ends.0) u)),
-            ap (λ (s : List ℕ). after_pieces (utf8_valid_len s) t) h.ends.0,
-          );
-        },
-        refl,
-      )
-    ] in on (is_utf8 x.0) refl
+fault_is t (Ok x) h = elim (cases_Bool (is_utf8 x.0)) [
+  | inl e ↦ rw e tt
+  | inr e ↦ rw e (
+    traced t h.bytes h.pieces h.left h.text h.content (
+      x.1,
+      h.ends.1,
+      λ u. both_ways (is_utf8 x.0) e (is_utf8-from_IsUtf8 x.0 (rw h.ends.0 u)),
+      rw h.ends.0 refl,
+    ),
+    refl,
+  )
+]
 
 pub display_fault : (t : List ℕ) (e : Fault) → display_at t ≡ Err e
     → IsDisplayFault t e.kind e.rest × (e ≡ by_rule e.kind e.rest)

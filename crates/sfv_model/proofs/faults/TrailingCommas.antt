@@ -1,12 +1,11 @@
 -- What stands after a field with a member, and is no more of it.
-use Rattle.std.proofs.Common.{◌≡◌, ℕ, false, eqb, List, [], ◌∷◌, ◌++◌, length, drop, Ok, Err, refl, sym, ap}
-use Rattle.std.proofs.Common.{◌∙◌, append_assoc, arith}
+use Rattle.std.proofs.Common.{◌≡◌, ℕ, false, eqb, List, [], ◌∷◌, ◌++◌, length, drop, Ok, Err, refl, sym, ap, ◌∙◌}
+use Rattle.std.proofs.Common.{append_assoc, arith}
 use Rattle.std.proofs.lemmas.List.{append-nil, drop_at}
 use Rattle.std.specs.Prelude.{codes, ◌≢◌}
-use Rattle.sfv_spec.proofs.Marks.{comma, right_parenthesis}
+use Rattle.sfv_spec.proofs.Marks.{comma, right_parenthesis, is_space, is_space_or_tab}
 use Rattle.sfv_spec.specs.Texts.{RunOf}
-use Rattle.sfv_spec.proofs.Marks.{is_space, is_space_or_tab}
-use Rattle.sfv_spec.specs.Values.{RawField, HasMember}
+use Rattle.sfv_spec.specs.Values.{RawField, RawItem, HasMember}
 use Rattle.sfv_spec.specs.declared.field_kind.FieldKind.{FieldKind}
 use Rattle.sfv_spec.specs.declared.field_kind.FieldKind.TheVariants.{Item as item_field, List as list_field}
 use Rattle.sfv_spec.specs.declared.field_kind.FieldKind.TheVariants.{Dictionary as dictionary_field}
@@ -15,24 +14,21 @@ use Rattle.sfv_spec.specs.Grammar.{IsMemberText, IsDictionaryMemberText, IsField
 use Rattle.sfv_spec.specs.Events.{TreeEvent, events, entry_events, keyed_events}
 use Rattle.sfv_model.specs.Commas.{HasManyMembers}
 use Rattle.sfv_spec.specs.declared.error_kind.ErrorKind.TheVariants.{TrailingComma, TrailingCharactersAfterMember}
-use Rattle.sfv_model.specs.Reader.{Fault, Reader, Apart, any, byte, at_reach, by_rule, after_events, at_start}
-use Rattle.sfv_model.specs.Reader.{give, fail}
-use Rattle.sfv_model.specs.Reader.{back, span, branch, ahead, bind, led}
+use Rattle.sfv_model.specs.Reader.{Fault, Reader, Apart, any, byte, at_reach, by_rule, after_events, at_start, give}
+use Rattle.sfv_model.specs.Reader.{fail, back, span, branch, ahead, bind, led}
 use Rattle.sfv_model.specs.Judgements.{IsFault}
 use Rattle.sfv_model.specs.Bare.{token_at, bare_at}
 use Rattle.sfv_model.specs.Items.{key_at, item_at}
 use Rattle.sfv_model.specs.Members.{member_at, entry_at, keyed_at}
 use Rattle.sfv_model.specs.Fields.{comma_at, next_at, members_at, whole_field_at, ending, read_field}
 use Rattle.sfv_model.specs.Claims.{CommaRow}
-use Rattle.sfv_model.proofs.complete.Combinators.{Apart-nil, Apart-cons, branch_take, ahead_past, ahead_take}
-use Rattle.sfv_model.proofs.complete.Combinators.{ahead_any}
+use Rattle.sfv_model.proofs.complete.Combinators.{Apart-nil, Apart-cons, branch_take, ahead_past, ahead_take, ahead_any}
 use Rattle.sfv_model.proofs.complete.Combinators.{bind_complete, span_complete}
 use Rattle.sfv_model.proofs.sound.Members.{Sound-entry, Sound-keyed}
 use Rattle.sfv_model.proofs.sound.Separated.{members_met}
 use Rattle.sfv_model.proofs.complete.Items.{lengthens_item, blank_ends}
 use Rattle.sfv_model.proofs.complete.Members.{entry_complete, entry_fresh, keyed_complete, keyed_fresh}
-use Rattle.sfv_model.proofs.complete.Fields.{spaces_end, comma_ends, item_field_complete}
-use Rattle.sfv_model.proofs.Theorems.{read_is_accepted}
+use Rattle.sfv_model.proofs.complete.Fields.{spaces_end, comma_ends, item_field_complete, field_complete}
 use Rattle.sfv_model.proofs.faults.PiecesToFault.{bind_met}
 
 -- a type of field is a list or a dictionary unless it is an item
@@ -124,56 +120,35 @@ unfolding keyed_at key_at branch fail bind
 no_keyed version q = (_, refl)
 
 -- after a whole field it stands nowhere
-bracket_after : (version : Version) (kind : FieldKind) (raw : RawField kind) (t : List ℕ)
-    → IsFieldText version kind raw t
-    → (e : Fault) × (ending (events kind) (whole_field_at version kind (t ++ codes ")")) ≡ Err e)
+bracket_after : (version : Version) (kind : FieldKind) (raw other : RawField kind) (t : List ℕ)
+    → IsFieldText version kind raw t → whole_field_at version kind (t ++ codes ")") ≡ Ok (other, []) → ⊥
 unfolding whole_field_at
-bracket_after version item_field raw t h = (
-  _,
-  ap (ending (events item_field)) (item_field_complete version raw t (codes ")") h
-      (Apart-cons is_space right_parenthesis [] refl)
-      (spaces_end h.second.back (codes ")") h.second.second (Apart-cons lengthens_item right_parenthesis [] refl))),
-)
-bracket_after version list_field [] t h =
-    let m = none_begun entry_events (entry_at version) t [] h (no_entry version []) in
-    (m.0, ap (ending (events list_field)) m.1)
-bracket_after version list_field (m ∷ ms) t h = (
-  _,
-  ap (ending (events list_field))
-      (byte_after version list_field (m ∷ ms) t [] right_parenthesis tt (m, ms, refl) h refl refl refl),
-)
-bracket_after version dictionary_field [] t h =
-    let m = none_begun keyed_events (keyed_at version) t [] h (no_keyed version []) in
-    (m.0, ap (ending (events dictionary_field)) m.1)
-bracket_after version dictionary_field (m ∷ ms) t h = (
-  _,
-  ap (ending (events dictionary_field))
-      (byte_after version dictionary_field (m ∷ ms) t [] right_parenthesis tt (m, ms, refl) h refl refl refl),
-)
+bracket_after version item_field raw other t h i =
+    let read = item_field_complete version raw t (codes ")") h (Apart-cons is_space right_parenthesis [] refl)
+    (spaces_end h.second.back (codes ")") h.second.second (Apart-cons lengthens_item right_parenthesis [] refl)) in
+    let pairs : ◌≡◌ {A = RawItem × List ℕ} (raw, codes ")") (other, []) = cc in
+    let rest : codes ")" ≡ [] = ap (λ (x : RawItem × List ℕ). x.1) pairs in cc
+bracket_after version list_field [] other t h i =
+    let m = none_begun entry_events (entry_at version) t [] h (no_entry version []) in let f = m.1 in cc
+bracket_after version list_field (m ∷ ms) other t h i =
+    let f = byte_after version list_field (m ∷ ms) t [] right_parenthesis tt (m, ms, refl) h refl refl refl in cc
+bracket_after version dictionary_field [] other t h i =
+    let m = none_begun keyed_events (keyed_at version) t [] h (no_keyed version []) in let f = m.1 in cc
+bracket_after version dictionary_field (m ∷ ms) other t h i =
+    let f = byte_after version dictionary_field (m ∷ ms) t [] right_parenthesis tt (m, ms, refl) h refl refl refl in cc
 
 pub not_bracketed : (version : Version) (kind : FieldKind) (t : List ℕ) → IsAccepted version kind t
     → ¬ IsAccepted version kind (t ++ codes ")")
-unfolding read_field
-not_bracketed version kind t a b =
-    let fault = bracket_after version kind a.0 t a.1 in
-    let read = (read_is_accepted version kind (t ++ codes ")") b.0).1 b.1 in
-    absurd (let both = sym fault.1 ∙ read in cc)
+not_bracketed version kind t a b = bracket_after version kind a.0 b.0 t a.1 (field_complete version kind b.0 _ b.1)
 
 pub comma_row : CommaRow
 unfolding read_field
 comma_row version kind t index h =
-    let text : t ≡ h.before ++ comma ∷ h.whitespace = h.text ∙ simp append_assoc in (
+    let text : t ≡ h.before ++ comma ∷ h.whitespace = h.text ∙ simp append_assoc in
+    let left : drop index t ≡ comma ∷ h.whitespace = ap (λ (n : ℕ). drop n t) h.here
+    ∙ ap (drop (length h.before)) text ∙ drop_at h.before (comma ∷ h.whitespace) _ refl in (
       h.raw,
-      ap (λ (l : List ℕ). ending (events kind) (whole_field_at version kind l)) text
-          ∙ ap (ending (events kind))
+      ap (λ (l : List ℕ). ending (events kind) (whole_field_at version kind l)) text ∙ ap (ending (events kind))
           (comma_after version kind h.raw h.before h.whitespace h.many h.member h.accepted h.blank)
-          ∙ ap (λ (l : List ℕ). Err (record {
-            kind = TrailingComma;
-            exact = false;
-            rest = l;
-            events = events kind h.raw ++ [];
-          })) (sym (ap (λ (n : ℕ). drop n t) h.here ∙ ap (drop (length h.before)) text
-          ∙ drop_at h.before (comma ∷ h.whitespace) _ refl))
-          ∙ ap (λ es. Err (record { kind = TrailingComma; exact = false; rest = drop index t; events = es }))
-          (append-nil (events kind h.raw)),
+          ∙ rw (left, append-nil) refl,
     )

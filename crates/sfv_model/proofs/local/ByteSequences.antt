@@ -1,9 +1,9 @@
 -- On how much of the text a Byte Sequence rests.
+use Rattle.std.proofs.lemmas.Bool.{not-true, and_parts, cases_Bool, true≢false}
 use Rattle.std.proofs.Common.{◌≡◌, ℕ, ◌<◌, ◌+◌, List, [], ◌∷◌, ◌++◌, length, take, drop, get_or, refl, sym, ◌∙◌, ap}
-use Rattle.std.proofs.Common.{subst, true, false, append_assoc, arith, inl, inr, Option, Some, None}
+use Rattle.std.proofs.Common.{true, append_assoc, arith, inl, inr, Option, Some, None}
 use Rattle.std.specs.Prelude.{not}
 use Rattle.std.specs.List.{list_all, list_any}
-use Rattle.std.proofs.lemmas.Bool.{and_parts, cases_Bool, true≢false}
 use Rattle.std.proofs.lemmas.List.{length-append, take_more, drop_more, drop-append-le, length-take-le}
 use Rattle.std.proofs.lemmas.List.{take-append-drop}
 use Rattle.std.proofs.lemmas.List.Folds.{list_all-append}
@@ -23,10 +23,7 @@ unfolding content_in
 content_on [] u h = refl
 content_on (c ∷ front) u h =
     let p = and_parts (not (is_colon c)) (list_all (λ c. not (is_colon c)) front) h in
-    let no : is_colon c ≡ false = elim (cases_Bool (is_colon c)) [
-      | inl y ↦ absurd (true≢false (sym (rw y at p.0)))
-      | inr n ↦ n
-    ] in
+    let no = not-true (is_colon c) p.0 in
     rw no (ap (λ (t : List ℕ). c ∷ t) (content_on front u p.1))
 
 apart_front : (m : ℕ) (content : List ℕ) → HasNoColon content → HasNoColon (take m content)
@@ -64,8 +61,7 @@ lasts_closed content rest (Some bytes) h e = (
   λ r i.
       rw (append_assoc content (colon ∷ []) r) (read_value content r bytes h e),
 )
-lasts_closed content rest None h e = λ l.
-    let t : List ℕ = content ++ colon ∷ rest in
+lasts_closed content rest None h e = λ l. let t = content ++ colon ∷ rest in
     let f = fault_at content l in
     let m : ℕ = valid_from 0 content in
     let d : ℕ = get_or content m 0 in
@@ -73,8 +69,7 @@ lasts_closed content rest None h e = λ l.
     rw f.1 (front_of m content (colon ∷ rest) (omega (arith, f.0))) in
     let more : take (m + 1) content ≡ take m content ++ d ∷ [] = take_more content m 0 f.0 in
     let after : drop (fault_place content) t ≡ d ∷ (drop (m + 1) content ++ colon ∷ rest) =
-    rw f.1 (drop-append-le m content (colon ∷ rest) (omega (arith, f.0))
-    ∙ ap (λ (u : List ℕ). u ++ colon ∷ rest) (drop_more content m 0 f.0)) in (
+    rw f.1 (simp (drop-append-le m content (colon ∷ rest) (omega (arith, f.0)), drop_more content m 0 f.0)) in (
       take (fault_place content) t,
       sym (take-append-drop (fault_place content) t),
       λ r i. elim r as (λ (r : List ℕ). first r ≡ first (drop (fault_place content) t)
@@ -85,7 +80,7 @@ lasts_closed content rest None h e = λ l.
                 let same : c ≡ d = cc in
                 let whole : take (fault_place content) t ++ c ∷ u ≡ take (m + 1) content ++ u =
                 rw (p, same, more) (sym (append_assoc (take m content) (d ∷ []) u)) in
-                subst (λ (x : List ℕ). IsFault (bytes_at x)) (sym whole) (fault_complete content u h f.0)
+                rw whole (fault_complete content u h f.0)
           ] i,
     )
 
@@ -97,9 +92,8 @@ Local-bytes = record {
         let s = content_split t y in
         let content : List ℕ = content_in t in
         let r : Lasts bytes_at (content ++ colon ∷ s.0) (bytes_at (content ++ colon ∷ s.0)) =
-        subst (λ a. Lasts bytes_at (content ++ colon ∷ s.0) a) (sym (read_closed content s.0 s.2))
-        (lasts_closed content s.0 (bytes_of content) s.2 refl) in
-        subst (λ (t : List ℕ). Lasts bytes_at t (bytes_at t)) (sym s.1) r
-    | inr n ↦ subst (λ a. Lasts bytes_at t a) (sym (read_unclosed t n)) (λ l. absurd (true≢false (sym l)))
+        rw (read_closed content s.0 s.2) (lasts_closed content s.0 (bytes_of content) s.2 refl) in
+        rw s.1 r
+    | inr n ↦ rw (read_unclosed t n) (λ l. absurd (true≢false (sym l)))
   ];
 }

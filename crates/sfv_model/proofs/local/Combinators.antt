@@ -1,9 +1,9 @@
 -- An answer rests on the bytes up to its place, and on the one that stands there.
 use Rattle.std.proofs.Common.{◌≡◌, ℕ, zero, suc, Bool, true, false, cond, List, [], ◌∷◌, ◌++◌, Option, Some, None, Ok}
-use Rattle.std.proofs.Common.{Err, refl, sym, ap, subst, ◌∙◌, append_assoc}
+use Rattle.std.proofs.Common.{Err, refl, sym, ap, ◌∙◌, append_assoc, inl, inr}
 use Rattle.sfv_spec.specs.Events.{TreeEvent}
 use Rattle.sfv_spec.specs.declared.error_kind.ErrorKind.{ErrorKind}
-use Rattle.std.proofs.lemmas.Bool.{true≢false}
+use Rattle.std.proofs.lemmas.Bool.{true≢false, cases_Bool}
 use Rattle.sfv_model.specs.Judgements.{Lasts, Local}
 use Rattle.sfv_model.specs.Reader.{first, Answer, Reader, after_events, and_then, give, fail, ruled, ◌>>=◌, bind}
 use Rattle.sfv_model.specs.Reader.{led_answer, led, branch, ahead, at_start, back, up_to, span}
@@ -54,8 +54,7 @@ pub after : {A : Type 0} (f g : Reader A) (p t : List ℕ) (a : Answer A) → La
     → Lasts f (p ++ t) a
 after f g p t (Ok x) h same = (
   p ++ h.0,
-  ap (λ (l : List ℕ). p ++ l) h.1
-      ∙ sym (append_assoc p h.0 x.1),
+  simp (h.1, append_assoc),
   λ r e. ap f (append_assoc p h.0 r) ∙ same h.0 x.1 h.1 r e ∙ h.2 r e,
 )
 after f g p t (Err x) h same = λ l. let w = h l in (
@@ -74,9 +73,8 @@ pub bind_on : {A B : Type 0} (f : Reader A) (g : A → Reader B) (t : List ℕ) 
     → ((v : A) → Local (g v)) → Lasts (f >>= g) t (and_then a g)
 unfolding bind
 bind_on f g t (Ok x) h k =
-    subst (λ (t : List ℕ). Lasts (f >>= g) t (g x.0 x.1)) (sym h.1)
-    (after (f >>= g) (g x.0) h.0 x.1 (g x.0 x.1) ((k x.0).lasts x.1) (λ p r e q i.
-    ap (λ a. and_then a g) (h.2 (p ++ q) (first_after p q r i ∙ ap first (sym e)))))
+    rw h.1 (after (f >>= g) (g x.0) h.0 x.1 (g x.0 x.1) ((k x.0).lasts x.1)
+    (λ p r e q i. ap (λ a. and_then a g) (h.2 (p ++ q) (first_after p q r i ∙ ap first (sym e)))))
 bind_on f g t (Err x) h k = λ l. let w = h l in (w.0, w.1, λ r e. let m = w.2 r e in (m.0, ap (λ a. and_then a g) m.1))
 
 pub Local-bind : {A B : Type 0} (f : Reader A) (g : A → Reader B) → Local f → ((v : A) → Local (g v)) → Local (f >>= g)
@@ -96,19 +94,17 @@ untaken class taken other (c ∷ r) h = rw (h c refl) refl
 pub Local-branch : {A : Type 0} (class : ℕ → Bool) (taken : ℕ → Reader A) (other : Reader A)
     → ((c : ℕ) → Local (taken c)) → Local other → Local (branch class taken other)
 unfolding branch
-Local-branch {A} class taken other h k =
-    let f : Reader A = branch class taken other in
-    let on : (b : Bool) (c : ℕ) (r : List ℕ) → class c ≡ b
-    → Lasts f (c ∷ r) (cond b (taken c r) (other (c ∷ r))) =
-    λ b c r. elim b as (λ (b : Bool). class c ≡ b → Lasts f (c ∷ r) (cond b (taken c r) (other (c ∷ r)))) [
-      | true ↦ λ e. after f (taken c) (c ∷ []) r (taken c r) ((h c).lasts r) (λ p q i s j. rw e refl)
-      | false ↦ λ e. instead f other (c ∷ r) (other (c ∷ r)) (k.lasts (c ∷ r))
-          (λ q i. untaken class taken other q (λ d j. let same : c ≡ d = cc in rw (← same) e))
-    ] in
-    let at : (t : List ℕ) → Lasts f t (f t) = λ t. elim t as (λ (t : List ℕ). Lasts f t (f t)) [
-      | [] ↦ instead f other [] (other []) (k.lasts []) (λ q i. untaken class taken other q (λ d j. absurd cc))
-      | c ∷ r ↦ on (class c) c r refl
-    ] in record { lasts = at }
+Local-branch {A} class taken other h k = record {
+  lasts = λ t. elim t as (λ (t : List ℕ). Lasts (branch class taken other) t (branch class taken other t)) [
+    | [] ↦ instead _ other [] (other []) (k.lasts []) (λ q i. untaken class taken other q (λ d j. absurd cc))
+    | c ∷ r ↦ elim (cases_Bool (class c)) [
+      | inl e ↦ rw e (after (branch class taken other) (taken c) (c ∷ []) r (taken c r) ((h c).lasts r)
+          (λ p q i s j. rw e refl))
+      | inr e ↦ rw e (instead (branch class taken other) other (c ∷ r) (other (c ∷ r)) (k.lasts (c ∷ r))
+          (λ q i. untaken class taken other q (λ d j. let same : c ≡ d = cc in rw (← same) e)))
+    ]
+  ];
+}
 
 pub looks : {A : Type 0} (class : ℕ → Bool) (taken other : Reader A) (q : List ℕ) (b : Bool) (c : ℕ) → class c ≡ b
     → first q ≡ Some c → ahead class taken other q ≡ cond b taken other q
@@ -130,20 +126,17 @@ nothing class taken other (d ∷ r) i = absurd cc
 pub Local-ahead : {A : Type 0} (class : ℕ → Bool) (taken other : Reader A) → Local taken → Local other
     → Local (ahead class taken other)
 unfolding ahead
-Local-ahead {A} class taken other h k =
-    let f : Reader A = ahead class taken other in
-    let on : (b : Bool) (c : ℕ) (r : List ℕ) → class c ≡ b
-    → Lasts f (c ∷ r) (cond b (taken (c ∷ r)) (other (c ∷ r))) =
-    λ b c r. elim b as (λ (b : Bool). class c ≡ b → Lasts f (c ∷ r) (cond b (taken (c ∷ r)) (other (c ∷ r)))) [
-      | true ↦ λ e. instead f taken (c ∷ r) (taken (c ∷ r)) (h.lasts (c ∷ r))
-          (λ q i. looks class taken other q true c e i)
-      | false ↦ λ e. instead f other (c ∷ r) (other (c ∷ r)) (k.lasts (c ∷ r))
-          (λ q i. looks class taken other q false c e i)
-    ] in
-    let at : (t : List ℕ) → Lasts f t (f t) = λ t. elim t as (λ (t : List ℕ). Lasts f t (f t)) [
-      | [] ↦ instead f other [] (other []) (k.lasts []) (λ q i. nothing class taken other q i)
-      | c ∷ r ↦ on (class c) c r refl
-    ] in record { lasts = at }
+Local-ahead {A} class taken other h k = record {
+  lasts = λ t. elim t as (λ (t : List ℕ). Lasts (ahead class taken other) t (ahead class taken other t)) [
+    | [] ↦ instead _ other [] (other []) (k.lasts []) (λ q i. nothing class taken other q i)
+    | c ∷ r ↦ elim (cases_Bool (class c)) [
+      | inl e ↦ rw e (instead (ahead class taken other) taken (c ∷ r) (taken (c ∷ r)) (h.lasts (c ∷ r))
+          (λ q i. looks class taken other q true c e i))
+      | inr e ↦ rw e (instead (ahead class taken other) other (c ∷ r) (other (c ∷ r)) (k.lasts (c ∷ r))
+          (λ q i. looks class taken other q false c e i))
+    ]
+  ];
+}
 
 back_on : {A : Type 0} (k : ErrorKind) (f : Reader (Option A)) (t : List ℕ) (a : Answer (Option A)) → Lasts f t a
     → Lasts (back k f) t (at_start k t a)
@@ -179,21 +172,14 @@ span_lasts class [] = ([], refl, λ r e. span_empty r e)
     span_empty : (r : List ℕ) → first r ≡ None → span class r ≡ Ok ([], r)
     span_empty [] e = refl
     span_empty (d ∷ q) e = absurd cc
-span_lasts class (c ∷ r) =
-    let more : Reader (List ℕ) = span class >>= λ cs. give (c ∷ cs) in
-    let on : (b : Bool) → class c ≡ b → Lasts (span class) (c ∷ r)
-    (cond b (and_then (span class r) (λ cs. give (c ∷ cs))) (Ok ([], c ∷ r))) =
-    λ b. elim b as (λ (b : Bool). class c ≡ b → Lasts (span class) (c ∷ r)
-    (cond b (and_then (span class r) (λ cs. give (c ∷ cs))) (Ok ([], c ∷ r)))) [
-      | true ↦ λ e. after (span class) more (c ∷ []) r (and_then (span class r) (λ cs. give (c ∷ cs)))
-          (bind_on (span class) (λ cs. give (c ∷ cs)) r (span class r) (span_lasts class r) (λ cs. Local-give (c ∷ cs)))
-          (λ p q i s j. rw e refl)
-      | false ↦ λ e. instead (span class) (give []) (c ∷ r) (Ok ([], c ∷ r)) (
-        [],
-        refl,
-        λ r e. refl,
-      ) (λ q i. span_none class c q e i)
-    ] in on (class c) refl
+span_lasts class (c ∷ r) = elim (cases_Bool (class c)) [
+  | inl e ↦ rw e (after (span class) (span class >>= λ cs. give (c ∷ cs)) (c ∷ []) r
+      (and_then (span class r) (λ cs. give (c ∷ cs)))
+      (bind_on (span class) (λ cs. give (c ∷ cs)) r (span class r) (span_lasts class r) (λ cs. Local-give (c ∷ cs)))
+      (λ p q i s j. rw e refl))
+  | inr e ↦ rw e (instead (span class) (give []) (c ∷ r) (Ok ([], c ∷ r)) ([], refl, λ r e. refl)
+      (λ q i. span_none class c q e i))
+]
 
 pub Local-span : (class : ℕ → Bool) → Local (span class)
 Local-span class = record { lasts = span_lasts class }

@@ -1,20 +1,18 @@
 -- On how much of the text a String and a Display String rest.
-use Rattle.std.proofs.Common.{◌≡◌, ℕ, Bool, true, false, cond, List, [], ◌∷◌, ◌++◌, Ok, Err, refl, sym, ap, ◌∙◌}
+use Rattle.std.proofs.Common.{inl, inr, ◌≡◌, ℕ, Bool, true, false, List, [], ◌∷◌, ◌++◌, Ok, Err, refl, sym, ap, ◌∙◌}
 use Rattle.std.proofs.Common.{append_assoc}
 use Rattle.std.specs.List.{concat, AllZip}
 use Rattle.std.specs.Str.{is_utf8}
-use Rattle.std.specs.Str.Lossy.{utf8_valid_len}
-use Rattle.std.proofs.lemmas.Bool.{true≢false}
+use Rattle.std.proofs.lemmas.Bool.{cases_Bool, true≢false}
 use Rattle.std.proofs.lemmas.List.{append-nil}
 use Rattle.std.proofs.lemmas.Str.{IsUtf8-from_is_utf8}
 use Rattle.sfv_spec.proofs.Marks.{double_quote}
 use Rattle.sfv_spec.specs.Strings.{IsStringPiece, IsDisplayPiece}
 use Rattle.sfv_spec.specs.declared.error_kind.ErrorKind.{ErrorKind}
-use Rattle.sfv_spec.specs.declared.error_kind.ErrorKind.TheVariants.{InvalidUtf8InDisplayString}
-use Rattle.sfv_model.specs.Reader.{first, Fault, Answer, Reader, placed, by_rule}
+use Rattle.sfv_model.specs.Reader.{first, Fault, Answer, Reader, placed}
 use Rattle.sfv_model.specs.Judgements.{Lasts, Local, with_rest, Stays, StaysButText}
-use Rattle.sfv_model.specs.Quoted.{after_bytes, string_at, outside, pieces_from, after_pieces, checked, display_at}
-use Rattle.sfv_model.specs.Quoted.{StringStops, DisplayStops, Traced}
+use Rattle.sfv_model.specs.Quoted.{after_bytes, string_at, outside, pieces_from, checked, display_at, StringStops}
+use Rattle.sfv_model.specs.Quoted.{DisplayStops, Traced}
 use Rattle.sfv_model.proofs.quoted.Traces.{Ends, trace_of_string, trace_of_display}
 use Rattle.sfv_model.proofs.quoted.Pieces.{past_string, past_display, quote_string, quote_display, string_stops}
 use Rattle.sfv_model.proofs.quoted.Pieces.{display_stops, string_stops_whole, display_stops_whole}
@@ -32,21 +30,15 @@ stays : (exact : Bool) (P : ℕ → List ℕ → Type 0) (Stops : ErrorKind → 
     → (t : List ℕ) (a : Answer (List ℕ)) → Traced P t (Ends exact Stops a) → Stays f t a
 stays exact P Stops f past quote stop again t (Ok x) h = (
   concat h.pieces ++ double_quote ∷ [],
-  h.text ∙ ap (λ (l : List ℕ). concat h.pieces ++ l) h.ends.1
-      ∙ sym (append_assoc (concat h.pieces) (double_quote ∷ []) x.1),
-  λ r.
-      ap f (append_assoc (concat h.pieces) (double_quote ∷ []) r) ∙ past h.bytes h.pieces (double_quote ∷ r) h.content
-      ∙ ap (after_bytes h.bytes) (quote r)
-      ∙ ap (λ (l : List ℕ). Ok (l, r)) (append-nil h.bytes ∙ sym h.ends.0),
+  cc (h.text, h.ends.1, append_assoc (concat h.pieces) (double_quote ∷ []) x.1),
+  λ r. simp (append_assoc, past h.bytes h.pieces (double_quote ∷ r) h.content, quote r, append-nil, h.ends.0),
 )
 stays exact P Stops f past quote stop again t (Err e) h =
     let w = again e.kind h.left e.rest h.ends.1 in (
       concat h.pieces ++ w.0,
       h.text ∙ ap (λ (l : List ℕ). concat h.pieces ++ l) w.1 ∙ sym (append_assoc (concat h.pieces) w.0 e.rest),
-      λ r i.
-          ap f (append_assoc (concat h.pieces) w.0 r) ∙ past h.bytes h.pieces (w.0 ++ r) h.content
-          ∙ ap (after_bytes h.bytes) (stop e.kind (w.0 ++ r) r (w.2 r i))
-          ∙ ap (λ (e : Fault). Err (with_rest e r)) (sym h.ends.0),
+      λ r i. rw (append_assoc, past h.bytes h.pieces (w.0 ++ r) h.content, stop e.kind (w.0 ++ r) r (w.2 r i), h.ends.0)
+          refl,
     )
 
 pub lasts_from : {A : Type 0} (f : Reader A) (t : List ℕ) (a : Answer A) → Stays f t a → Lasts f t a
@@ -70,18 +62,10 @@ display_stays_on : (t : List ℕ) (a : Answer (List ℕ)) → Stays (pieces_from
     → StaysButText display_at t (checked t a)
 unfolding display_at
 display_stays_on t (Err e) h = λ n. (h.0, h.1, λ r i. ap (checked (h.0 ++ r)) (h.2 r i))
-display_stays_on t (Ok x) h =
-    let wrong : Answer (List ℕ) = Err (by_rule InvalidUtf8InDisplayString (after_pieces (utf8_valid_len x.0) t)) in
-    let on : (b : Bool) → is_utf8 x.0 ≡ b → StaysButText display_at t (cond b (Ok x) wrong) =
-    λ b. elim b as (λ (b : Bool). is_utf8 x.0 ≡ b → StaysButText display_at t (cond b (Ok x) wrong)) [
-      | true ↦ λ e. (
-        h.0,
-        h.1,
-        λ r. ap (checked (h.0 ++ r)) (h.2 r)
-            ∙ passes (h.0 ++ r) x.0 r (IsUtf8-from_is_utf8 x.0 e),
-      )
-      | false ↦ λ e n. absurd (n refl)
-    ] in on (is_utf8 x.0) refl
+display_stays_on t (Ok x) h = elim (cases_Bool (is_utf8 x.0)) [
+  | inl e ↦ rw e (h.0, h.1, λ r. simp (h.2 r, passes (h.0 ++ r) x.0 r (IsUtf8-from_is_utf8 x.0 e)))
+  | inr e ↦ rw e (λ n. absurd (n refl))
+]
 
 pub display_stays : (t : List ℕ) → StaysButText display_at t (display_at t)
 unfolding display_at

@@ -3,8 +3,7 @@ use Rattle.std.proofs.Common.{◌≡◌, ℕ, Bool, true, false, List, [], ◌�
 use Rattle.std.proofs.Common.{subst, ◌∙◌, append_assoc, arith, inl, inr, ◌⊎◌, length-drop}
 use Rattle.std.specs.Prelude.{codes}
 use Rattle.std.proofs.lemmas.List.{append-nil, take_at, drop_at, length-append}
-use Rattle.sfv_spec.proofs.Marks.{space, asterisk}
-use Rattle.sfv_spec.proofs.Marks.{comma, digit_one, question_mark}
+use Rattle.sfv_spec.proofs.Marks.{space, asterisk, comma, digit_one, question_mark}
 use Rattle.sfv_spec.specs.Values.{RawField, BareValue}
 use Rattle.sfv_spec.specs.declared.field_kind.FieldKind.{FieldKind}
 use Rattle.sfv_spec.specs.declared.field_kind.FieldKind.TheVariants.{Item as item_field, List as list_field}
@@ -16,9 +15,9 @@ use Rattle.sfv_spec.specs.Reach.{BeginsAccepted, WantsBareItem, WantsKey}
 use Rattle.sfv_spec.specs.declared.error_kind.ErrorKind.{ErrorKind}
 use Rattle.sfv_spec.specs.declared.error_kind.ErrorKind.TheVariants.{TrailingComma, TrailingCharactersAfterMember}
 use Rattle.sfv_spec.specs.declared.error_kind.ErrorKind.TheVariants.{TrailingCharactersAfterParsedValue}
-use Rattle.sfv_spec.specs.declared.error_kind.ErrorKind.TheVariants.{ExpectedInnerListDelimiter}
+use Rattle.sfv_spec.specs.declared.error_kind.ErrorKind.TheVariants.{ExpectedInnerListDelimiter, UnterminatedInnerList}
+use Rattle.sfv_spec.specs.declared.error_kind.ErrorKind.TheVariants.{ExpectedStartOfKey}
 use Rattle.sfv_spec.specs.Faults.{WantedFault, delimiter, end}
-use Rattle.sfv_spec.specs.declared.error_kind.ErrorKind.TheVariants.{UnterminatedInnerList, ExpectedStartOfKey}
 use Rattle.sfv_model.specs.Judgements.{Reached, IsFault}
 use Rattle.sfv_model.specs.Reader.{Fault, Answer, fail, give, bind, branch, span}
 use Rattle.sfv_model.specs.Bare.{boolean_at, bare_at}
@@ -30,7 +29,7 @@ use Rattle.sfv_model.proofs.Theorems.{read_is_accepted, fault_is_placed}
 use Rattle.sfv_model.proofs.TrailingBytes.{key_fault, comes_from}
 use Rattle.sfv_model.proofs.sound.Combinators.{Somewhere}
 use Rattle.sfv_model.proofs.sound.Fields.{FieldGoes, Sound-field}
-use Rattle.sfv_model.proofs.faults.ItemEnds.{IsTight, not_last}
+use Rattle.sfv_model.proofs.faults.ItemEnds.{not_last}
 use Rattle.sfv_model.proofs.faults.BetweenInnerItems.{Stands, IsLastComma}
 use Rattle.sfv_model.proofs.faults.TrailingCommas.{not_item}
 use Rattle.sfv_model.proofs.faults.Fields.{HasMembers, field_rules}
@@ -46,14 +45,8 @@ begins_to version kind u r e i exact rest =
     let p : IsPlacedFault version kind (u ++ r) e = fault_is_placed version kind (u ++ r) e i in
     let h = p.exact exact in
     let size : length (drop h.0 (u ++ r)) ≡ length r = ap (length {A = ℕ}) (h.1 ∙ rest) in
-    let n : h.0 ≡ length u = omega (
-      arith,
-      size,
-      length-drop h.0 (u ++ r),
-      length-append u r,
-      h.2.within,
-    ) in
-    subst (BeginsAccepted version kind) (take_at u r h.0 (sym n)) h.2.holds
+    let n : h.0 ≡ length u = omega (arith, h.2.within, length-drop {A = ℕ}, length-append {A = ℕ}) in
+    rw (← take_at u r h.0 (sym n)) h.2.holds
 
 -- a fault of the readers is one of the field
 pub ends_faulty : (version : Version) (kind : FieldKind) (t : List ℕ) (e : Fault) → whole_field_at version kind t
@@ -86,8 +79,8 @@ pub wants_bare : (version : Version) (kind : FieldKind) (u : List ℕ)
     → Calls version bare (whole_field_at version kind) u → WantsBareItem version kind u
 unfolding bare_at boolean_at branch fail give
 wants_bare version kind u h = record {
-  true_follows = begins_stuck version kind (u ++ codes "?1") (subst (λ (l : List ℕ). Stuck (whole_field_at version kind l))
-      (sym (append_assoc u (codes "?1") (0 ∷ []))) (h.follows question_mark (codes "1" ++ 0 ∷ []) refl refl));
+  true_follows = begins_stuck version kind (u ++ codes "?1")
+      (rw (append_assoc u (codes "?1") (0 ∷ [])) (h.follows question_mark (codes "1" ++ 0 ∷ []) refl refl));
   not_in_string = λ b. not_accepted version kind ((u ++ codes "((") ++ b.0)
       (let m = h.barred b.0 in (m.0, ap (whole_field_at version kind) (append_assoc u (codes "((") b.0) ∙ m.1)) b.1;
 }
@@ -96,8 +89,8 @@ pub wants_key : (version : Version) (kind : FieldKind) (u : List ℕ)
     → Calls version key (whole_field_at version kind) u → WantsKey version kind u
 unfolding key_at branch fail span bind give
 wants_key version kind u h = record {
-  key_follows = begins_stuck version kind (u ++ codes "*") (subst (λ (l : List ℕ). Stuck (whole_field_at version kind l))
-      (sym (append_assoc u (codes "*") (0 ∷ []))) (h.follows asterisk (0 ∷ []) refl refl));
+  key_follows = begins_stuck version kind (u ++ codes "*")
+      (rw (append_assoc u (codes "*") (0 ∷ [])) (h.follows asterisk (0 ∷ []) refl refl));
   not_in_word = λ b. not_accepted version kind ((u ++ codes "1") ++ b.0)
       (let m = h.follows digit_one b.0 refl in
       (m.0, ap (whole_field_at version kind) (append_assoc u (codes "1") b.0) ∙ m.1)) b.1;
@@ -139,7 +132,7 @@ by_kind version kind t e ExpectedInnerListDelimiter true i x h s = inr (inr (
   inl (record {
     before = s.front;
     text = s.text;
-    wanted = subst (WantedFault version kind s.front) (sym i) (delimiter (s.longer refl));
+    wanted = rw i (delimiter (s.longer refl));
   }),
 ))
 by_kind version kind t e UnterminatedInnerList true i x h s =
@@ -150,7 +143,7 @@ by_kind version kind t e UnterminatedInnerList true i x h s =
         kind_of = i;
         rest = s.ends refl;
         closes = subst (λ (l : List ℕ). IsAccepted version kind (l ++ codes ")")) (sym whole) s.closes;
-        no_space = λ u. not_last space t u (subst (IsTight space) (sym whole) s.tight);
+        no_space = λ u. not_last space t u (rw whole s.tight);
       }),
     ))
 by_kind version kind t e TrailingCharactersAfterMember true i x h s = inr (inr (
@@ -158,8 +151,7 @@ by_kind version kind t e TrailingCharactersAfterMember true i x h s = inr (inr (
   inl (record {
     before = s.front;
     text = s.text;
-    wanted = subst (WantedFault version kind s.front) (sym i)
-        (WantedFault.comma s.value (not_item kind s.has.0) s.means s.has.1);
+    wanted = rw i (WantedFault.comma s.value (not_item kind s.has.0) s.means s.has.1);
   }),
 ))
 by_kind version kind t e TrailingComma false i x h s = inr (inl (at_comma version kind t e s i x))
@@ -179,7 +171,7 @@ of_key version kind t before s e parts c m = on (key_at s) refl m
           inl (record {
             before = before;
             text = parts ∙ ap (λ (l : List ℕ). before ++ l) (ap (λ (e : Fault). e.rest) same ∙ m.rest);
-            wanted = subst (WantedFault version kind before) k (WantedFault.key (wants_key version kind before c));
+            wanted = rw (← k) (WantedFault.key (wants_key version kind before c));
           }),
         ))
 
@@ -237,7 +229,7 @@ bare_is_wanted version kind t e i = on (whole_field_at version kind t) refl ((So
           inl (record {
             before = s.0;
             text = s.1 ∙ ap (λ (l : List ℕ). s.0 ++ l) (ap (λ (e : Fault). e.rest) same);
-            wanted = subst (WantedFault version kind s.0) k (after_item version kind v t s.0 r c j s.2);
+            wanted = rw (← k) (after_item version kind v t s.0 r c j s.2);
           }),
         ))
     on (Err x) j s h =

@@ -1,15 +1,14 @@
 -- A reader calls the reader of bare items, or of keys, after some text.
-use Rattle.std.proofs.Common.{◌≡◌, ℕ, Bool, true, false, eqb, ◌||◌, List, [], ◌∷◌, ◌++◌, Ok, Err, refl, sym, ap, subst}
-use Rattle.std.proofs.Common.{◌∙◌, append_assoc}
+use Rattle.std.proofs.Common.{◌≡◌, ℕ, Bool, true, false, eqb, ◌||◌, List, [], ◌∷◌, ◌++◌, Ok, Err, refl, ap, ◌∙◌}
+use Rattle.std.proofs.Common.{append_assoc}
 use Rattle.std.proofs.lemmas.Bool.{or_parts}
-use Rattle.sfv_spec.proofs.Marks.{left_parenthesis, right_parenthesis}
-use Rattle.sfv_spec.proofs.Marks.{is_space_or_tab}
+use Rattle.sfv_spec.proofs.Marks.{left_parenthesis, right_parenthesis, is_space_or_tab}
 use Rattle.sfv_spec.specs.Values.{BareValue}
 use Rattle.sfv_spec.specs.declared.version.Version.{Version}
 use Rattle.sfv_spec.specs.Events.{TreeEvent}
 use Rattle.sfv_model.specs.Judgements.{IsFault}
-use Rattle.sfv_model.specs.Reader.{Fault, Answer, Reader, after_events, and_then, ◌>>=◌, bind, led_answer, led}
-use Rattle.sfv_model.specs.Reader.{branch, ahead, fail}
+use Rattle.sfv_model.specs.Reader.{Fault, Answer, Reader, after_events, and_then, ◌>>=◌, bind, led_answer, led, branch}
+use Rattle.sfv_model.specs.Reader.{ahead, fail}
 use Rattle.sfv_model.specs.Bare.{token_at, bare_at}
 use Rattle.sfv_model.specs.Items.{key_at}
 use Rattle.sfv_model.specs.Places.{IsLike}
@@ -70,14 +69,11 @@ pub calls_as : {A : Type 0} (version : Version) (leaf : Leaf) (f g : Reader A) (
     → ((c : ℕ) (r : List ℕ) → is_space_or_tab c ≡ false → f (p ++ (u ++ c ∷ r)) ≡ g (u ++ c ∷ r))
     → Calls version leaf f (p ++ u)
 calls_as version leaf f g p u h same = record {
-  follows = λ c r b.
-      subst (λ a. Follows (leaf_at version leaf (c ∷ r)) a)
-      (sym (ap f (append_assoc p u (c ∷ r)) ∙ same c r (no_blank leaf c b))) (h.follows c r b);
+  follows = λ c r b. rw (ap f (append_assoc p u (c ∷ r)) ∙ same c r (no_blank leaf c b)) (h.follows c r b);
   barred = λ r.
       let m = h.barred r in (
         m.0,
-        ap f (append_assoc p u (left_parenthesis ∷ left_parenthesis ∷ r))
-            ∙ same left_parenthesis (left_parenthesis ∷ r) refl ∙ m.1,
+        simp (append_assoc, same left_parenthesis (left_parenthesis ∷ r) refl, m.1),
       );
 }
 
@@ -104,7 +100,7 @@ calls_led version leaf es f u h = record {
 
 pub stuck_bind : {A B : Type 0} (g : A → Reader B) (b : Answer A) → ((v : A) → Stuck (g v (0 ∷ []))) → Stuck b
     → Stuck (and_then b g)
-stuck_bind g (Ok x) s h = subst (λ (l : List ℕ). Stuck (g x.0 l)) (sym h) (s x.0)
+stuck_bind g (Ok x) s h = rw h (s x.0)
 stuck_bind g (Err e) s h = h
 
 follows_bind : {A B C : Type 0} (g : B → Reader C) (a : Answer A) (b : Answer B) → ((v : B) → Stuck (g v (0 ∷ [])))

@@ -1,65 +1,46 @@
 -- What the readers of parameters, items and members call.
-use Rattle.std.proofs.Common.{◌≡◌, ℕ, Bool, true, false, eqb, ◌||◌, List, [], ◌∷◌, ◌++◌, Option, Some, None, Ok, Err}
-use Rattle.std.proofs.Common.{refl, inl, inr}
-use Rattle.std.proofs.Common.{sym, ap, subst, ◌∙◌}
-use Rattle.std.proofs.lemmas.Bool.{true≢false, cases_Bool, or_left, or_parts}
-use Rattle.sfv_spec.proofs.Marks.{space, tab}
-use Rattle.sfv_spec.proofs.Marks.{comma, left_parenthesis, right_parenthesis}
+use Rattle.sfv_model.proofs.sound.Combinators.{sound_at, run_cons, Found, Sound-back, Steady-span, Reads, Goes}
+use Rattle.std.proofs.lemmas.Bool.Decides.{nat_tests}
+use Rattle.std.proofs.Common.{◌≡◌, ℕ, Bool, true, false, eqb, List, [], ◌∷◌, ◌++◌, Option, Some, None, Ok, Err, refl}
+use Rattle.std.proofs.Common.{inl, inr, sym, ap, subst, ◌∙◌, length, arith}
+use Rattle.std.proofs.lemmas.Bool.{cases_Bool, or_left}
+use Rattle.sfv_spec.proofs.Marks.{space, tab, comma, left_parenthesis, right_parenthesis, is_space, is_space_or_tab}
+use Rattle.sfv_spec.proofs.Marks.{true_with}
 use Rattle.sfv_spec.specs.Texts.{RunOf}
-use Rattle.sfv_spec.proofs.Marks.{is_space, is_space_or_tab}
-use Rattle.sfv_spec.specs.Values.{RawParameters}
+use Rattle.sfv_spec.specs.Values.{RawParameters, RawItem}
 use Rattle.sfv_spec.specs.declared.version.Version.{Version}
-use Rattle.sfv_spec.specs.Events.{TreeEvent, inner_item_events}
-use Rattle.sfv_spec.specs.declared.error_kind.ErrorKind.TheVariants.{TrailingComma}
+use Rattle.sfv_spec.specs.Events.{TreeEvent, inner_item_events, entry_events, keyed_events}
+use Rattle.sfv_spec.specs.declared.error_kind.ErrorKind.TheVariants.{TrailingComma, UnterminatedInnerList}
 use Rattle.sfv_model.specs.Judgements.{Reached, Local, IsFault}
-use Rattle.sfv_model.specs.Reader.{Fault, Answer, Reader, at_start, give, fail, ◌>>=◌, bind, led, branch, ahead}
-use Rattle.sfv_model.specs.Reader.{back, span}
-use Rattle.sfv_model.specs.Reader.{many_within, many, byte}
+use Rattle.sfv_model.specs.Reader.{Fault, Answer, Reader, at_start, give, fail, ◌>>=◌, bind, led, branch, ahead, back}
+use Rattle.sfv_model.specs.Reader.{span, many_within, many, byte, at_reach, one_and_more}
 use Rattle.sfv_model.specs.Bare.{token_at, bare_at}
-use Rattle.sfv_model.specs.Items.{key_at, value_at, parameter_at, parameter_event, parameters_at, item_of, item_at}
+use Rattle.sfv_model.specs.Items.{value_at, parameter_at, parameter_event, parameters_at, item_of, item_at}
 use Rattle.sfv_model.specs.Members.{inner_item_at, next_item_at, inner_items_at, inner_at, member_at, entry_at}
-use Rattle.sfv_model.specs.Members.{member_value_at, keyed_at}
+use Rattle.sfv_model.specs.Members.{member_value_at, keyed_at, inner_of}
 use Rattle.sfv_model.specs.Fields.{comma_at, next_at, members_at, whole_field_at}
-use Rattle.sfv_spec.specs.Values.{RawItem}
 use Rattle.sfv_spec.specs.declared.field_kind.FieldKind.{FieldKind}
 use Rattle.sfv_spec.specs.declared.field_kind.FieldKind.TheVariants.{Item as item_field, List as list_field}
 use Rattle.sfv_spec.specs.declared.field_kind.FieldKind.TheVariants.{Dictionary as dictionary_field}
-use Rattle.sfv_spec.specs.Events.{entry_events, keyed_events}
 use Rattle.sfv_spec.specs.Grammar.{IsMemberText, IsDictionaryMemberText}
-use Rattle.sfv_spec.proofs.Marks.{true_with}
-use Rattle.sfv_spec.specs.declared.error_kind.ErrorKind.TheVariants.{UnterminatedInnerList}
-use Rattle.sfv_model.specs.Reader.{at_reach, one_and_more}
-use Rattle.sfv_model.specs.Members.{inner_of}
-use Rattle.sfv_model.proofs.sound.Members.{Sound-entry, Sound-keyed}
+use Rattle.sfv_model.proofs.sound.Members.{Sound-entry, Sound-keyed, Consumes-next_item}
 use Rattle.sfv_model.proofs.sound.Many.{Local-many}
-use Rattle.sfv_model.proofs.local.Members.{Local-entry, Local-keyed}
-use Rattle.std.proofs.Common.{length, arith}
+use Rattle.sfv_model.proofs.local.Members.{Local-entry, Local-keyed, Local-inner_item, Local-next_item}
+use Rattle.sfv_model.proofs.local.Members.{Local-next_items, Local-items, Local-member_value}
 use Rattle.std.proofs.lemmas.List.{length-append}
-use Rattle.sfv_model.proofs.sound.Combinators.{run_head, run_tail, run_cons, Found, Sound-back, Steady-span, Reads}
-use Rattle.sfv_model.proofs.sound.Combinators.{Goes}
 use Rattle.sfv_model.proofs.sound.Items.{Consumes-parameter}
-use Rattle.sfv_model.proofs.sound.Members.{Consumes-next_item}
 use Rattle.sfv_model.proofs.sound.Separated.{IsComma, Sound-comma, Consumes-next, Local-next}
 use Rattle.sfv_model.proofs.local.Combinators.{local_rules, Local-span}
 use Rattle.sfv_model.proofs.local.Items.{Local-key, Local-value, Local-parameter, Local-parameters, Local-item}
 use Rattle.sfv_model.proofs.local.Bare.{Local-bare}
-use Rattle.sfv_model.proofs.local.Members.{Local-inner_item, Local-next_item, Local-next_items, Local-items}
-use Rattle.sfv_model.proofs.local.Members.{Local-member_value}
-use Rattle.sfv_model.proofs.complete.Combinators.{Apart-cons, span_complete, back_complete, branch_take}
-use Rattle.sfv_model.proofs.complete.Combinators.{bind_complete}
+use Rattle.sfv_model.proofs.complete.Combinators.{Apart-cons, span_complete, back_complete, branch_take, bind_complete}
 use Rattle.sfv_model.proofs.complete.Combinators.{ahead_any}
+use Rattle.sfv_model.proofs.texts.Ranges.{run_weaker}
 use Rattle.sfv_model.proofs.places.Calls.{Leaf, bare, key, blocked, Stuck, stuck_led, stuck_bind}
-use Rattle.sfv_model.proofs.places.FaultsOfCalls.{Mark, Met, Other, met_fail, met_give, Elsewhere, Never, Only, is_skipped}
-use Rattle.sfv_model.proofs.places.FaultsOfCalls.{Skips, Walk, Walk-weaker, Walk-bare}
-use Rattle.sfv_model.proofs.places.FaultsOfCalls.{Walk-key, Walk-give, Walk-fail, Walk-led, Walk-bind, Walk-skip}
-use Rattle.sfv_model.proofs.places.FaultsOfCalls.{Walk-skip_some, Walk-branch}
-use Rattle.sfv_model.proofs.places.FaultsOfCalls.{Walk-branch_never, Walk-any, Walk-ahead, Walk-many}
-
-run_weaker : (class more : ℕ → Bool) → ((c : ℕ) → class c ≡ true → more c ≡ true) → (t : List ℕ) → RunOf class t
-    → RunOf more t
-run_weaker class more h [] each = refl
-run_weaker class more h (c ∷ t) each =
-    run_cons more c t (h c (run_head class c t each)) (run_weaker class more h t (run_tail class c t each))
+use Rattle.sfv_model.proofs.places.FaultsOfCalls.{Mark, Met, Other, met_fail, met_give, Elsewhere, Never, Only}
+use Rattle.sfv_model.proofs.places.FaultsOfCalls.{is_skipped, Skips, Walk, Walk-weaker, Walk-bare, Walk-key, Walk-give}
+use Rattle.sfv_model.proofs.places.FaultsOfCalls.{Walk-fail, Walk-led, Walk-bind, Walk-skip, Walk-skip_some}
+use Rattle.sfv_model.proofs.places.FaultsOfCalls.{Walk-branch, Walk-branch_never, Walk-any, Walk-ahead, Walk-many}
 
 -- a run of blanks
 pub skips_span : (class : ℕ → Bool) → ((c : ℕ) → class c ≡ true → is_space_or_tab c ≡ true) → Skips (span class)
@@ -67,18 +48,14 @@ skips_span class h = record {
   skips = λ t r v i.
       let m = (Steady-span class).steady t in
       let pairs : (v, r) ≡ (m.1, m.2) = cc in
-      let same : v ≡ m.1 = ap (λ (x : List ℕ × List ℕ). x.0) pairs in
-      let rest : r ≡ m.2 = ap (λ (x : List ℕ × List ℕ). x.1) pairs in
+      let same = ap (λ (x : List ℕ × List ℕ). x.0) pairs in
+      let rest = ap (λ (x : List ℕ × List ℕ). x.1) pairs in
       let text : m.0 ≡ v = m.5.0 ∙ sym same in (
         v,
-        m.4 ∙ ap (λ (l : List ℕ). l ++ m.2) text ∙ ap (λ (l : List ℕ). v ++ l) (sym rest),
-        run_weaker class is_skipped (λ c e. or_left (is_space_or_tab c) (eqb c comma) (h c e)) v
-            (subst (RunOf class) (sym same) m.5.1),
-        λ c q none. span_complete class v (c ∷ q) (subst (RunOf class) (sym same) m.5.1)
-            (Apart-cons class c q (elim (cases_Bool (class c)) [
-              | inl y ↦ absurd (true≢false (sym (h c y) ∙ none))
-              | inr n ↦ n
-            ])),
+        cc,
+        run_weaker class is_skipped (λ c e. or_left (is_space_or_tab c) (eqb c comma) (h c e)) v (rw same m.5.1),
+        λ c q none. span_complete class v (c ∷ q) (rw same m.5.1) (Apart-cons class c q
+            (elim (cases_Bool (class c)) [ inl y ↦ let is = h c y in absurd cc | inr n ↦ n ])),
       );
   faults = λ t e i. let m = (Steady-span class).steady t in absurd cc;
 }
@@ -95,7 +72,7 @@ comma_at_start : (t : List ℕ) (e : Fault) (a : Answer (Option (Unit {0})))
 comma_at_start t e (Ok (Some v, r)) h i = absurd cc
 comma_at_start t e (Ok (None, r)) h i =
     let same : record { kind = TrailingComma; exact = false; rest = t; events = [] } ≡ e = cc in
-    subst (λ (e : Fault). Elsewhere e.kind e.exact) same tt
+    rw (← same) tt
 comma_at_start t e (Err x) h i = elim (cases_Bool x.exact) [
   | inl y ↦ absurd ((h.0 y).holds)
   | inr n ↦ absurd ((h.1 n).0)
@@ -113,8 +90,8 @@ comma_again after each c q none = back_complete _ _ _ _ _ (branch_take _ _ _ com
 
 comma_read : (t r : List ℕ) (v : Unit {0}) → comma_and_more t ≡ Ok (v, r)
     → (s : List ℕ) × (t ≡ s ++ r) × IsComma v s
-comma_read t r v i = subst (λ a. Reached IsComma (λ _ _. Unit {0}) (λ _. Unit {0}) t a) i
-    ((Sound-back TrailingComma comma_at IsComma _ _ refl tt (Sound-comma _ _)).sound t)
+comma_read t r v i = sound_at (Sound-back TrailingComma comma_at IsComma (λ _ _. Unit {0}) (λ _. Unit {0}) refl tt
+    (Sound-comma _ _)) t _ i
 
 skips_comma : Skips comma_and_more
 unfolding back
@@ -124,7 +101,7 @@ skips_comma = record {
       let w : List ℕ = m.2.back in
       let text : m.0 ≡ comma ∷ w = m.2.text ∙ ap (λ (l : List ℕ). l ++ w) m.2.first in (
         comma ∷ w,
-        m.1 ∙ ap (λ (l : List ℕ). l ++ r) text,
+        cc (m.1, text),
         run_cons is_skipped comma w refl (run_weaker is_space_or_tab is_skipped
             (λ c e. or_left (is_space_or_tab c) (eqb c comma) e) w m.2.second),
         λ c q none. comma_again w m.2.second c q none,
@@ -138,8 +115,9 @@ comma_some r v i =
     omega (
       arith,
       ap (length {A = ℕ}) m.1,
-      length-append m.0 r,
-      ap (length {A = ℕ}) (m.2.text ∙ ap (λ (l : List ℕ). l ++ m.2.back) m.2.first),
+      ap (length {A = ℕ})
+          (m.2.text ∙ ap (λ (l : List ℕ). l ++ m.2.back) m.2.first),
+      length-append {A = ℕ},
     )
 
 pub Local-comma : Local comma_and_more
@@ -191,63 +169,54 @@ met_nothing mark v m = absurd (met_give mark [] v m)
 abbrev pub Ever : Leaf → Type 0
 Ever leaf = Unit {0}
 
+-- parameters, of which a value is made
+pub stuck_last : (version : Version) {A : Type 0} (make : RawParameters → A)
+    → Stuck ((parameters_at version >>= λ ps. give (make ps)) (0 ∷ []))
+unfolding parameters_at
+stuck_last version make = stuck_then _ _ (stuck_parameters version) (λ ps. stuck_give _)
+
+pub stuck-member_value : (version : Version) → Stuck (member_value_at version (0 ∷ []))
+unfolding member_value_at branch
+stuck-member_value version = stuck_after _ _ (stuck_last version true_with)
+
 module _ (version : Version) (mark : Mark) where
   walk-value : Walk version mark (value_at version) Never
   unfolding value_at
-  walk-value = Walk-branch_never version mark _ _ _ _ (refl, refl) (λ _ _. Walk-bare version mark)
-      (Walk-give version mark _ _)
+  walk-value = Walk-branch_never (refl, refl) (λ _ _. Walk-bare) (Walk-give _)
 
   walk-parameter : Walk version mark (parameter_at version) Never
   unfolding parameter_at
-  walk-parameter = Walk-branch_never version mark _ _ _ _ (refl, refl)
-      (λ _ _. Walk-skip version mark _ _ _ skips_spaces (Local-span _)
-      (λ _. Walk-bind version mark key_at _ _ (Walk-key version mark) Local-key
-      (λ k. Walk-bind version mark (value_at version) _ _ walk-value (Local-value version)
-      (λ v. Walk-give version mark _ _) (λ v. stuck_give _))
+  walk-parameter = Walk-branch_never (refl, refl)
+      (λ _ _. Walk-skip skips_spaces (Local-span _) (λ _. Walk-bind Walk-key Local-key
+      (λ k. Walk-bind walk-value (Local-value version) (λ v. Walk-give _) (λ v. stuck_give _))
       (λ k. stuck_then _ _ (stuck_value version) (λ v. stuck_give _))))
-      (Walk-give version mark _ _)
+      (Walk-give _)
 
   walk-parameters : Walk version mark (parameters_at version) Never
   unfolding parameters_at
-  walk-parameters = Walk-many version mark parameter_event (parameter_at version) (Consumes-parameter version)
+  walk-parameters = Walk-many parameter_event (parameter_at version) (Consumes-parameter version)
       (Local-parameter version) walk-parameter (stuck_parameters version)
 
   -- parameters, of which a value is made
   walk-last : {A : Type 0} (make : RawParameters → A)
       → Walk version mark (parameters_at version >>= λ ps. give (make ps)) Never
-  walk-last make = Walk-bind version mark (parameters_at version) _ _ walk-parameters (Local-parameters version)
-      (λ ps. Walk-give version mark _ _) (λ ps. stuck_give _)
-
-  pub stuck_last : {A : Type 0} (make : RawParameters → A)
-      → Stuck ((parameters_at version >>= λ ps. give (make ps)) (0 ∷ []))
-  unfolding parameters_at
-  stuck_last make = stuck_then _ _ (stuck_parameters version) (λ ps. stuck_give _)
+  walk-last make = Walk-bind walk-parameters (Local-parameters version) (λ ps. Walk-give _) (λ ps. stuck_give _)
 
   walk-item : Walk version mark (item_at version) (Only bare)
   unfolding item_at
-  walk-item = Walk-bind version mark (bare_at version) _ _ (Walk-bare version mark) (Local-bare version)
-      (λ b. Walk-led version mark _ _ _ (walk-last (item_of b))) (λ b. stuck_after _ _ (stuck_last (item_of b)))
+  walk-item = Walk-bind Walk-bare (Local-bare version) (λ b. Walk-led _ (walk-last (item_of b)))
+      (λ b. stuck_after _ _ (stuck_last version (item_of b)))
 
   walk-inner_item : Walk version mark (inner_item_at version) (Only bare)
   unfolding inner_item_at
-  walk-inner_item = Walk-led version mark _ _ _ walk-item
+  walk-inner_item = Walk-led _ walk-item
 
   -- a leaf that isn't a parenthesis
-  no_bracket : (leaf : Leaf) → Only bare leaf → (c : ℕ) → blocked leaf c ≡ false → eqb c right_parenthesis ≡ false
+  no_bracket : (leaf : Leaf) → Only bare leaf → (c : ℕ) → blocked leaf c ≡ false
+      → (eqb c left_parenthesis ≡ false) × (eqb c right_parenthesis ≡ false)
   no_bracket leaf is c free =
       let h : blocked bare c ≡ false = subst (λ (l : Leaf). blocked l c ≡ false) is free in
-      (or_parts (eqb c left_parenthesis) (eqb c right_parenthesis)
-      (or_parts (is_space_or_tab c) (eqb c left_parenthesis || eqb c right_parenthesis) h).1).1
-
-  no_bracket_left : (leaf : Leaf) → Only bare leaf → (c : ℕ) → blocked leaf c ≡ false → eqb c left_parenthesis ≡ false
-  no_bracket_left leaf is c free =
-      let h : blocked bare c ≡ false = subst (λ (l : Leaf). blocked l c ≡ false) is free in
-      (or_parts (eqb c left_parenthesis) (eqb c right_parenthesis)
-      (or_parts (is_space_or_tab c) (eqb c left_parenthesis || eqb c right_parenthesis) h).1).0
-
-  walk-another : Walk version mark (inner_item_at version >>= λ i. give (Some i)) (Only bare)
-  walk-another = Walk-bind version mark (inner_item_at version) _ _ walk-inner_item (Local-inner_item version)
-      (λ i. Walk-give version mark _ _) (λ i. stuck_give _)
+      (grind (arith, nat_tests), grind (arith, nat_tests))
 
   barred-another : (r : List ℕ)
       → IsFault (branch (byte right_parenthesis) (λ _. give None) (inner_item_at version >>= λ i. give (Some i))
@@ -257,13 +226,12 @@ module _ (version : Version) (mark : Mark) where
 
   pub walk-next_item : Walk version mark (next_item_at version) Never
   unfolding next_item_at
-  walk-next_item = Walk-branch_never version mark _ _ _ _ (refl, refl)
-      (λ _ _. Walk-skip version mark _ _ _ skips_spaces (Local-span _)
-      (λ _. Walk-branch version mark _ _ _ (Only bare) Never (refl, refl)
-      (λ _ _. Walk-give version mark _ _) walk-another
-      (λ leaf is. (no_bracket leaf is, λ r. barred-another (left_parenthesis ∷ r)))))
-      (Walk-branch_never version mark _ _ _ Never (refl, refl) (λ _ _. Walk-give version mark _ _)
-      (Walk-ahead version mark _ _ _ (Walk-fail version mark _ _ tt) (Walk-fail version mark _ _ tt)))
+  walk-next_item = Walk-branch_never (refl, refl)
+      (λ _ _. Walk-skip skips_spaces (Local-span _) (λ _. Walk-branch {E' = Never} (refl, refl) (λ _ _. Walk-give _)
+      (Walk-bind walk-inner_item (Local-inner_item version) (λ i. Walk-give _) (λ i. stuck_give _))
+      (λ leaf is. (λ c free. (no_bracket leaf is c free).1, λ r. barred-another (left_parenthesis ∷ r)))))
+      (Walk-branch_never {E' = Never} (refl, refl) (λ _ _. Walk-give _)
+      (Walk-ahead _ (Walk-fail _ tt) (Walk-fail _ tt)))
 
   barred-items : (r : List ℕ) → IsFault (branch (byte right_parenthesis) (λ _. give [])
       (one_and_more inner_item_events (inner_item_at version) (next_item_at version)) (left_parenthesis ∷ r))
@@ -276,23 +244,19 @@ module _ (version : Version) (mark : Mark) where
 
   walk-items : Walk version mark (inner_items_at version) (Only bare)
   unfolding inner_items_at
-  walk-items = Walk-any version mark _ _ _ Never
-      (Walk-skip version mark _ _ _ skips_spaces (Local-span _)
-      (λ _. Walk-branch version mark _ _ _ (Only bare) Never (refl, refl) (λ _ _. Walk-give version mark _ _)
-      (Walk-bind version mark (inner_item_at version) _ _ walk-inner_item (Local-inner_item version)
-      (λ i. Walk-led version mark _ _ _
-      (Walk-bind version mark (many inner_item_events (next_item_at version)) _ _
-      (Walk-many version mark inner_item_events (next_item_at version) (Consumes-next_item version)
-      (Local-next_item version) walk-next_item (stuck_next_items version)) (Local-next_items version)
-      (λ is. Walk-give version mark _ _) (λ is. stuck_give _)))
+  walk-items = Walk-any _
+      (Walk-skip skips_spaces (Local-span _) (λ _. Walk-branch {E' = Never} (refl, refl) (λ _ _. Walk-give _)
+      (Walk-bind walk-inner_item (Local-inner_item version) (λ i. Walk-led _ (Walk-bind
+      (Walk-many inner_item_events (next_item_at version) (Consumes-next_item version) (Local-next_item version)
+      walk-next_item (stuck_next_items version)) (Local-next_items version) (λ is. Walk-give _) (λ is. stuck_give _)))
       (λ i. stuck_after _ _ (stuck_then _ _ (stuck_next_items version) (λ is. stuck_give _))))
-      (λ leaf is. (no_bracket leaf is, λ r. barred-items (left_parenthesis ∷ r)))))
-      (λ m. met_end m)
+      (λ leaf is. (λ c free. (no_bracket leaf is c free).1, λ r. barred-items (left_parenthesis ∷ r)))))
+      met_end
 
   walk-inner : Walk version mark (inner_at version) (Only bare)
   unfolding inner_at
-  walk-inner = Walk-bind version mark (inner_items_at version) _ _ walk-items (Local-items version)
-      (λ is. Walk-led version mark _ _ _ (walk-last (inner_of is))) (λ is. stuck_after _ _ (stuck_last (inner_of is)))
+  walk-inner = Walk-bind walk-items (Local-items version) (λ is. Walk-led _ (walk-last (inner_of is)))
+      (λ is. stuck_after _ _ (stuck_last version (inner_of is)))
 
   barred-member : (r : List ℕ) → IsFault (member_at version (left_parenthesis ∷ left_parenthesis ∷ r))
   unfolding member_at inner_at inner_items_at span inner_item_at item_at bare_at token_at branch ahead fail bind led
@@ -300,31 +264,24 @@ module _ (version : Version) (mark : Mark) where
 
   walk-member : Walk version mark (member_at version) (Only bare)
   unfolding member_at
-  walk-member = Walk-branch version mark _ _ _ (Only bare) (Only bare) (refl, refl)
-      (λ _ _. Walk-led version mark _ _ _ walk-inner)
-      (Walk-led version mark _ _ _ (Walk-bind version mark (item_at version) _ _ walk-item (Local-item version)
-      (λ i. Walk-give version mark _ _) (λ i. stuck_give _)))
-      (λ leaf is. (no_bracket_left leaf is, λ r. barred-member r))
+  walk-member = Walk-branch (refl, refl) (λ _ _. Walk-led _ walk-inner)
+      (Walk-led _ (Walk-bind walk-item (Local-item version) (λ i. Walk-give _) (λ i. stuck_give _)))
+      (λ leaf is. (λ c free. (no_bracket leaf is c free).0, λ r. barred-member r))
 
   walk-entry : Walk version mark (entry_at version) (Only bare)
   unfolding entry_at
-  walk-entry = Walk-led version mark _ _ _ walk-member
+  walk-entry = Walk-led _ walk-member
 
   walk-member_value : Walk version mark (member_value_at version) Never
   unfolding member_value_at
-  walk-member_value = Walk-branch_never version mark _ _ _ _ (refl, refl) (λ _ _. walk-member)
-      (Walk-led version mark _ _ _ (walk-last true_with))
-
-  pub stuck-member_value : Stuck (member_value_at version (0 ∷ []))
-  unfolding member_value_at branch
-  stuck-member_value = stuck_after _ _ (stuck_last true_with)
+  walk-member_value = Walk-branch_never (refl, refl) (λ _ _. walk-member) (Walk-led _ (walk-last true_with))
 
   walk-keyed : Walk version mark (keyed_at version) (Only key)
   unfolding keyed_at
-  walk-keyed = Walk-bind version mark key_at _ _ (Walk-key version mark) Local-key
-      (λ k. Walk-led version mark _ _ _ (Walk-bind version mark (member_value_at version) _ _ walk-member_value
-      (Local-member_value version) (λ m. Walk-give version mark _ _) (λ m. stuck_give _)))
-      (λ k. stuck_after _ _ (stuck_then _ _ stuck-member_value (λ m. stuck_give _)))
+  walk-keyed = Walk-bind Walk-key Local-key
+      (λ k. Walk-led _ (Walk-bind walk-member_value (Local-member_value version) (λ m. Walk-give _)
+      (λ m. stuck_give _)))
+      (λ k. stuck_after _ _ (stuck_then _ _ (stuck-member_value version) (λ m. stuck_give _)))
 
   -- ---- members
 
@@ -332,23 +289,16 @@ module _ (version : Version) (mark : Mark) where
       (reads : Reads one P (Goes P parts)) (l : Local one) (E : Leaf → Type 0) (h : Walk version mark one E) where
     walk-next : Walk version mark (next_at one) Never
     unfolding next_at
-    walk-next = Walk-skip version mark _ _ _ skips_blanks (Local-span _)
-        (λ _. Walk-any version mark _ _ _ Never
-        (Walk-ahead version mark _ _ _
-        (Walk-skip_some version mark _ _ E skips_comma Local-comma comma_some
-        (λ _. Walk-bind version mark one _ _ h l (λ m. Walk-give version mark _ _) (λ m. stuck_give _)))
-        (Walk-fail version mark _ _ tt))
-        (λ m. met_nothing mark None m))
+    walk-next = Walk-skip skips_blanks (Local-span _) (λ _. Walk-any _ (Walk-ahead _
+        (Walk-skip_some skips_comma Local-comma comma_some (λ _. Walk-bind h l (λ m. Walk-give _) (λ m. stuck_give _)))
+        (Walk-fail _ tt)) (λ m. met_nothing mark None m))
 
     walk-members : Walk version mark (members_at parts one) E
     unfolding members_at
-    walk-members = Walk-skip version mark _ _ _ skips_spaces (Local-span _)
-        (λ _. Walk-any version mark _ _ _ Never
-        (Walk-bind version mark one _ _ h l
-        (λ m. Walk-led version mark _ _ _ (Walk-bind version mark (many parts (next_at one)) _ _
-        (Walk-many version mark parts (next_at one) (Consumes-next P parts one reads) (Local-next P parts one l)
-        walk-next (stuck_next parts one)) (Local-many parts (next_at one) (Consumes-next P parts one reads)
-        (Local-next P parts one l)) (λ ms. Walk-give version mark _ _) (λ ms. stuck_give _)))
+    walk-members = Walk-skip skips_spaces (Local-span _) (λ _. Walk-any _ (Walk-bind h l
+        (λ m. Walk-led _ (Walk-bind (Walk-many parts (next_at one) (Consumes-next P parts one reads)
+        (Local-next P parts one l) walk-next (stuck_next parts one)) (Local-many parts (next_at one)
+        (Consumes-next P parts one reads) (Local-next P parts one l)) (λ ms. Walk-give _) (λ ms. stuck_give _)))
         (λ m. stuck_after _ _ (stuck_then _ _ (stuck_next parts one) (λ ms. stuck_give _))))
         (λ m. met_nothing mark [] m))
 
@@ -356,14 +306,10 @@ module _ (version : Version) (mark : Mark) where
 
   pub walk-field : (kind : FieldKind) → Walk version mark (whole_field_at version kind) Ever
   unfolding whole_field_at
-  walk-field item_field = Walk-weaker version mark _ (Only bare) Ever (λ _ _. tt)
-      (Walk-skip version mark _ _ _ skips_spaces (Local-span _)
-      (λ _. Walk-bind version mark (item_at version) _ _ walk-item (Local-item version)
-      (λ i. Walk-skip version mark _ _ _ skips_spaces (Local-span _) (λ _. Walk-give version mark _ _))
+  walk-field item_field = Walk-weaker {E = Only bare} (λ _ _. tt) (Walk-skip skips_spaces (Local-span _)
+      (λ _. Walk-bind walk-item (Local-item version) (λ i. Walk-skip skips_spaces (Local-span _) (λ _. Walk-give _))
       (λ i. stuck_then _ _ stuck_space (λ _. stuck_give _))))
-  walk-field list_field = Walk-weaker version mark _ (Only bare) Ever (λ _ _. tt)
-      (walk-members (IsMemberText version) entry_events (entry_at version) (Sound-entry version) (Local-entry version)
-      (Only bare) walk-entry)
-  walk-field dictionary_field = Walk-weaker version mark _ (Only key) Ever (λ _ _. tt)
-      (walk-members (IsDictionaryMemberText version) keyed_events (keyed_at version) (Sound-keyed version)
-      (Local-keyed version) (Only key) walk-keyed)
+  walk-field list_field = Walk-weaker (λ _ _. tt) (walk-members (IsMemberText version) entry_events (entry_at version)
+      (Sound-entry version) (Local-entry version) (Only bare) walk-entry)
+  walk-field dictionary_field = Walk-weaker (λ _ _. tt) (walk-members (IsDictionaryMemberText version) keyed_events
+      (keyed_at version) (Sound-keyed version) (Local-keyed version) (Only key) walk-keyed)

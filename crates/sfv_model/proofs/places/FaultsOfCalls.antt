@@ -1,32 +1,28 @@
 -- A fault of a reader, or a byte that it takes, is that of the reader of bare items, or of keys, which it calls.
-use Rattle.std.proofs.Common.{◌≡◌, ℕ, zero, suc, ◌<◌, ◌≤◌, Bool, true, false, cond, eqb, ◌||◌, List, [], ◌∷◌, ◌++◌}
-use Rattle.std.proofs.Common.{length}
+use Rattle.std.proofs.lemmas.Bool.{cases_lt, true≢false, cases_Bool}
+use Rattle.std.proofs.Common.{◌≡◌, ℕ, zero, suc, ◌<◌, ◌≤◌, Bool, true, false, eqb, ◌||◌, List, [], ◌∷◌, ◌++◌, length}
 use Rattle.std.proofs.Common.{Option, Some, None, Ok, Err, refl, sym, ap, subst, ◌∙◌, append_assoc, arith, inl, inr}
 use Rattle.std.proofs.Common.{◌⊎◌}
 use Rattle.std.specs.Prelude.{⊤}
-use Rattle.std.proofs.lemmas.Bool.{true≢false, cases_order}
 use Rattle.std.proofs.lemmas.List.{append_cancel_right, length-append}
-use Rattle.sfv_spec.proofs.Marks.{asterisk}
-use Rattle.sfv_spec.proofs.Marks.{comma, left_parenthesis, question_mark}
+use Rattle.sfv_spec.proofs.Marks.{asterisk, comma, left_parenthesis, question_mark, is_space_or_tab}
 use Rattle.sfv_spec.specs.Texts.{RunOf}
-use Rattle.sfv_spec.proofs.Marks.{is_space_or_tab}
 use Rattle.sfv_spec.specs.declared.version.Version.{Version}
 use Rattle.sfv_spec.specs.Events.{TreeEvent}
 use Rattle.sfv_spec.specs.declared.error_kind.ErrorKind.{ErrorKind}
 use Rattle.sfv_spec.specs.declared.error_kind.ErrorKind.TheVariants.{TrailingComma, TrailingCharactersAfterMember}
 use Rattle.sfv_spec.specs.declared.error_kind.ErrorKind.TheVariants.{ExpectedInnerListDelimiter, UnterminatedInnerList}
 use Rattle.sfv_model.specs.Judgements.{IsFault, Lasts, Local}
-use Rattle.sfv_model.specs.Reader.{Fault, Answer, Reader, first, any, at_reach, and_then, give, fail, ◌>>=◌}
-use Rattle.sfv_model.specs.Reader.{bind, led_answer, led, branch, ahead, go_on, many}
+use Rattle.sfv_model.specs.Reader.{Fault, Answer, Reader, first, any, at_reach, and_then, give, fail, ◌>>=◌, bind}
+use Rattle.sfv_model.specs.Reader.{led_answer, led, branch, ahead, go_on, many}
 use Rattle.sfv_model.specs.Bare.{bare_at}
 use Rattle.sfv_model.specs.Items.{key_at}
 use Rattle.sfv_model.specs.Places.{IsLike}
 use Rattle.sfv_model.proofs.sound.Combinators.{run_head, run_tail}
 use Rattle.sfv_model.proofs.sound.Many.{Consumes, many_is}
 use Rattle.sfv_model.proofs.complete.Combinators.{branch_take, ahead_any, bind_complete}
-use Rattle.sfv_model.proofs.places.Calls.{Leaf, bare, key, leaf_at, blocked, Stuck, Calls}
-use Rattle.sfv_model.proofs.places.Calls.{calls_bare, calls_key, calls_as, calls_led, calls_bind, stuck_led}
-use Rattle.sfv_model.proofs.places.Calls.{stuck_bind}
+use Rattle.sfv_model.proofs.places.Calls.{Leaf, bare, key, leaf_at, blocked, Stuck, Calls, calls_bare, calls_key}
+use Rattle.sfv_model.proofs.places.Calls.{calls_as, calls_led, calls_bind, stuck_led, stuck_bind}
 
 -- a byte that nothing but bare items and keys takes
 abbrev pub marked : Bool → ℕ
@@ -128,19 +124,10 @@ met_split : {A B : Type 0} (mark : Mark) (t p r : List ℕ) (v : A) (b : Answer 
 met_split (faulty e) t p r v (Ok x) parts h = absurd h
 met_split (faulty e) t p r v (Err x) parts h = inr h
 met_split (eaten b m) t p r v (Err x) parts h = absurd h
-met_split (eaten b m) t p r v (Ok x) parts h =
-    let q : List ℕ = marked b ∷ m in
-    let on : (length q ≤ length r) ⊎ (length r ≤ length m)
-    → ((u : List ℕ) × (t ≡ u ++ marked b ∷ m) × (length r ≤ length m))
-    ⊎ ((u : List ℕ) × (r ≡ u ++ marked b ∷ m) × (length x.1 ≤ length m)) =
-    λ o. elim o [
-      | inl le ↦ let w = tail_split h.0 q p r (sym h.1 ∙ parts) le in inr (w.0, w.1, h.2)
-      | inr le ↦ inl (h.0, h.1, le)
-    ] in
-    on (elim (cases_order (length m) (length r)) [
-      | inl e ↦ inr (omega (arith, e))
-      | inr o ↦ elim o [ inl l ↦ inl (omega (arith, l)) | inr l ↦ inr (omega (arith, l)) ]
-    ])
+met_split (eaten b m) t p r v (Ok x) parts h = elim (cases_lt (length m) (length r)) [
+  | inl l ↦ let w = tail_split h.0 (marked b ∷ m) p r (sym h.1 ∙ parts) (omega (arith, l)) in inr (w.0, w.1, h.2)
+  | inr l ↦ inl (h.0, h.1, omega (arith, l))
+]
 
 met_tail : {A : Type 0} (mark : Mark) (class : ℕ → Bool) (c : ℕ) (r : List ℕ) (a : Answer A) → Free class
     → class c ≡ true → Met mark (c ∷ r) a → Met mark r a
@@ -175,7 +162,7 @@ met_give (eaten b m) t v h =
 pub met_fail : (A : Type 0) (mark : Mark) (t : List ℕ) (x : Fault) → Elsewhere x.kind x.exact
     → Met {A = A} mark t (Err x)
     → Other mark
-met_fail A (faulty e) t x h m = subst (λ b. Elsewhere e.kind b) m.exact (subst (λ k. Elsewhere k x.exact) m.kind h)
+met_fail A (faulty e) t x h m = rw (← m.exact) (rw (← m.kind) h)
 met_fail A (eaten b m) t x h g = g
 
 -- a value made of it
@@ -196,255 +183,212 @@ met_skip (eaten b m) t p r v parts each h = absurd (true≢false
 
 -- ---- the combinators
 
-module _ (version : Version) (mark : Mark) where
-  pub record Walk {A : Type 0} (f : Reader A) (E : Leaf → Type 0) : Type 0 where
-    pub walk : (t : List ℕ) → Met mark t (f t) → Found version mark f E t
+-- a fault, or a byte that is taken, is that of a leaf which the reader calls
+pub record Walk {A : Type 0} (version : Version) (mark : Mark) (f : Reader A) (E : Leaf → Type 0) : Type 0 where
+  pub walk : (t : List ℕ) → Met mark t (f t) → Found version mark f E t
 
+-- a leaf that the second reader calls after some byte
+after : {A B : Type 0} (version : Version) (f : Reader A) (g : A → Reader B) (v : A) (p r : List ℕ)
+    → ((q : List ℕ) → first q ≡ first r → f (p ++ q) ≡ Ok (v, q)) → (leaf : Leaf) (before s : List ℕ) → r
+    ≡ before ++ s
+    → ¬ (before ≡ []) → Calls version leaf (g v) before → Calls version leaf (f >>= g) (p ++ before)
+after version f g v p r reads leaf before s e some c = calls_as version leaf (f >>= g) (g v) p before c
+    (λ b q _. bind_complete f g (p ++ (before ++ b ∷ q)) (before ++ b ∷ q) v (reads (before ++ b ∷ q)
+    (some_first before (b ∷ q) s some ∙ ap first (sym e))))
+
+-- the other reader goes on where no byte of the class stands first
+abbrev pub Passed : {A : Type 0} → (ℕ → Bool) → (ℕ → Reader A) → Reader A → Leaf → Type 0
+Passed class taken other leaf = ((c : ℕ) → blocked leaf c ≡ false → class c ≡ false)
+    × ((r : List ℕ) → IsFault (branch class taken other (left_parenthesis ∷ left_parenthesis ∷ r)))
+
+-- a leaf that is called by the other reader
+past : {A : Type 0} (version : Version) (class : ℕ → Bool) (taken : ℕ → Reader A) (other : Reader A) (leaf : Leaf)
+    (u : List ℕ)
+    → ((c : ℕ) (r : List ℕ) → u ≡ c ∷ r → class c ≡ false) → (u ≡ [] → Passed class taken other leaf)
+    → Calls version leaf other u → Calls version leaf (branch class taken other) u
+unfolding branch
+past version class taken other leaf [] out h c =
+    let k = h refl in
+    record { follows = λ b r free. rw (k.0 b free) (c.follows b r free); barred = k.1 }
+past version class taken other leaf (b ∷ u) out h c =
+    calls_as version leaf (branch class taken other) other [] (b ∷ u) c (λ d r none. rw (out b u refl) refl)
+
+module _ {version : Version} {mark : Mark} where
   -- where a leaf is called by one reader, it is by another, after p
-  lift : {A B : Type 0} (f : Reader A) (g : Reader B) (E E' : Leaf → Type 0) (t t' p : List ℕ) → t' ≡ p ++ t
+  lift : {A B : Type 0} {f : Reader A} {g : Reader B} {E E' : Leaf → Type 0} {t t' : List ℕ} (p : List ℕ) → t' ≡ p ++ t
       → ((leaf : Leaf) (before s : List ℕ) → t ≡ before ++ s → (before ≡ [] → E leaf) → Calls version leaf f before
       → Calls version leaf g (p ++ before) × (p ++ before ≡ [] → E' leaf))
       → Found version mark f E t → Found version mark g E' t'
-  lift f g E E' t t' p parts h (called leaf before s e c some m) =
+  lift p parts h (called leaf before s e c some m) =
       let k = h leaf before s e some c in
       called leaf (p ++ before) s (parts ∙ ap (λ (l : List ℕ). p ++ l) e ∙ sym (append_assoc p before s)) k.0 k.1 m
-  lift f g E E' t t' p parts h (elsewhere o) = elsewhere o
+  lift p parts h (elsewhere o) = elsewhere o
 
-  pub Walk-weaker : {A : Type 0} (f : Reader A) (E E' : Leaf → Type 0) → ((leaf : Leaf) → E leaf → E' leaf) → Walk f E
-      → Walk f E'
-  Walk-weaker f E E' k h = record {
-    walk = λ t m. lift f f E E' t t [] refl (λ leaf before s e some c. (c, λ z. k leaf (some z))) (h.walk t m);
+  -- where one reader calls a leaf, so does another
+  here : {A B : Type 0} {f : Reader A} {g : Reader B} {E : Leaf → Type 0} {t : List ℕ}
+      → ((leaf : Leaf) (before s : List ℕ) → t ≡ before ++ s → (before ≡ [] → E leaf) → Calls version leaf f before
+      → Calls version leaf g before) → Found version mark f E t → Found version mark g E t
+  here h = lift [] refl (λ leaf before s e some c. (h leaf before s e some c, some))
+
+  pub Walk-weaker : {A : Type 0} {f : Reader A} {E E' : Leaf → Type 0} → ((leaf : Leaf) → E leaf → E' leaf)
+      → Walk version mark f E → Walk version mark f E'
+  Walk-weaker k h = record {
+    walk = λ t m. lift [] refl (λ leaf before s e some c. (c, λ z. k leaf (some z))) (h.walk t m);
   }
 
-  pub Walk-bare : Walk (bare_at version) (Only bare)
+  pub Walk-bare : Walk version mark (bare_at version) (Only bare)
   Walk-bare = record { walk = λ t m. called bare [] t refl (calls_bare version) (λ _. refl) m }
 
-  pub Walk-key : Walk key_at (Only key)
+  pub Walk-key : Walk version mark key_at (Only key)
   Walk-key = record { walk = λ t m. called key [] t refl (calls_key version) (λ _. refl) m }
 
-  pub Walk-give : {A : Type 0} (v : A) (E : Leaf → Type 0) → Walk (give v) E
+  pub Walk-give : {A : Type 0} (v : A) {E : Leaf → Type 0} → Walk version mark (give v) E
   unfolding give
-  Walk-give v E = record { walk = λ t m. absurd (met_give mark t v m) }
+  Walk-give v = record { walk = λ t m. absurd (met_give mark t v m) }
 
-  pub Walk-fail : {A : Type 0} (k : ErrorKind) (E : Leaf → Type 0) → Elsewhere k true → Walk {A = A} (fail k) E
+  pub Walk-fail : {A : Type 0} (k : ErrorKind) {E : Leaf → Type 0} → Elsewhere k true
+      → Walk {A = A} version mark (fail k) E
   unfolding fail
-  Walk-fail {A} k E h = record { walk = λ t m. elsewhere (met_fail A mark t (at_reach k t) h m) }
+  Walk-fail {A} k h = record { walk = λ t m. elsewhere (met_fail A mark t (at_reach k t) h m) }
 
-  pub Walk-led : {A : Type 0} (es : List TreeEvent) (f : Reader A) (E : Leaf → Type 0) → Walk f E → Walk (led es f) E
+  pub Walk-led : {A : Type 0} (es : List TreeEvent) {f : Reader A} {E : Leaf → Type 0} → Walk version mark f E
+      → Walk version mark (led es f) E
   unfolding led
-  Walk-led es f E h = record {
-    walk = λ t m. lift f (led es f) E E t t [] refl (λ leaf before s e some c. (
-      calls_led version leaf es f before c,
-      some,
-    )) (h.walk t (met_led mark es t (f t) m));
+  Walk-led es {f} h = record {
+    walk = λ t m. here (λ leaf before s e some c. calls_led version leaf es f before c)
+        (h.walk t (met_led mark es t (f t) m));
   }
 
-  -- a leaf that the second reader calls after some byte
-  after : {A B : Type 0} (f : Reader A) (g : A → Reader B) (v : A) (p r : List ℕ) (E : Leaf → Type 0)
-      → ((q : List ℕ) → first q ≡ first r → f (p ++ q) ≡ Ok (v, q)) → (leaf : Leaf) (before s : List ℕ) → r
-      ≡ before ++ s
-      → ¬ (before ≡ []) → Calls version leaf (g v) before → Calls version leaf (f >>= g) (p ++ before)
-  after f g v p r E reads leaf before s e some c = calls_as version leaf (f >>= g) (g v) p before c
-      (λ b q _. bind_complete f g (p ++ (before ++ b ∷ q)) (before ++ b ∷ q) v (reads (before ++ b ∷ q)
-      (some_first before (b ∷ q) s some ∙ ap first (sym e))))
+  -- one reader after another that calls no leaf at once
+  pub Walk-bind : {A B : Type 0} {f : Reader A} {g : A → Reader B} {E : Leaf → Type 0} → Walk version mark f E → Local f
+      → ((v : A) → Walk version mark (g v) Never) → ((v : A) → Stuck (g v (0 ∷ []))) → Walk version mark (f >>= g) E
+  unfolding bind
+  Walk-bind {A} {B} {f} {g} {E} h l k s = record { walk = λ t m. on t (f t) refl (l.lasts t) m }
+    where
+      left : (t : List ℕ) → Found version mark f E t → Found version mark (f >>= g) E t
+      left t = here (λ leaf before s' e some c. calls_bind version leaf f g before s c)
 
-  bind_on : {A B : Type 0} (f : Reader A) (g : A → Reader B) (E : Leaf → Type 0) → Walk f E
-      → ((v : A) → Walk (g v) Never) → ((v : A) → Stuck (g v (0 ∷ []))) → (t : List ℕ) (a : Answer A) → f t ≡ a
-      → Lasts f t a → Met mark t (and_then a g) → Found version mark (f >>= g) E t
-  bind_on {A} {B} f g E h k s t (Ok x) i l m =
-      let left : Found version mark f E t → Found version mark (f >>= g) E t =
-      λ w. lift f (f >>= g) E E t t [] refl (λ leaf before s' e some c. (
-        calls_bind version leaf f g before s c,
-        some,
-      )) w in
-      elim (met_split mark t l.0 x.1 x.0 (g x.0 x.1) l.1 m) [
-        | inl w ↦ left (h.walk t (subst (λ (a : Answer A). Met mark t a) (sym i) w))
-        | inr w ↦ lift (g x.0) (f >>= g) Never E x.1 t l.0 l.1 (λ leaf before s' e some c. (
-          after f g x.0 l.0 x.1 E l.2 leaf before s' e some c,
+      on : (t : List ℕ) (a : Answer A) → f t ≡ a → Lasts f t a → Met mark t (and_then a g)
+          → Found version mark (f >>= g) E t
+      on t (Ok x) i l m = elim (met_split mark t l.0 x.1 x.0 (g x.0 x.1) l.1 m) [
+        | inl w ↦ left t (h.walk t (rw i w))
+        | inr w ↦ lift l.0 l.1 (λ leaf before s' e some c. (
+          after version f g x.0 l.0 x.1 l.2 leaf before s' e some c,
           λ z. absurd (some (no_front l.0 before z)),
         )) ((k x.0).walk x.1 w)
       ]
-  bind_on {A} {B} f g E h k s t (Err x) i l m = lift f (f >>= g) E E t t [] refl (λ leaf before s' e some c. (
-    calls_bind version leaf f g before s c,
-    some,
-  )) (h.walk t (subst (λ (a : Answer A). Met mark t a) (sym i) (met_fault B A mark t x m)))
-
-  -- one reader after another that calls no leaf at once
-  pub Walk-bind : {A B : Type 0} (f : Reader A) (g : A → Reader B) (E : Leaf → Type 0) → Walk f E → Local f
-      → ((v : A) → Walk (g v) Never) → ((v : A) → Stuck (g v (0 ∷ []))) → Walk (f >>= g) E
-  unfolding bind
-  Walk-bind f g E h l k s = record { walk = λ t m. bind_on f g E h k s t (f t) refl (l.lasts t) m }
+      on t (Err x) i l m = left t (h.walk t (rw i (met_fault B A mark t x m)))
 
   skip_on : {A B : Type 0} (f : Reader A) (g : A → Reader B) (E E' : Leaf → Type 0) → Skips f
       → ((p r : List ℕ) (v : A) → f (p ++ r) ≡ Ok (v, r) → p ≡ [] → (leaf : Leaf) → E leaf → E' leaf)
-      → ((v : A) → Walk (g v) E) → (t : List ℕ) (a : Answer A) → f t ≡ a
+      → ((v : A) → Walk version mark (g v) E) → (t : List ℕ) (a : Answer A) → f t ≡ a
       → Lasts f t a → Met mark t (and_then a g) → Found version mark (f >>= g) E' t
   skip_on {A} {B} f g E E' h some k t (Ok x) i l m =
       let w = h.skips t x.1 x.0 i in
       let same : l.0 ≡ w.0 = append_cancel_right l.0 w.0 x.1 (sym l.1 ∙ w.1) in
       let reads : (q : List ℕ) → first q ≡ first x.1 → f (w.0 ++ q) ≡ Ok (x.0, q) =
-      λ q e. subst (λ (p : List ℕ). f (p ++ q) ≡ Ok (x.0, q)) same (l.2 q e) in
-      let on : (leaf : Leaf) (before s : List ℕ) → x.1 ≡ before ++ s → Calls version leaf (g x.0) before
-      → Calls version leaf (f >>= g) (w.0 ++ before) =
-      λ leaf before. elim before as (λ (before : List ℕ). (s : List ℕ) → x.1 ≡ before ++ s
-      → Calls version leaf (g x.0) before → Calls version leaf (f >>= g) (w.0 ++ before)) [
-        | [] ↦ λ s e c. calls_as version leaf (f >>= g) (g x.0) w.0 [] c
-            (λ b q none. bind_complete f g (w.0 ++ b ∷ q) (b ∷ q) x.0 (w.3 b q none))
-        | b ∷ u ↦ λ s e c. after f g x.0 w.0 x.1 E reads leaf (b ∷ u) s e (λ z. absurd cc) c
-      ] in
+      λ q e. rw (← same) (l.2 q e) in
       elim (met_split mark t w.0 x.1 x.0 (g x.0 x.1) w.1 m) [
         | inl o ↦ absurd (met_skip mark t w.0 x.1 x.0 w.1 w.2 o)
-        | inr o ↦ lift (g x.0) (f >>= g) E E' x.1 t w.0 w.1 (λ leaf before s e at_once c. (
-          on leaf before s e c,
+        | inr o ↦ lift w.0 w.1 (λ leaf before s e at_once c. (
+          on w.0 reads w.3 leaf before s e c,
           λ z. some w.0 x.1 x.0 (ap f (sym w.1) ∙ i) (no_back w.0 before z) leaf (at_once (no_front w.0 before z)),
         )) ((k x.0).walk x.1 o)
       ]
+    where
+      on : (p : List ℕ) → ((q : List ℕ) → first q ≡ first x.1 → f (p ++ q) ≡ Ok (x.0, q))
+          → ((c : ℕ) (q : List ℕ) → is_space_or_tab c ≡ false → f (p ++ c ∷ q) ≡ Ok (x.0, c ∷ q))
+          → (leaf : Leaf) (before s : List ℕ) → x.1 ≡ before ++ s → Calls version leaf (g x.0) before
+          → Calls version leaf (f >>= g) (p ++ before)
+      on p reads again leaf [] s e c = calls_as version leaf (f >>= g) (g x.0) p [] c
+          (λ b q none. bind_complete f g (p ++ b ∷ q) (b ∷ q) x.0 (again b q none))
+      on p reads again leaf (b ∷ u) s e c = after version f g x.0 p x.1 reads leaf (b ∷ u) s e (λ z. absurd cc) c
   skip_on {A} {B} f g E E' h some k t (Err x) i l m = elsewhere (met_fail B mark t x (h.faults t x i) m)
 
   -- after blanks
-  pub Walk-skip : {A B : Type 0} (f : Reader A) (g : A → Reader B) (E : Leaf → Type 0) → Skips f → Local f
-      → ((v : A) → Walk (g v) E) → Walk (f >>= g) E
+  pub Walk-skip : {A B : Type 0} {f : Reader A} {g : A → Reader B} {E : Leaf → Type 0} → Skips f → Local f
+      → ((v : A) → Walk version mark (g v) E) → Walk version mark (f >>= g) E
   unfolding bind
-  Walk-skip f g E h l k = record {
+  Walk-skip {f = f} {g} {E} h l k = record {
     walk = λ t m. skip_on f g E E h (λ p r v i none leaf e. e) k t (f t) refl (l.lasts t) m;
   }
 
   -- after a comma and blanks
-  pub Walk-skip_some : {A B : Type 0} (f : Reader A) (g : A → Reader B) (E : Leaf → Type 0) → Skips f → Local f
-      → ((r : List ℕ) (v : A) → ¬ (f r ≡ Ok (v, r))) → ((v : A) → Walk (g v) E) → Walk (f >>= g) Never
+  pub Walk-skip_some : {A B : Type 0} {f : Reader A} {g : A → Reader B} {E : Leaf → Type 0} → Skips f → Local f
+      → ((r : List ℕ) (v : A) → ¬ (f r ≡ Ok (v, r))) → ((v : A) → Walk version mark (g v) E)
+      → Walk version mark (f >>= g) Never
   unfolding bind
-  Walk-skip_some f g E h l some k = record {
+  Walk-skip_some {f = f} {g} {E} h l some k = record {
     walk = λ t m. skip_on f g E Never h (λ p r v i none leaf e.
         some r v (subst (λ (p : List ℕ). f (p ++ r) ≡ Ok (v, r)) none i)) k t (f t) refl (l.lasts t) m;
   }
 
-  -- a leaf that is called by the other reader
-  past : {A : Type 0} (class : ℕ → Bool) (taken : ℕ → Reader A) (other : Reader A) (leaf : Leaf) (u : List ℕ)
-      → ((c : ℕ) (r : List ℕ) → u ≡ c ∷ r → class c ≡ false)
-      → (u ≡ [] → ((c : ℕ) → blocked leaf c ≡ false → class c ≡ false)
-      × ((r : List ℕ) → IsFault (branch class taken other (left_parenthesis ∷ left_parenthesis ∷ r))))
-      → Calls version leaf other u → Calls version leaf (branch class taken other) u
-  unfolding branch
-  past class taken other leaf [] out h c =
-      let k = h refl in
-      record {
-        follows = λ b r free. rw (k.0 b free) (c.follows b r free);
-        barred = k.1;
-      }
-  past class taken other leaf (b ∷ u) out h c =
-      calls_as version leaf (branch class taken other) other [] (b ∷ u) c (λ d r none. rw (out b u refl) refl)
-
-  branch_on : {A : Type 0} (class : ℕ → Bool) (taken : ℕ → Reader A) (other : Reader A) (E E' : Leaf → Type 0)
-      → Free class → ((c : ℕ) → class c ≡ true → Walk (taken c) E') → Walk other E
-      → ((leaf : Leaf) → E leaf → ((c : ℕ) → blocked leaf c ≡ false → class c ≡ false)
-      × ((r : List ℕ) → IsFault (branch class taken other (left_parenthesis ∷ left_parenthesis ∷ r))))
-      → (c : ℕ) (r : List ℕ) (b : Bool) → class c ≡ b → Met mark (c ∷ r) (cond b (taken c r) (other (c ∷ r)))
-      → Found version mark (branch class taken other) E (c ∷ r)
-  branch_on class taken other E E' free h k at_once c r true is m =
-      lift (taken c) (branch class taken other) E' E r (c ∷ r) (c ∷ []) refl (λ leaf before s e some d. (
-        calls_as version leaf (branch class taken other) (taken c) (c ∷ []) before d
-            (λ b q _. branch_take class taken other c (before ++ b ∷ q) is),
-        λ z. absurd cc,
-      )) ((h c is).walk r (met_tail mark class c r (taken c r) free is m))
-  branch_on class taken other E E' free h k at_once c r false is m =
-      lift other (branch class taken other) E E (c ∷ r) (c ∷ r) [] refl (λ leaf before s e some d. (
-        past class taken other leaf before
-            (λ b q i. let heads : c ∷ r ≡ b ∷ (q ++ s) = e ∙ ap (λ (l : List ℕ). l ++ s) i in
-            let same : c ≡ b = cc in ap class (sym same) ∙ is) (λ z. at_once leaf (some z)) d,
-        some,
-      )) (k.walk (c ∷ r) m)
-
   -- by the byte that stands there, which is taken, or left to the other reader
-  pub Walk-branch : {A : Type 0} (class : ℕ → Bool) (taken : ℕ → Reader A) (other : Reader A) (E E' : Leaf → Type 0)
-      → Free class → ((c : ℕ) → class c ≡ true → Walk (taken c) E') → Walk other E
-      → ((leaf : Leaf) → E leaf → ((c : ℕ) → blocked leaf c ≡ false → class c ≡ false)
-      × ((r : List ℕ) → IsFault (branch class taken other (left_parenthesis ∷ left_parenthesis ∷ r))))
-      → Walk (branch class taken other) E
+  pub Walk-branch : {A : Type 0} {class : ℕ → Bool} {taken : ℕ → Reader A} {other : Reader A} {E E' : Leaf → Type 0}
+      → Free class → ((c : ℕ) → class c ≡ true → Walk version mark (taken c) E') → Walk version mark other E
+      → ((leaf : Leaf) → E leaf → Passed class taken other leaf) → Walk version mark (branch class taken other) E
   unfolding branch
-  Walk-branch class taken other E E' free h k at_once = record { walk = on }
+  Walk-branch {A} {class} {taken} {other} {E} {E'} free h k at_once = record { walk = at }
     where
-      on : (t : List ℕ) → Met mark t (branch class taken other t) → Found version mark (branch class taken other) E t
-      on [] m = lift other (branch class taken other) E E [] [] [] refl (λ leaf before s e some d. (
-        past class taken other leaf before (λ b q i. absurd (let none : [] ≡ b ∷ (q ++ s) =
-            e ∙ ap (λ (l : List ℕ). l ++ s) i in cc)) (λ z. at_once leaf (some z)) d,
-        some,
-      )) (k.walk [] m)
-      on (c ∷ r) m = branch_on class taken other E E' free h k at_once c r (class c) refl m
+      at : (t : List ℕ) → Met mark t (branch class taken other t) → Found version mark (branch class taken other) E t
+      at [] m = here (λ leaf before s e some d. past version class taken other leaf before
+          (λ b q i. absurd (let none : [] ≡ b ∷ (q ++ s) = cc in cc)) (λ z. at_once leaf (some z)) d) (k.walk [] m)
+      at (c ∷ r) m = elim (cases_Bool (class c)) [
+        | inl is ↦ lift (c ∷ []) refl (λ leaf before s e some d. (
+          calls_as version leaf (branch class taken other) (taken c) (c ∷ []) before d
+              (λ b q _. branch_take class taken other c (before ++ b ∷ q) is),
+          λ z. absurd cc,
+        )) ((h c is).walk r (met_tail mark class c r (taken c r) free is (rw is at m)))
+        | inr is ↦ here (λ leaf before s e some d.
+            past version class taken other leaf before (λ b q i. let heads : c ∷ r ≡ b ∷ (q ++ s) = cc in
+            let same : c ≡ b = cc in rw (← same) is) (λ z. at_once leaf (some z)) d) (k.walk (c ∷ r) (rw is at m))
+      ]
 
   -- the other reader calls no leaf at once
-  pub Walk-branch_never : {A : Type 0} (class : ℕ → Bool) (taken : ℕ → Reader A) (other : Reader A) (E' : Leaf → Type 0)
-      → Free class → ((c : ℕ) → class c ≡ true → Walk (taken c) E') → Walk other Never
-      → Walk (branch class taken other) Never
-  Walk-branch_never class taken other E' free h k = Walk-branch class taken other Never E' free h k
-      (λ leaf no. absurd no)
+  pub Walk-branch_never : {A : Type 0} {class : ℕ → Bool} {taken : ℕ → Reader A} {other : Reader A} {E' : Leaf → Type 0}
+      → Free class → ((c : ℕ) → class c ≡ true → Walk version mark (taken c) E') → Walk version mark other Never
+      → Walk version mark (branch class taken other) Never
+  Walk-branch_never free h k = Walk-branch free h k (λ leaf no. absurd no)
 
   -- unless the text ends
-  pub Walk-any : {A : Type 0} (x y : Reader A) (E E' : Leaf → Type 0) → Walk x E → (Met mark [] (y []) → Other mark)
-      → Walk (ahead any x y) E
+  pub Walk-any : {A : Type 0} {x : Reader A} (y : Reader A) {E : Leaf → Type 0} → Walk version mark x E
+      → (Met mark [] (y []) → Other mark) → Walk version mark (ahead any x y) E
   unfolding ahead
-  Walk-any x y E E' h k = record { walk = on }
+  Walk-any {A} {x} y {E} h k = record { walk = on }
     where
       on : (t : List ℕ) → Met mark t (ahead any x y t) → Found version mark (ahead any x y) E t
       on [] m = elsewhere (k m)
-      on (c ∷ r) m = lift x (ahead any x y) E E (c ∷ r) (c ∷ r) [] refl (λ leaf before s e some d. (
-        calls_as version leaf (ahead any x y) x [] before d (λ b q none. ahead_any x y (before ++ b ∷ q)
-            (omega (arith, length-append before (b ∷ q)))),
-        some,
-      )) (h.walk (c ∷ r) m)
+      on (c ∷ r) m = here (λ leaf before s e some d. calls_as version leaf (ahead any x y) x [] before d
+          (λ b q none. ahead_any x y (before ++ b ∷ q) (omega (arith, length-append before (b ∷ q)))))
+          (h.walk (c ∷ r) m)
 
-  ahead_on : {A : Type 0} (class : ℕ → Bool) (x y : Reader A) → Walk x Never → Walk y Never
-      → (c : ℕ) (r : List ℕ) (b : Bool) → class c ≡ b → Met mark (c ∷ r) (cond b (x (c ∷ r)) (y (c ∷ r)))
-      → Found version mark (ahead class x y) Never (c ∷ r)
-  unfolding ahead
-  ahead_on class x y h k c r true is m =
-      lift x (ahead class x y) Never Never (c ∷ r) (c ∷ r) [] refl (λ leaf before s e some d. (
-        looking before s e some leaf d,
-        some,
-      )) (h.walk (c ∷ r) m)
+  -- a leaf that is called by one reader is called by another that does the same at this byte
+  looking : {A : Type 0} {f g : Reader A} {t : List ℕ}
+      → ((c : ℕ) (r q : List ℕ) → t ≡ c ∷ r → f (c ∷ q) ≡ g (c ∷ q)) → Found version mark g Never t
+      → Found version mark f Never t
+  looking {A} {f} {g} {t} same = here (λ leaf before s e some d. on leaf before s e some d)
     where
-      looking : (before s : List ℕ) → c ∷ r ≡ before ++ s → ¬ (before ≡ []) → (leaf : Leaf)
-          → Calls version leaf x before
-          → Calls version leaf (ahead class x y) before
-      looking [] s e some leaf d = absurd (some refl)
-      looking (b ∷ u) s e some leaf d =
-          let same : c ≡ b = cc in
-          calls_as version leaf (ahead class x y) x [] (b ∷ u) d (λ a q none. rw (ap class (sym same) ∙ is) refl)
-  ahead_on class x y h k c r false is m =
-      lift y (ahead class x y) Never Never (c ∷ r) (c ∷ r) [] refl (λ leaf before s e some d. (
-        looking before s e some leaf d,
-        some,
-      )) (k.walk (c ∷ r) m)
-    where
-      looking : (before s : List ℕ) → c ∷ r ≡ before ++ s → ¬ (before ≡ []) → (leaf : Leaf)
-          → Calls version leaf y before
-          → Calls version leaf (ahead class x y) before
-      looking [] s e some leaf d = absurd (some refl)
-      looking (b ∷ u) s e some leaf d =
-          let same : c ≡ b = cc in
-          calls_as version leaf (ahead class x y) y [] (b ∷ u) d (λ a q none. rw (ap class (sym same) ∙ is) refl)
+      on : (leaf : Leaf) (before s : List ℕ) → t ≡ before ++ s → ¬ (before ≡ []) → Calls version leaf g before
+          → Calls version leaf f before
+      on leaf [] s e some d = absurd (some refl)
+      on leaf (b ∷ u) s e some d = calls_as version leaf f g [] (b ∷ u) d (λ a q none. same b (u ++ s) (u ++ a ∷ q) e)
 
   -- by the byte that stands there, and is left
-  pub Walk-ahead : {A : Type 0} (class : ℕ → Bool) (x y : Reader A) → Walk x Never → Walk y Never
-      → Walk (ahead class x y) Never
+  pub Walk-ahead : {A : Type 0} (class : ℕ → Bool) {x y : Reader A} → Walk version mark x Never
+      → Walk version mark y Never → Walk version mark (ahead class x y) Never
   unfolding ahead
-  Walk-ahead class x y h k = record { walk = on }
+  Walk-ahead {A} class {x} {y} h k = record { walk = at }
     where
-      on : (t : List ℕ) → Met mark t (ahead class x y t) → Found version mark (ahead class x y) Never t
-      on [] m = lift y (ahead class x y) Never Never [] [] [] refl (λ leaf before s e some d. (
-        absurd (none before s e some),
-        some,
-      )) (k.walk [] m)
-        where
-          none : (before s : List ℕ) → [] ≡ before ++ s → ¬ (before ≡ []) → ⊥
-          none [] s e some = some refl
-          none (b ∷ u) s e some = absurd cc
-      on (c ∷ r) m = ahead_on class x y h k c r (class c) refl m
+      at : (t : List ℕ) → Met mark t (ahead class x y t) → Found version mark (ahead class x y) Never t
+      at [] m = looking (λ d r' q e. absurd cc) (k.walk [] m)
+      at (c ∷ r) m = elim (cases_Bool (class c)) [
+        | inl is ↦ looking (λ d r' q e. let same : c ≡ d = cc in rw (← same, is) refl) (h.walk (c ∷ r) (rw is at m))
+        | inr is ↦ looking (λ d r' q e. let same : c ≡ d = cc in rw (← same, is) refl) (k.walk (c ∷ r) (rw is at m))
+      ]
 
+  -- step after step
   module _ {A : Type 0} (parts : A → List TreeEvent) (step : Reader (Option A)) (c : Consumes step) (l : Local step)
-      (h : Walk step Never) (s : Stuck (many parts step (0 ∷ []))) where
-    more : Reader (List A)
-    more = many parts step
-
+      (h : Walk version mark step Never) (s : Stuck (many parts step (0 ∷ []))) where
     stuck_on : (o : Option A) → Stuck (go_on parts (many parts step) o (0 ∷ []))
     unfolding give led bind
     stuck_on None = refl
@@ -452,42 +396,33 @@ module _ (version : Version) (mark : Mark) where
         (λ vs. refl) s)
 
     -- as the first step and what goes on after it
-    unrolled : Reader (List A)
-    unrolled = step >>= go_on parts (many parts step)
-
-    as_many : (t : List ℕ) → Found version mark unrolled Never t → Found version mark (many parts step) Never t
-    unfolding unrolled
-    as_many t w = lift unrolled (many parts step) Never Never t t [] refl (λ leaf before s e some d. (
-      calls_as version leaf (many parts step) unrolled [] before d
-          (λ b q none. many_is parts step c (before ++ b ∷ q)),
-      some,
-    )) w
+    abbrev Unrolled : Reader (List A)
+    Unrolled = step >>= go_on parts (many parts step)
 
     within : (n : ℕ) (t : List ℕ) → length t < n → Met mark t (many parts step t)
         → Found version mark (many parts step) Never t
-    unfolding unrolled bind give led
+    unfolding bind give led
     within zero t lt m = absurd (omega arith)
-    within (suc n) t lt m = as_many t (on (λ r less m. within n r less m) (step t) refl (l.lasts t) (subst
-        (Met mark t) (many_is parts step c t) m))
+    within (suc n) t lt m = here (λ leaf before s e some d. calls_as version leaf (many parts step) Unrolled [] before d
+        (λ b q none. many_is parts step c (before ++ b ∷ q)))
+        (on (λ r less m. within n r less m) (step t) refl (l.lasts t) (rw (← many_is parts step c t) m))
       where
-        left : Met mark t (step t) → Found version mark unrolled Never t
-        left w = lift step unrolled Never Never t t [] refl (λ leaf before s' e some d. (
-          calls_bind version leaf step (go_on parts (many parts step)) before stuck_on d,
-          some,
-        )) (h.walk t w)
+        left : Met mark t (step t) → Found version mark Unrolled Never t
+        left w = here (λ leaf before s' e some d.
+            calls_bind version leaf step (go_on parts (many parts step)) before stuck_on d) (h.walk t w)
 
         go : ((r : List ℕ) → length r < n → Met mark r (many parts step r)
             → Found version mark (many parts step) Never r)
             → (p r : List ℕ) (o : Option A) → step t ≡ Ok (o, r) → t ≡ p ++ r
             → ((q : List ℕ) → first q ≡ first r → step (p ++ q) ≡ Ok (o, q))
-            → Met mark r (go_on parts (many parts step) o r) → Found version mark unrolled Never t
+            → Met mark r (go_on parts (many parts step) o r) → Found version mark Unrolled Never t
         go again p r None i parted reads w = absurd (met_give mark r [] w)
         go again p r (Some v) i parted reads w =
             let less : length r < length t = c.consumes t r v i in
             let inner : Met mark r (many parts step r) = met_map mark r (λ vs. v ∷ vs) (many parts step r)
             (met_led mark (parts v) r _ w) in
-            lift (many parts step) unrolled Never Never r t p parted (λ leaf before s' e some d. (
-              after step (go_on parts (many parts step)) (Some v) p r Never reads leaf before s' e some
+            lift p parted (λ leaf before s' e some d. (
+              after version step (go_on parts (many parts step)) (Some v) p r reads leaf before s' e some
                   (calls_led version leaf (parts v) (many parts step >>= λ vs. give (v ∷ vs)) before
                   (calls_bind version leaf (many parts step) (λ vs. give (v ∷ vs)) before (λ vs. refl) d)),
               λ z. absurd (some (no_front p before z)),
@@ -497,14 +432,12 @@ module _ (version : Version) (mark : Mark) where
             → Found version mark (many parts step) Never r)
             → (a : Answer (Option A)) → step t ≡ a → Lasts step t a
             → Met mark t (and_then a (go_on parts (many parts step)))
-            → Found version mark unrolled Never t
+            → Found version mark Unrolled Never t
         on again (Ok x) i w z = elim (met_split mark t w.0 x.1 x.0 (go_on parts (many parts step) x.0 x.1) w.1 z) [
-          | inl o ↦ left (subst (λ (a : Answer (Option A)). Met mark t a) (sym i) o)
+          | inl o ↦ left (rw i o)
           | inr o ↦ go again w.0 x.1 x.0 i w.1 w.2 o
         ]
-        on again (Err x) i w z = left (subst (λ (a : Answer (Option A)). Met mark t a) (sym i)
-            (met_fault (List A) (Option A) mark t x z))
+        on again (Err x) i w z = left (rw i (met_fault (List A) (Option A) mark t x z))
 
-    -- step after step
-    pub Walk-many : Walk (many parts step) Never
+    pub Walk-many : Walk version mark (many parts step) Never
     Walk-many = record { walk = λ t m. within (suc (length t)) t (omega arith) m }

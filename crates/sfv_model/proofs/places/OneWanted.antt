@@ -1,21 +1,20 @@
 -- Only one thing is wanted after a text.
-use Rattle.std.proofs.Common.{◌≡◌, ℕ, List, [], ◌++◌, Err, refl, sym, ap, ◌∙◌}
-use Rattle.std.proofs.Common.{inl, inr, ◌⊎◌}
+use Rattle.sfv_model.specs.Places.{IsLike}
+use Rattle.sfv_model.specs.Judgements.{IsFault}
+use Rattle.std.proofs.Common.{◌≡◌, ℕ, List, [], ◌++◌, Err, refl, sym, ap, ◌∙◌, inl, inr, ◌⊎◌}
 use Rattle.std.specs.Prelude.{codes}
-use Rattle.sfv_spec.proofs.Marks.{comma, semicolon}
-use Rattle.sfv_spec.proofs.Marks.{is_space}
+use Rattle.sfv_spec.proofs.Marks.{comma, semicolon, is_space}
 use Rattle.sfv_spec.specs.declared.field_kind.FieldKind.{FieldKind}
 use Rattle.sfv_spec.specs.declared.field_kind.FieldKind.TheVariants.{Item as item_field, List as list_field}
 use Rattle.sfv_spec.specs.declared.field_kind.FieldKind.TheVariants.{Dictionary as dictionary_field}
 use Rattle.sfv_spec.specs.declared.version.Version.{Version}
 use Rattle.sfv_spec.specs.Grammar.{IsAccepted}
 use Rattle.sfv_spec.specs.Events.{events}
-use Rattle.sfv_spec.specs.Faults.{WantedFault}
+use Rattle.sfv_spec.specs.Faults.{WantedFault, bare_item, key, delimiter, end}
 use Rattle.sfv_spec.specs.declared.error_kind.ErrorKind.{ErrorKind}
 use Rattle.sfv_spec.specs.declared.error_kind.ErrorKind.TheVariants.{TrailingComma, TrailingCharactersAfterMember}
 use Rattle.sfv_spec.specs.declared.error_kind.ErrorKind.TheVariants.{TrailingCharactersAfterParsedValue}
 use Rattle.sfv_spec.specs.declared.error_kind.ErrorKind.TheVariants.{ExpectedInnerListDelimiter}
-use Rattle.sfv_spec.specs.Faults.{bare_item, key, delimiter, end}
 use Rattle.sfv_spec.specs.declared.error_kind.ErrorKind.TheVariants.{ExpectedStartOfBareItem, ExpectedStartOfKey}
 use Rattle.sfv_model.specs.Reader.{Fault, fail, branch, ahead}
 use Rattle.sfv_model.specs.Bare.{token_at, bare_at}
@@ -42,31 +41,28 @@ record Tells (version : Version) (kind : FieldKind) (u : List ℕ) (f : ErrorKin
   pub kind_of : by_comma fault.kind ≡ f
   pub outside : ¬ IsAccepted version kind (u ++ codes ";a)")
 
+-- by the fault of a comma, and one of what follows an inner list
+tells_by : (version : Version) (kind : FieldKind) (u : List ℕ) (x : Fault)
+    → (e : Fault) × (whole_field_at version kind (u ++ codes ",") ≡ Err e) × IsLike x e
+    → IsFault (whole_field_at version kind (u ++ codes ";a)")) → Tells version kind u (by_comma x.kind)
+tells_by version kind u x m n = record {
+  fault = m.0;
+  is_fault = ends_faulty version kind (u ++ codes ",") m.0 m.1;
+  kind_of = ap by_comma (sym m.2.kind);
+  outside = not_accepted version kind (u ++ codes ";a)") n;
+}
+
 tells_bare : (version : Version) (kind : FieldKind) (u : List ℕ)
     → Calls version calls.bare (whole_field_at version kind) u → Tells version kind u ExpectedStartOfBareItem
 unfolding bare_at token_at branch ahead fail
-tells_bare version kind u h =
-    let m = h.follows comma [] refl in
-    let n = h.follows semicolon (codes "a)") refl in
-    record {
-      fault = m.0;
-      is_fault = ends_faulty version kind (u ++ codes ",") m.0 m.1;
-      kind_of = ap by_comma (sym m.2.kind);
-      outside = not_accepted version kind (u ++ codes ";a)") (n.0, n.1);
-    }
+tells_bare version kind u h = let n = h.follows semicolon (codes "a)") refl in
+    tells_by version kind u _ (h.follows comma [] refl) (n.0, n.1)
 
 tells_key : (version : Version) (kind : FieldKind) (u : List ℕ)
     → Calls version calls.key (whole_field_at version kind) u → Tells version kind u ExpectedStartOfKey
 unfolding key_at branch fail
-tells_key version kind u h =
-    let m = h.follows comma [] refl in
-    let n = h.follows semicolon (codes "a)") refl in
-    record {
-      fault = m.0;
-      is_fault = ends_faulty version kind (u ++ codes ",") m.0 m.1;
-      kind_of = ap by_comma (sym m.2.kind);
-      outside = not_accepted version kind (u ++ codes ";a)") (n.0, n.1);
-    }
+tells_key version kind u h = let n = h.follows semicolon (codes "a)") refl in
+    tells_by version kind u _ (h.follows comma [] refl) (n.0, n.1)
 
 tells_end : (version : Version) (kind : FieldKind) (u : List ℕ) → kind ≡ item_field → IsAccepted version kind u
     → Tells version kind u TrailingCharactersAfterParsedValue

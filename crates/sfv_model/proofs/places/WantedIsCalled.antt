@@ -1,18 +1,17 @@
 -- Where a bare item or a key is wanted, the readers of a field call the reader of it.
-use Rattle.std.proofs.Common.{◌≡◌, ℕ, ◌≤◌, Bool, true, false, eqb, ◌||◌, List, [], ◌∷◌, ◌++◌, length, Ok, Err, refl}
-use Rattle.std.proofs.Common.{sym, ap, subst, ◌∙◌, append_assoc, arith, inl, inr, ◌⊎◌}
-use Rattle.std.specs.Prelude.{◌↔◌, codes, IsTrue}
+use Rattle.sfv_model.proofs.visits.BareFaultOffReach.{no_bare, nothing_there}
+use Rattle.sfv_spec.specs.Events.{TreeEvent}
+use Rattle.sfv_model.proofs.sound.Combinators.{Reads, sound_at, run_cons, run_head, run_tail}
+use Rattle.std.proofs.lemmas.Bool.Decides.{nat_tests}
+use Rattle.std.proofs.Common.{◌≡◌, ℕ, ◌≤◌, Bool, true, false, List, [], ◌∷◌, ◌++◌, length, Ok, Err, refl, sym, ap}
+use Rattle.std.proofs.Common.{subst, ◌∙◌, append_assoc, arith, inl, inr, ◌⊎◌}
+use Rattle.std.specs.Prelude.{codes, IsTrue}
 use Rattle.std.specs.List.{list_all}
-use Rattle.std.proofs.lemmas.Bool.{true≢false, and_from, and_parts, or_from, or_cases, or_left, cases_Bool}
-use Rattle.std.proofs.lemmas.Bool.{not-true, eqb-true}
+use Rattle.std.proofs.lemmas.Bool.{true≢false, and_from, and_parts, cases_Bool, not-true}
 use Rattle.std.proofs.lemmas.List.{append-nil, append_cancel_right, length-append}
-use Rattle.sfv_spec.proofs.Marks.{space, tab, asterisk}
-use Rattle.sfv_spec.proofs.Marks.{left_parenthesis, right_parenthesis, question_mark}
+use Rattle.sfv_spec.proofs.Marks.{asterisk, question_mark}
 use Rattle.sfv_spec.specs.Texts.{RunOf, begins_with}
-use Rattle.sfv_spec.specs.Classes.{is_key_start, is_key_inner, is_one_of}
-use Rattle.sfv_spec.proofs.Marks.{is_space_or_tab, is_lower_letter, is_digit}
-use Rattle.sfv_spec.specs.Classes.{is_key}
-use Rattle.sfv_spec.specs.Classes.{is_token_inner}
+use Rattle.sfv_spec.specs.Classes.{is_key_start, is_key_inner, is_key, is_token_inner}
 use Rattle.sfv_spec.specs.Values.{RawField, BareValue}
 use Rattle.sfv_spec.specs.declared.field_kind.FieldKind.{FieldKind}
 use Rattle.sfv_spec.specs.declared.version.Version.{Version}
@@ -20,24 +19,21 @@ use Rattle.sfv_spec.specs.Grammar.{IsAccepted, IsBareText, IsKeyText}
 use Rattle.sfv_spec.specs.Reach.{BeginsAccepted, WantsBareItem, WantsKey}
 use Rattle.sfv_spec.specs.declared.error_kind.ErrorKind.TheVariants.{ExpectedStartOfBareItem}
 use Rattle.sfv_spec.proofs.Bare.{is_bare_start, bare_begins}
-use Rattle.sfv_model.specs.Judgements.{Reached, Mute}
-use Rattle.sfv_model.specs.Reader.{Fault, Answer, Reader, at_reach, fail, branch, ahead}
-use Rattle.sfv_model.specs.Bare.{token_at, bare_at}
-use Rattle.sfv_model.specs.Items.{key_at}
-use Rattle.sfv_model.specs.Fields.{whole_field_at, read_field}
+use Rattle.sfv_model.specs.Reader.{Fault, Answer, Reader, at_reach}
+use Rattle.sfv_model.specs.Bare.{bare_at}
+use Rattle.sfv_model.specs.Fields.{whole_field_at}
 use Rattle.sfv_model.specs.Places.{is_beginning, WantedBareIsRead}
 use Rattle.sfv_model.proofs.faults.InsideBareItem.{mark_inside, asterisk_inside}
-use Rattle.sfv_model.proofs.sound.Combinators.{Somewhere, run_cons, run_head, run_tail}
-use Rattle.sfv_model.proofs.sound.Bare.{BareGoes, Sound-bare}
+use Rattle.sfv_model.proofs.sound.Bare.{Sound-bare}
 use Rattle.sfv_model.proofs.sound.Items.{Sound-key}
 use Rattle.sfv_model.proofs.complete.Combinators.{Apart-cons}
-use Rattle.sfv_model.proofs.complete.Bare.{apart_from, bare_complete}
+use Rattle.sfv_model.proofs.complete.Bare.{bare_complete}
 use Rattle.sfv_model.proofs.complete.Items.{key_complete}
 use Rattle.sfv_model.proofs.complete.Fields.{field_complete}
-use Rattle.sfv_model.proofs.places.Calls.{bare, key, blocked, Stuck, Follows, Calls}
+use Rattle.sfv_model.proofs.places.Calls.{bare, key, blocked, Follows, Calls}
 use Rattle.sfv_model.proofs.places.FaultsOfCalls.{eaten, marked, Met, Found, called, elsewhere, run_has}
 use Rattle.sfv_model.proofs.places.CallsOfReaders.{Ever, walk-field}
-use Rattle.sfv_model.proofs.places.CalledIsWanted.{wants_bare, ends_faulty, begins_stuck}
+use Rattle.sfv_model.proofs.places.CalledIsWanted.{ends_faulty, begins_stuck}
 
 -- ---- lists
 
@@ -54,27 +50,12 @@ front_split (y ∷ u) m (x ∷ p) r c e le =
 
 begins_part : (version : Version) (kind : FieldKind) (u v : List ℕ) → BeginsAccepted version kind (u ++ v)
     → BeginsAccepted version kind u
-begins_part version kind u v b = (v ++ b.0, subst (IsAccepted version kind) (append_assoc u v b.0) b.1)
+begins_part version kind u v b = (v ++ b.0, rw (← append_assoc u v b.0) b.1)
 
--- ---- what the leaves have read
-
-bare_read : (version : Version) (t r : List ℕ) (v : BareValue) → bare_at version t ≡ Ok (v, r)
-    → (s : List ℕ) × (t ≡ s ++ r) × IsBareText version v s
-bare_read version t r v i = subst (λ a. Reached (IsBareText version) (BareGoes version) (Somewhere
-    (BareGoes version)) t a)
-    i ((Sound-bare version).sound t)
-
-key_read : (t r k : List ℕ) → key_at t ≡ Ok (k, r) → (s : List ℕ) × (t ≡ s ++ r) × IsKeyText k s
-key_read t r k i = subst (λ a. Reached IsKeyText (Mute IsKeyText) (Somewhere (Mute IsKeyText)) t a) i
-    (Sound-key.sound t)
+-- ---- keys
 
 start_inner : (c : ℕ) → is_key_start c ≡ true → is_key_inner c ≡ true
-start_inner c e = elim (or_cases (is_lower_letter c) (eqb c asterisk) e) [
-  | inl l ↦
-      or_left (is_lower_letter c || is_digit c) (is_one_of (codes "_-.*") c) (or_left (is_lower_letter c)
-      (is_digit c) l)
-  | inr a ↦ ap is_key_inner (eqb-true c asterisk a)
-]
+start_inner c e = grind (arith, nat_tests)
 
 -- a key and bytes that go on with it
 key_longer : (c : ℕ) (x w more : List ℕ) → is_key (c ∷ (x ++ w)) ≡ true → RunOf is_key_inner more
@@ -92,20 +73,15 @@ key_run : (k s : List ℕ) → IsKeyText k s → RunOf is_key_inner s
 key_run [] s h = absurd (true≢false (sym h.0))
 key_run (c ∷ k) s h =
     let p = and_parts (is_key_start c) (list_all is_key_inner k) h.0 in
-    subst (RunOf is_key_inner) (sym h.1) (run_cons is_key_inner c k (start_inner c p.0) p.1)
+    rw h.1 (run_cons is_key_inner c k (start_inner c p.0) p.1)
 
 -- ---- whole texts, read after a place
 
 bare_free : (c : ℕ) → is_bare_start c ≡ true → blocked bare c ≡ false
-bare_free c h = or_from (is_space_or_tab c) (eqb c left_parenthesis || eqb c right_parenthesis)
-    (or_from (eqb c space) (eqb c tab) (apart_from is_bare_start space refl c h)
-    (apart_from is_bare_start tab refl c h))
-    (or_from (eqb c left_parenthesis) (eqb c right_parenthesis) (apart_from is_bare_start left_parenthesis refl c h)
-    (apart_from is_bare_start right_parenthesis refl c h))
+bare_free c h = grind (arith, nat_tests)
 
 key_free : (c : ℕ) → is_key_start c ≡ true → blocked key c ≡ false
-key_free c h = or_from (eqb c space) (eqb c tab) (apart_from is_key_start space refl c h)
-    (apart_from is_key_start tab refl c h)
+key_free c h = grind (arith, nat_tests)
 
 module _ (version : Version) (kind : FieldKind) where
   abbrev Field : Reader (RawField kind)
@@ -119,8 +95,7 @@ module _ (version : Version) (kind : FieldKind) where
       let on = c.follows d (s ++ 0 ∷ []) (bare_free d (bare_begins version w (d ∷ s) h)) in
       let follows : Follows {A = BareValue} (Ok (w, 0 ∷ [])) (Field (before ++ d ∷ (s ++ 0 ∷ []))) =
       subst (λ (a : Answer BareValue). Follows a (Field (before ++ d ∷ (s ++ 0 ∷ [])))) read on in
-      begins_stuck version kind (before ++ d ∷ s) (subst (λ (l : List ℕ). Stuck (Field l))
-      (sym (append_assoc before (d ∷ s) (0 ∷ []))) (follows refl))
+      begins_stuck version kind (before ++ d ∷ s) (rw (append_assoc before (d ∷ s) (0 ∷ [])) (follows refl))
 
   key_stuck : (before : List ℕ) (d : ℕ) (s : List ℕ) → Calls version key Field before → is_key_start d ≡ true
       → IsKeyText (d ∷ s) (d ∷ s) → BeginsAccepted version kind (before ++ d ∷ s)
@@ -129,32 +104,28 @@ module _ (version : Version) (kind : FieldKind) where
       let on = c.follows d (s ++ 0 ∷ []) (key_free d start) in
       let follows : Follows {A = List ℕ} (Ok (d ∷ s, 0 ∷ [])) (Field (before ++ d ∷ (s ++ 0 ∷ []))) =
       subst (λ (a : Answer (List ℕ)). Follows a (Field (before ++ d ∷ (s ++ 0 ∷ [])))) read on in
-      begins_stuck version kind (before ++ d ∷ s) (subst (λ (l : List ℕ). Stuck (Field l))
-      (sym (append_assoc before (d ∷ s) (0 ∷ []))) (follows refl))
+      begins_stuck version kind (before ++ d ∷ s) (rw (append_assoc before (d ∷ s) (0 ∷ [])) (follows refl))
 
   -- the leaf that takes a marked byte of an accepted text
   found : (u : List ℕ) (b : Bool) (m : List ℕ) → IsAccepted version kind (u ++ marked b ∷ m)
       → Found version (eaten b m) Field Ever (u ++ marked b ∷ m)
   found u b m a =
       let read : Field (u ++ marked b ∷ m) ≡ Ok (a.0, []) = field_complete version kind a.0 (u ++ marked b ∷ m) a.1 in
-      (walk-field version (eaten b m) kind).walk (u ++ marked b ∷ m)
-      (subst (λ (a : Answer (RawField kind)). Met (eaten b m) (u ++ marked b ∷ m) a) (sym read)
-      (u, refl, omega arith))
+      (walk-field version (eaten b m) kind).walk (u ++ marked b ∷ m) (rw read (u, refl, omega arith))
 
   -- what a leaf has read, with the marked byte in it
-  pub at_leaf : {A : Type 0} (f : Reader A) (P : A → List ℕ → Type 0)
-      → ((t r : List ℕ) (v : A) → f t ≡ Ok (v, r) → (s : List ℕ) × (t ≡ s ++ r) × P v s)
-      → (b : Bool) (m s : List ℕ) → Met (eaten b m) s (f s)
+  pub at_leaf : {A : Type 0} {f : Reader A} {P : A → List ℕ → Type 0} {W : List ℕ → List TreeEvent → Type 0}
+      → Reads f P W → (b : Bool) (m s : List ℕ) → Met (eaten b m) s (f s)
       → (x w : List ℕ) × (v : A) × (s ≡ x ++ marked b ∷ m) × P v (x ++ marked b ∷ w)
-  at_leaf {A} f P reads b m s met = on (f s) refl met
+  at_leaf {A} {f} {P} reads b m s met = on (f s) refl met
     where
       on : (a : Answer A) → f s ≡ a → Met (eaten b m) s a
           → (x : List ℕ) × (w : List ℕ) × (v : A) × (s ≡ x ++ marked b ∷ m) × P v (x ++ marked b ∷ w)
       on (Err x) i h = absurd h
       on (Ok y) i h =
-          let r = reads s y.1 y.0 i in
+          let r = sound_at reads s (Ok y) i in
           let p = front_split h.0 m r.0 y.1 (marked b) (sym h.1 ∙ r.1) h.2 in
-          (h.0, p.0, y.0, h.1, subst (P y.0) p.1 r.2)
+          (h.0, p.0, y.0, h.1, rw (← p.1) r.2)
 
   -- ---- bare items
 
@@ -167,47 +138,32 @@ module _ (version : Version) (kind : FieldKind) where
   by_mark : (u before x w : List ℕ) (v : BareValue) → u ≡ before ++ x → Calls version bare Field before
       → IsBareText version v (x ++ question_mark ∷ w) → ¬ BeginsAccepted version kind (u ++ codes "((")
       → Calls version bare Field u
-  by_mark u before [] w v parts c h out = subst (Calls version bare Field) (sym (parts ∙ append-nil before)) c
+  by_mark u before [] w v parts c h out = rw (parts ∙ append-nil before) c
   by_mark u before (d ∷ x) w v parts c h out =
       let m = mark_inside version v d x w h in
       let b = bare_stuck before (d ∷ x ++ codes "((" ++ m.1) m.0 c m.2 in
       absurd (out (begins_part version kind (u ++ codes "((") m.1 (subst (BeginsAccepted version kind)
-      (sym (append_assoc before ((d ∷ x) ++ codes "((") m.1)
-      ∙ ap (λ (l : List ℕ). l ++ m.1) (sym (append_assoc before (d ∷ x) (codes "(("))
-      ∙ ap (λ (l : List ℕ). l ++ codes "((") (sym parts))) b)))
+      (simp (append_assoc, append_assoc, parts)) b)))
 
   -- a question mark may follow, and two parentheses may not
   calls_marked : (u : List ℕ) → BeginsAccepted version kind (u ++ codes "?")
       → ¬ BeginsAccepted version kind (u ++ codes "((") → Calls version bare Field u
-  calls_marked u mark out =
-      on (found u true mark.0 (subst (IsAccepted version kind) (append_assoc u (codes "?") mark.0) mark.1))
+  calls_marked u mark out = on (found u true mark.0 (rw (← append_assoc u (codes "?") mark.0) mark.1))
     where
       on : Found version (eaten true mark.0) Field Ever (u ++ question_mark ∷ mark.0) → Calls version bare Field u
       on (called bare before s parts c some met) =
-          let m = at_leaf (bare_at version) (IsBareText version) (bare_read version) true mark.0 s met in
+          let m = at_leaf (Sound-bare version) true mark.0 s met in
           by_mark u before m.0 m.1 m.2 (append_cancel_right u (before ++ m.0) (question_mark ∷ mark.0)
           (parts ∙ ap (λ (l : List ℕ). before ++ l) m.3 ∙ sym (append_assoc before m.0 (question_mark ∷ mark.0))))
           c m.4 out
       on (called key before s parts c some met) =
-          let m = at_leaf key_at IsKeyText key_read true mark.0 s met in
+          let m = at_leaf Sound-key true mark.0 s met in
           absurd (no_mark_in_key m.0 m.1 m.2 m.4)
       on (elsewhere o) = absurd o
 
   pub calls_wanted : (u : List ℕ) → WantsBareItem version kind u → Calls version bare Field u
   calls_wanted u h = calls_marked u (begins_part version kind (u ++ codes "?") (codes "1")
-      (subst (BeginsAccepted version kind) (sym (append_assoc u (codes "?") (codes "1"))) h.true_follows)) h.not_in_string
-
-  -- so a question mark alone shows it as well
-  pub marked_is_wanted : (u : List ℕ) → WantsBareItem version kind u
-      ↔ (BeginsAccepted version kind (u ++ codes "?") × (¬ BeginsAccepted version kind (u ++ codes "((")))
-  marked_is_wanted u = (
-    λ h. (
-      begins_part version kind (u ++ codes "?") (codes "1") (subst (BeginsAccepted version kind)
-          (sym (append_assoc u (codes "?") (codes "1"))) h.true_follows),
-      h.not_in_string,
-    ),
-    λ h. wants_bare version kind u (calls_marked u h.0 h.1),
-  )
+      (rw (append_assoc u (codes "?") (codes "1")) h.true_follows)) h.not_in_string
 
   -- ---- keys
 
@@ -216,33 +172,32 @@ module _ (version : Version) (kind : FieldKind) where
   by_bare u before x w v parts c h =
       let m = asterisk_inside version v x w h in
       let b = bare_stuck before (x ++ codes "1" ++ m.1) m.0 c m.2 in
-      begins_part version kind (u ++ codes "1") m.1 (subst (BeginsAccepted version kind)
-      (sym (append_assoc before (x ++ codes "1") m.1)
-      ∙ ap (λ (l : List ℕ). l ++ m.1) (sym (append_assoc before x (codes "1"))
-      ∙ ap (λ (l : List ℕ). l ++ codes "1") (sym parts))) b)
+      begins_part version kind (u ++ codes "1") m.1 (rw
+      (← sym (append_assoc before (x ++ codes "1") m.1) ∙ ap (λ (l : List ℕ). l ++ m.1)
+      (sym (append_assoc before x (codes "1")) ∙ ap (λ (l : List ℕ). l ++ codes "1") (sym parts))) b)
 
   by_key : (u before x w v : List ℕ) → u ≡ before ++ x → Calls version key Field before
       → IsKeyText v (x ++ asterisk ∷ w) → ¬ BeginsAccepted version kind (u ++ codes "1") → Calls version key Field u
-  by_key u before [] w v parts c h out = subst (Calls version key Field) (sym (parts ∙ append-nil before)) c
+  by_key u before [] w v parts c h out = rw (parts ∙ append-nil before) c
   by_key u before (d ∷ x) w v parts c h out =
       let is : is_key (d ∷ (x ++ asterisk ∷ w)) ≡ true = ap is_key h.1 ∙ h.0 in
       let p = and_parts (is_key_start d) (list_all is_key_inner (x ++ asterisk ∷ w)) is in
       let b = key_stuck before d (x ++ codes "1") c p.0 (key_longer d x (asterisk ∷ w) (codes "1") is refl) in
-      absurd (out (subst (BeginsAccepted version kind) (sym (append_assoc before (d ∷ x) (codes "1"))
-      ∙ ap (λ (l : List ℕ). l ++ codes "1") (sym parts)) b))
+      absurd (out
+      (rw (← sym (append_assoc before (d ∷ x) (codes "1")) ∙ ap (λ (l : List ℕ). l ++ codes "1") (sym parts)) b))
 
   pub calls_wanted_key : (u : List ℕ) → WantsKey version kind u → Calls version key Field u
   calls_wanted_key u h =
-      on (found u false h.key_follows.0 (subst (IsAccepted version kind) (append_assoc u (codes "*") h.key_follows.0) h.key_follows.1))
+      on (found u false h.key_follows.0 (rw (← append_assoc u (codes "*") h.key_follows.0) h.key_follows.1))
     where
       on : Found version (eaten false h.key_follows.0) Field Ever (u ++ asterisk ∷ h.key_follows.0) → Calls version key Field u
       on (called bare before s parts c some met) =
-          let m = at_leaf (bare_at version) (IsBareText version) (bare_read version) false h.key_follows.0 s met in
+          let m = at_leaf (Sound-bare version) false h.key_follows.0 s met in
           absurd (h.not_in_word (by_bare u before m.0 m.1 m.2 (append_cancel_right u (before ++ m.0) (asterisk ∷ h.key_follows.0)
           (parts ∙ ap (λ (l : List ℕ). before ++ l) m.3 ∙ sym (append_assoc before m.0 (asterisk ∷ h.key_follows.0))))
           c m.4))
       on (called key before s parts c some met) =
-          let m = at_leaf key_at IsKeyText key_read false h.key_follows.0 s met in
+          let m = at_leaf Sound-key false h.key_follows.0 s met in
           by_key u before m.0 m.1 m.2 (append_cancel_right u (before ++ m.0) (asterisk ∷ h.key_follows.0)
           (parts ∙ ap (λ (l : List ℕ). before ++ l) m.3 ∙ sym (append_assoc before m.0 (asterisk ∷ h.key_follows.0))))
           c m.4 h.not_in_word
@@ -253,21 +208,9 @@ module _ (version : Version) (kind : FieldKind) where
 -- a byte that may stand in front of a bare item begins none
 none_begun : (version : Version) (c : ℕ) (r : List ℕ) → blocked bare c ≡ true
     → bare_at version (c ∷ r) ≡ Err (at_reach ExpectedStartOfBareItem (c ∷ r))
-unfolding bare_at token_at branch ahead fail
-none_begun version c r h = elim (or_cases (is_space_or_tab c) (eqb c left_parenthesis || eqb c right_parenthesis) h) [
-  | inl b ↦ elim (or_cases (eqb c space) (eqb c tab) b) [
-    | inl e ↦ rw (eqb-true c space e) refl
-    | inr e ↦ rw (eqb-true c tab e) refl
-  ]
-  | inr b ↦ elim (or_cases (eqb c left_parenthesis) (eqb c right_parenthesis) b) [
-    | inl e ↦ rw (eqb-true c left_parenthesis e) refl
-    | inr e ↦ rw (eqb-true c right_parenthesis e) refl
-  ]
-]
-
-none_at_end : (version : Version) → bare_at version [] ≡ Err (at_reach ExpectedStartOfBareItem [])
-unfolding bare_at token_at branch ahead fail
-none_at_end version = refl
+none_begun version c r h = no_bare version c r (grind (arith, nat_tests)) (grind (arith, nat_tests))
+    (grind (arith, nat_tests)) (grind (arith, nat_tests)) (grind (arith, nat_tests)) (grind (arith, nat_tests))
+    (grind (arith, nat_tests))
 
 -- a bare item is begun, or could be
 abbrev Opening : List ℕ → Type 0
@@ -277,7 +220,7 @@ opening : (version : Version) (s : List ℕ) (x : Fault) → bare_at version s �
     → (¬ (x.kind ≡ ExpectedStartOfBareItem)) ⊎ IsTrue (begins_with is_beginning s) → Opening s
 opening version [] x i (inr h) = absurd (true≢false (sym h))
 opening version [] x i (inl n) =
-    let both = sym (none_at_end version) ∙ i in
+    let both = sym (nothing_there version) ∙ i in
     let same : at_reach ExpectedStartOfBareItem [] ≡ x = cc in
     absurd (n (ap (λ (x : Fault). x.kind) (sym same)))
 opening version (c ∷ r) x i (inr h) = (c, r, refl, not-true (blocked bare c) h)
@@ -298,7 +241,6 @@ wanted_bare_is_read version kind t before s x place i side =
     subst (λ (a : Answer BareValue). Follows a (whole_field_at version kind (before ++ o.0 ∷ o.1)))
     (ap (bare_at version) (sym o.2) ∙ i) on in (
       follows.0,
-      ap (read_field version kind) (place.text ∙ ap (λ (l : List ℕ). before ++ l) o.2)
-          ∙ ends_faulty version kind (before ++ o.0 ∷ o.1) follows.0 follows.1,
+      simp (place.text, o.2, ends_faulty version kind (before ++ o.0 ∷ o.1) follows.0 follows.1),
       follows.2,
     )

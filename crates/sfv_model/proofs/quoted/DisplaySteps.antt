@@ -1,11 +1,11 @@
 -- The steps over the inside of a Display String in an input.
+use Rattle.std.proofs.lemmas.Bool.Decides.{nat_tests}
 use Rattle.std.proofs.Common.{◌≡◌, ℕ, suc, ◌<◌, ◌≤◌, ◌+◌, Bool, true, false, cond, not, ◌||◌, List, [], ◌∷◌, ◌++◌}
 use Rattle.std.proofs.Common.{length, drop, Ok, Err, refl, sym, ap, subst, ◌∙◌, append_assoc, length-drop, arith, inl}
 use Rattle.std.proofs.Common.{inr}
 use Rattle.std.specs.Prelude.{◌==◌, IsUtf8, slice_index}
 use Rattle.std.specs.List.{concat, AllZip}
-use Rattle.std.proofs.lemmas.Bool.{and_parts, and_cases, or_parts, or_from, not-true, not_from_false, both_ways}
-use Rattle.std.proofs.lemmas.Bool.{eqb-true}
+use Rattle.std.proofs.lemmas.Bool.{cases_Bool, and_parts, or_parts, not-true, both_ways, eqb-true}
 use Rattle.std.proofs.lemmas.List.{append-nil, drop-drop}
 use Rattle.sfv_spec.proofs.Marks.{double_quote, percent_sign}
 use Rattle.sfv_spec.specs.Texts.{RunOf}
@@ -13,15 +13,13 @@ use Rattle.sfv_spec.specs.Classes.{is_string_byte}
 use Rattle.sfv_spec.specs.Strings.{is_plain_in_display, IsDisplayPiece}
 use Rattle.sfv_spec.specs.declared.error_kind.ErrorKind.TheVariants.{InvalidUtf8InDisplayString}
 use Rattle.sfv_model.specs.Reader.{Answer, by_rule}
-use Rattle.sfv_model.specs.Quoted.{after_bytes, outside, pieces_from, after_pieces, checked, display_at}
-use Rattle.sfv_model.specs.Quoted.{DisplayStops, Traced}
+use Rattle.sfv_model.specs.Quoted.{outside, pieces_from, after_pieces, checked, display_at, DisplayStops, Traced}
 use Rattle.std.specs.Str.Lossy.{utf8_valid_len}
 use Rattle.sfv_model.proofs.complete.Quoted.{passes}
 use Rattle.sfv_model.proofs.faults.Quoted.{not_text}
 use Rattle.sfv_model.proofs.texts.Ranges.{byte_at, string_utf8, run_weaker}
 use Rattle.sfv_model.proofs.quoted.Traces.{Ends, trace_of_display}
-use Rattle.sfv_model.proofs.quoted.Pieces.{past_display}
-use Rattle.sfv_model.proofs.quoted.Pieces.{quote_display}
+use Rattle.sfv_model.proofs.quoted.Pieces.{past_display, quote_display}
 
 pub plain_utf8 : (run : List ℕ) → RunOf is_plain_in_display run → IsUtf8 run
 plain_utf8 run h = string_utf8 run (run_weaker is_plain_in_display is_string_byte
@@ -30,13 +28,7 @@ plain_utf8 run h = string_utf8 run (run_weaker is_plain_in_display is_string_byt
 -- a byte that is not plain, and neither the quote nor the percent sign
 pub outside_byte : (c : ℕ) → is_plain_in_display c ≡ false → (c == double_quote) ≡ false → (c == percent_sign) ≡ false
     → is_string_byte c ≡ false
-outside_byte c h q p = elim (and_cases (is_string_byte c) (not ((c == percent_sign) || (c == double_quote))) h) as (λ x.
-    is_string_byte c ≡ false) [
-      | inl e ↦ e
-      | inr e ↦ absurd (both_ways (not ((c == percent_sign) || (c == double_quote))) e
-          (not_from_false ((c == percent_sign) || (c == double_quote))
-          (or_from (c == percent_sign) (c == double_quote) p q)))
-    ]
+outside_byte c h q p = grind (arith, nat_tests)
 
 -- ---- what the look at UTF-8 makes of it
 
@@ -72,9 +64,7 @@ record OnePiece (t bytes rest : List ℕ) : Type 0 where
 
 read_pieces : (bytes : List ℕ) (pieces : List (List ℕ)) (left rest : List ℕ) → AllZip IsDisplayPiece bytes pieces
     → left ≡ double_quote ∷ rest → pieces_from outside (concat pieces ++ left) ≡ Ok (bytes, rest)
-read_pieces bytes pieces left rest h e = past_display bytes pieces left h
-    ∙ ap (after_bytes bytes) (ap (pieces_from outside) e ∙ quote_display rest)
-    ∙ ap (λ (l : List ℕ). Ok (l, rest)) (append-nil bytes)
+read_pieces bytes pieces left rest h e = cc (past_display bytes pieces left h, quote_display rest, append-nil bytes)
 
 one_piece : (bytes : List ℕ) (pieces : List (List ℕ)) (left rest t : List ℕ) → AllZip IsDisplayPiece bytes pieces
     → left ≡ double_quote ∷ rest → t ≡ concat pieces ++ left → 1 ≤ length bytes → OnePiece t bytes rest
@@ -92,15 +82,12 @@ one_piece (b ∷ bytes) (p ∷ pieces) left rest t h e f n =
             c = b;
             r = tail;
             text = whole ∙ ap (λ (l : List ℕ). l ++ tail) q.1;
-            long = λ i. absurd (both_ways (b == percent_sign) o.0
-                (subst (λ (c : ℕ). (c == percent_sign) ≡ true) (sym i) refl));
+            long = λ i. absurd (both_ways (b == percent_sign) o.0 (rw i refl));
             later = bytes;
-            read = subst (λ (x : Bool). pieces_from outside (cond x (drop 2 tail) tail)
-                ≡ Ok (bytes, rest)) (sym o.0) (read_pieces bytes pieces left rest h.1 e);
+            read = rw o.0 (read_pieces bytes pieces left rest h.1 e);
             count = refl;
           }
-      | inr q ↦
-          let here : t ≡ percent_sign ∷ q.0 ∷ q.1 ∷ tail = whole ∙ ap (λ (l : List ℕ). l ++ tail) q.4 in
+      | inr q ↦ let here : t ≡ percent_sign ∷ q.0 ∷ q.1 ∷ tail = cc in
           record {
             c = percent_sign;
             r = q.0 ∷ q.1 ∷ tail;
@@ -117,8 +104,7 @@ first_piece : (t bytes rest : List ℕ) → pieces_from outside t ≡ Ok (bytes,
 first_piece t bytes rest e n =
     let h = subst (λ (a : Answer (List ℕ)). Traced IsDisplayPiece t (Ends false DisplayStops a)) e
     (trace_of_display t) in
-    one_piece bytes h.pieces h.left rest t (subst (λ (s : List ℕ). AllZip IsDisplayPiece s h.pieces) (sym h.ends.0)
-    h.content) h.ends.1 h.text n
+    one_piece bytes h.pieces h.left rest t (rw h.ends.0 h.content) h.ends.1 h.text n
 
 drop_two : (r : List ℕ) (c : ℕ) (b : Bool) → drop (cond b 3 1) (c ∷ r) ≡ cond b (drop 2 r) r
 drop_two r c true = refl
@@ -135,26 +121,21 @@ leads_on input index count goal h =
     let o = first_piece (drop index input) h.bytes h.rest h.read (omega (arith, h.enough)) in
     let len : length (drop index input) ≡ suc (length o.r) = ap (length {A = ℕ}) o.text in
     let inside : index < length input = omega (arith, len, length-drop index input, h.within) in
-    let same : slice_index input index ∷ drop (index + 1) input ≡ o.c ∷ o.r = sym (byte_at input index inside)
-    ∙ o.text in
+    let same : slice_index input index ∷ drop (index + 1) input ≡ o.c ∷ o.r = cc (byte_at input index inside, o.text) in
     let byte : slice_index input index ≡ o.c = cc in
     let n : ℕ = cond (o.c == percent_sign) 3 1 in
-    let short : (b : Bool) → (o.c == percent_sign) ≡ b
-    → index + cond b 3 1 ≤ length input = λ b. elim b as (λ (b : Bool). (o.c == percent_sign) ≡ b
-    → index + cond b 3 1 ≤ length input) [
-      | true ↦
-          (λ e. let long = o.long (eqb-true o.c percent_sign e) in
-          omega (arith, long, length-drop index input, h.within))
-      | false ↦ (λ e. omega (arith, inside))
+    let short : index + n ≤ length input = elim (cases_Bool (o.c == percent_sign)) [
+      | inl e ↦ let long = o.long (eqb-true o.c percent_sign e) in
+          rw e (omega (arith, long, length-drop index input, h.within))
+      | inr e ↦ rw e (omega (arith, inside))
     ] in
-    let next : drop (index + n) input ≡ cond (o.c == percent_sign) (drop 2 o.r) o.r = sym (drop-drop n index input)
-    ∙ ap (drop n) o.text ∙ drop_two o.r o.c (o.c == percent_sign) in
+    let next = sym (drop-drop n index input) ∙ ap (drop n) o.text ∙ drop_two o.r o.c (o.c == percent_sign) in
     let there : LeadsTo input (index + n) count goal = record {
-      within = short (o.c == percent_sign) refl;
+      within = short;
       bytes = o.later;
       rest = h.rest;
       read = ap (pieces_from outside) next ∙ o.read;
       enough = omega (arith, h.enough, o.count);
       here = ap (after_pieces count) next ∙ ap (after_pieces (suc count)) (sym o.text) ∙ h.here;
     } in
-    (inside, subst (λ (c : ℕ). LeadsTo input (index + cond (c == percent_sign) 3 1) count goal) (sym byte) there)
+    (inside, rw byte there)

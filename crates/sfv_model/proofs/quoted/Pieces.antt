@@ -1,6 +1,6 @@
 -- Pieces are read one by one, and a reader stops where no piece follows.
 use Rattle.std.proofs.Common.{◌≡◌, ℕ, zero, suc, ◌≤◌, Bool, true, false, cond, not, ◌&&◌, ◌||◌, List, [], ◌∷◌, ◌++◌}
-use Rattle.std.proofs.Common.{length, take, Ok, Err, refl, sym, ap, subst, ◌∙◌, append_assoc, arith, inl, inr}
+use Rattle.std.proofs.Common.{length, take, Ok, Err, refl, sym, ap, ◌∙◌, append_assoc, arith, inl, inr}
 use Rattle.std.specs.Prelude.{◌==◌}
 use Rattle.std.specs.List.{concat, AllZip}
 use Rattle.std.proofs.lemmas.Bool.{and_parts, and_left, ne_eqb, or_parts, not-true, both_ways}
@@ -15,8 +15,8 @@ use Rattle.sfv_spec.specs.declared.error_kind.ErrorKind.TheVariants.{Unterminate
 use Rattle.sfv_spec.specs.declared.error_kind.ErrorKind.TheVariants.{InvalidDisplayStringCharacter}
 use Rattle.sfv_spec.specs.declared.error_kind.ErrorKind.TheVariants.{UnterminatedDisplayString}
 use Rattle.sfv_model.specs.Reader.{has_rule, first, Answer, Reader, at_reach, by_rule}
-use Rattle.sfv_model.specs.Quoted.{after_bytes, string_from, Place, outside, percent, digit, pieces_from}
-use Rattle.sfv_model.specs.Quoted.{StringStops, DisplayStops}
+use Rattle.sfv_model.specs.Quoted.{after_bytes, string_from, Place, outside, percent, digit, pieces_from, StringStops}
+use Rattle.sfv_model.specs.Quoted.{DisplayStops}
 
 -- ---- values in front
 
@@ -95,7 +95,7 @@ quote_display t = refl
 
 -- what is no byte of a string is none of its bytes
 not_byte : (w n : ℕ) → is_string_byte w ≡ false → is_string_byte n ≡ true → (w == n) ≡ false
-not_byte w n h k = ne_eqb w n (λ e. both_ways (is_string_byte n) (subst (λ (c : ℕ). is_string_byte c ≡ false) e h) k)
+not_byte w n h k = ne_eqb w n (λ e. both_ways (is_string_byte n) (rw (← e) h) k)
 
 wrong_string : (w : ℕ) (more : List ℕ) → is_string_byte w ≡ false
     → string_from false (w ∷ more) ≡ Err (at_reach InvalidStringCharacter (w ∷ more))
@@ -167,14 +167,12 @@ string_stops_whole UnterminatedString left there h =
 string_stops_whole UnterminatedEscapeSequence left there h = (
   backslash ∷ [],
   h.0 ∙ ap (λ (l : List ℕ). backslash ∷ l) (sym h.1),
-  λ r e. let n : r ≡ [] =
-      no_first r (e ∙ ap first h.1) in (ap (λ (l : List ℕ). backslash ∷ l) n, n),
+  λ r e. let n : r ≡ [] = no_first r (cc) in (ap (λ (l : List ℕ). backslash ∷ l) n, n),
 )
 string_stops_whole InvalidEscapeSequence left there h = (
   backslash ∷ [],
   h.2 ∙ ap (λ (l : List ℕ). backslash ∷ l) (sym h.3),
-  λ r e. let s =
-      same_first h.0 h.1 r (e ∙ ap first h.3) in (h.0, s.0, ap (λ (l : List ℕ). backslash ∷ l) s.1, s.1, h.4),
+  λ r e. let s = same_first h.0 h.1 r (cc) in (h.0, s.0, ap (λ (l : List ℕ). backslash ∷ l) s.1, s.1, h.4),
 )
 string_stops_whole InvalidStringCharacter left there h =
     ([], h.2 ∙ sym h.3, λ r e. let s = same_first h.0 h.1 r (e ∙ ap first h.3) in (h.0, s.0, s.1, s.1, h.4))
@@ -272,10 +270,9 @@ stuck_wrong (d ∷ []) w more h l k (suc (suc n)) m = rw ((and_parts (is_lower_h
 stuck_wrong (d ∷ e ∷ ds) w more h l k n m = absurd (omega (arith, l))
 
 pub stuck : (k : ErrorKind) (left there : List ℕ) → DisplayStops k left there → IsStuck left
-stuck UnterminatedDisplayString left there h = subst IsStuck (sym h.0) (λ n m. absurd (omega (arith, m)))
-stuck UnterminatedEscapeSequence left there h = subst IsStuck (sym h.1) (stuck_cut h.0 h.3 h.4)
-stuck InvalidEscapeSequence left there h = subst IsStuck (sym h.3) (stuck_wrong h.0 h.1 h.2 h.5 h.6 h.7)
+stuck UnterminatedDisplayString left there h = rw h.0 (λ n m. absurd (omega (arith, m)))
+stuck UnterminatedEscapeSequence left there h = rw h.1 (stuck_cut h.0 h.3 h.4)
+stuck InvalidEscapeSequence left there h = rw h.3 (stuck_wrong h.0 h.1 h.2 h.5 h.6 h.7)
 stuck InvalidDisplayStringCharacter left there h =
-    subst IsStuck (sym h.2) (stuck_byte h.0 h.1 (not_byte h.0 percent_sign h.4 refl)
-    (and_left (is_string_byte h.0) _ h.4))
+    rw h.2 (stuck_byte h.0 h.1 (not_byte h.0 percent_sign h.4 refl) (and_left (is_string_byte h.0) _ h.4))
 stuck _ left there h = absurd h

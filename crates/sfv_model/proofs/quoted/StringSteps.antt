@@ -1,11 +1,9 @@
 -- The steps over the inside of a String in an input.
-use Rattle.std.proofs.Common.{◌≡◌, ℕ, true, false, not, List, [], ◌∷◌, Ok}
-use Rattle.std.proofs.Common.{refl, sym, ap, subst, inl, inr}
-use Rattle.std.specs.Prelude.{◌==◌, IsUtf8}
+use Rattle.std.proofs.Common.{arith, ◌≡◌, ℕ, true, false, not, List, [], ◌∷◌, Ok, refl, subst, inl, inr}
+use Rattle.std.proofs.lemmas.Bool.Decides.{nat_tests}
+use Rattle.std.specs.Prelude.{IsUtf8}
 use Rattle.std.specs.List.{AllZip, list_all}
 use Rattle.std.proofs.lemmas.Bool.{and_parts, and_from}
-use Rattle.std.proofs.lemmas.Bool.{eqb-true, or_cases}
-use Rattle.sfv_spec.proofs.Marks.{double_quote, backslash}
 use Rattle.sfv_spec.specs.Texts.{RunOf}
 use Rattle.sfv_spec.specs.Classes.{is_string_byte}
 use Rattle.sfv_spec.specs.Strings.{is_escaped_in_string, IsStringPiece}
@@ -26,11 +24,7 @@ plain_utf8 run h = string_utf8 run (plain_bytes run h)
 -- the byte of a piece is of a string
 pub piece_byte : (c : ℕ) (piece : List ℕ) → IsStringPiece c piece → is_string_byte c ≡ true
 piece_byte c piece (inl h) = (and_parts (is_string_byte c) (not (is_escaped_in_string c)) h.0).0
-piece_byte c piece (inr h) = elim (or_cases (c == double_quote) (c == backslash) h.0) [
-  | inl e ↦
-      ap is_string_byte (eqb-true c double_quote e)
-  | inr e ↦ ap is_string_byte (eqb-true c backslash e)
-]
+piece_byte c piece (inr h) = grind (arith, nat_tests, h.0)
 
 -- so are the bytes of a row of pieces
 pub piece_bytes : (bytes : List ℕ) (pieces : List (List ℕ)) → AllZip IsStringPiece bytes pieces
@@ -44,7 +38,7 @@ piece_bytes (c ∷ bytes) (p ∷ pieces) h = and_from (is_string_byte c) (list_a
 pub read_bytes : (t bytes rest : List ℕ) → string_from false t ≡ Ok (bytes, rest) → RunOf is_string_byte bytes
 read_bytes t bytes rest e =
     let h = subst (λ (a : Answer (List ℕ)). Traced IsStringPiece t (Ends true StringStops a)) e (trace_of_string t) in
-    subst (RunOf is_string_byte) (sym h.ends.0) (piece_bytes h.bytes h.pieces h.content)
+    rw h.ends.0 (piece_bytes h.bytes h.pieces h.content)
 
 pub read_utf8 : (t bytes rest : List ℕ) → string_from false t ≡ Ok (bytes, rest) → IsUtf8 bytes
 read_utf8 t bytes rest e = string_utf8 bytes (read_bytes t bytes rest e)

@@ -1,9 +1,10 @@
 -- Each reading is a run of pieces, and what stands after them.
-use Rattle.std.proofs.Common.{◌≡◌, ℕ, ◌+◌, ◌*◌, Bool, true, false, cond, not, ◌||◌, List, [], ◌∷◌, ◌++◌, Ok, Err, refl}
-use Rattle.std.proofs.Common.{sym, ap, subst, ◌∙◌, append_assoc, lit≤, inl, inr}
+use Rattle.std.proofs.Common.{arith, ◌≡◌, ℕ, ◌+◌, ◌*◌, Bool, true, false, List, [], ◌∷◌, ◌++◌, Ok, Err, refl, sym, ap}
+use Rattle.std.proofs.Common.{◌∙◌, append_assoc, lit≤, inl, inr}
+use Rattle.std.proofs.lemmas.Bool.Decides.{nat_tests}
 use Rattle.std.specs.Prelude.{◌==◌, IsTrue}
 use Rattle.std.specs.List.{concat}
-use Rattle.std.proofs.lemmas.Bool.{and_from, eqb-true, or_from, not_from_false}
+use Rattle.std.proofs.lemmas.Bool.{and_from, eqb-true, cases_Bool}
 use Rattle.sfv_spec.proofs.Marks.{double_quote, percent_sign, backslash}
 use Rattle.sfv_spec.specs.Classes.{is_string_byte, is_lower_hexadecimal}
 use Rattle.sfv_spec.specs.Strings.{is_escaped_in_string, IsStringPiece, IsDisplayPiece}
@@ -14,8 +15,8 @@ use Rattle.sfv_spec.specs.declared.error_kind.ErrorKind.TheVariants.{Unterminate
 use Rattle.sfv_spec.specs.declared.error_kind.ErrorKind.TheVariants.{InvalidDisplayStringCharacter}
 use Rattle.sfv_spec.specs.declared.error_kind.ErrorKind.TheVariants.{UnterminatedDisplayString}
 use Rattle.sfv_model.specs.Reader.{Answer, placed, at_reach, by_rule}
-use Rattle.sfv_model.specs.Quoted.{after_bytes, string_from, Place, outside, percent, digit, pieces_from}
-use Rattle.sfv_model.specs.Quoted.{StringStops, DisplayStops, Traced}
+use Rattle.sfv_model.specs.Quoted.{after_bytes, string_from, Place, outside, percent, digit, pieces_from, StringStops}
+use Rattle.sfv_model.specs.Quoted.{DisplayStops, Traced}
 
 -- the bytes that were read and the closing quote, or a fault
 abbrev pub Ends : Bool → (ErrorKind → List ℕ → List ℕ → Type 0) → Answer (List ℕ) → List ℕ → List ℕ → Type 0
@@ -65,49 +66,25 @@ trace_string false [] = stop true IsStringPiece StringStops [] (Err (at_reach Un
 )
 trace_string true [] = stop true IsStringPiece StringStops (backslash ∷ [])
     (Err (at_reach UnterminatedEscapeSequence [])) (refl, (refl, refl))
-trace_string true (c ∷ r) =
-    let on : (e : Bool) → is_escaped_in_string c ≡ e
-    → StringTrace true (c ∷ r) (cond e (after_bytes (c ∷ []) (string_from false r))
-    (Err (at_reach InvalidEscapeSequence (c ∷ r)))) =
-    λ e. elim e as (λ (e : Bool). is_escaped_in_string c ≡ e
-    → StringTrace true (c ∷ r) (cond e (after_bytes (c ∷ []) (string_from false r))
-    (Err (at_reach InvalidEscapeSequence (c ∷ r))))) [
-      | true ↦ λ i. add true IsStringPiece StringStops c (backslash ∷ c ∷ []) r (string_from false r) (inr (i, refl))
-          (trace_string false r)
-      | false ↦ λ i. stop true IsStringPiece StringStops (backslash ∷ c ∷ r)
-          (Err (at_reach InvalidEscapeSequence (c ∷ r))) (refl, (c, r, refl, refl, i))
-    ] in on (is_escaped_in_string c) refl
-trace_string false (c ∷ r) =
-    let A : Bool → Bool → Bool → Answer (List ℕ) =
-    λ q s p. cond q (Ok ([], r)) (cond s (string_from true r)
-    (cond p (after_bytes (c ∷ []) (string_from false r)) (Err (at_reach InvalidStringCharacter (c ∷ r))))) in
-    let on : (q s p : Bool) → (c == double_quote) ≡ q → (c == backslash) ≡ s → is_string_byte c ≡ p
-    → StringTrace false (c ∷ r) (A q s p) = λ q s p. elim q as (λ (q : Bool). (c == double_quote) ≡ q
-    → (c == backslash) ≡ s → is_string_byte c ≡ p → StringTrace false (c ∷ r) (A q s p)) [
-      | true ↦ λ i j k. stop true IsStringPiece StringStops (c ∷ r) (Ok ([], r)) (
-        refl,
-        ap (λ (c : ℕ). c ∷ r) (eqb-true c double_quote i),
-      )
-      | false ↦ λ i. elim s as (λ (s : Bool). (c == backslash) ≡ s → is_string_byte c ≡ p
-          → StringTrace false (c ∷ r) (A false s p)) [
-            | true ↦ λ j k. subst (λ (d : ℕ). Traced IsStringPiece (d ∷ r) (Ends true StringStops (string_from true r)))
-                (sym (eqb-true c backslash j)) (trace_string true r)
-            | false ↦ λ j. elim p as (λ (p : Bool). is_string_byte c ≡ p
-                → StringTrace false (c ∷ r) (A false false p)) [
-                  | true ↦ λ k. add true IsStringPiece StringStops c (c ∷ []) r (string_from false r)
-                      (inl (
-                        and_from (is_string_byte c) (not (is_escaped_in_string c)) k
-                            (not_from_false (is_escaped_in_string c)
-                            (or_from (c == double_quote) (c == backslash) i j)),
-                        refl,
-                      ))
-                      (trace_string false r)
-                  | false ↦ λ k. stop true IsStringPiece StringStops (c ∷ r)
-                      (Err (at_reach InvalidStringCharacter (c ∷ r)))
-                      (refl, (c, r, refl, refl, k))
-                ]
-          ]
-    ] in on (c == double_quote) (c == backslash) (is_string_byte c) refl refl refl
+trace_string true (c ∷ r) = elim (cases_Bool (is_escaped_in_string c)) [
+  | inl i ↦ rw i (add true IsStringPiece StringStops c (backslash ∷ c ∷ []) r (string_from false r) (inr (i, refl))
+      (trace_string false r))
+  | inr i ↦ rw i (stop true IsStringPiece StringStops (backslash ∷ c ∷ r)
+      (Err (at_reach InvalidEscapeSequence (c ∷ r))) (refl, (c, r, refl, refl, i)))
+]
+trace_string false (c ∷ r) = elim (cases_Bool (c == double_quote)) [
+  | inl i ↦ rw i (stop true IsStringPiece StringStops (c ∷ r) (Ok ([], r))
+      (refl, ap (λ (c : ℕ). c ∷ r) (eqb-true c double_quote i)))
+  | inr i ↦ elim (cases_Bool (c == backslash)) [
+    | inl j ↦ rw (i, j) (rw (eqb-true c backslash j) (trace_string true r))
+    | inr j ↦ elim (cases_Bool (is_string_byte c)) [
+      | inl k ↦ rw (i, j, k) (add true IsStringPiece StringStops c (c ∷ []) r (string_from false r)
+          (inl (grind (arith, nat_tests), refl)) (trace_string false r))
+      | inr k ↦ rw (i, j, k) (stop true IsStringPiece StringStops (c ∷ r)
+          (Err (at_reach InvalidStringCharacter (c ∷ r))) (refl, (c, r, refl, refl, k)))
+    ]
+  ]
+]
 
 -- ---- display strings
 
@@ -134,66 +111,33 @@ trace_display (digit d) [] h = stop false IsDisplayPiece DisplayStops (percent_s
       refl,
       (d ∷ [], refl, refl, and_from (is_lower_hexadecimal d) true h refl, lit≤ tt),
     )
-trace_display percent (c ∷ r) h =
-    let on : (e : Bool) → is_lower_hexadecimal c ≡ e
-    → DisplayTrace percent (c ∷ r) (cond e (pieces_from (digit c) r)
-    (Err (by_rule InvalidEscapeSequence (c ∷ r)))) =
-    λ e. elim e as (λ (e : Bool). is_lower_hexadecimal c ≡ e
-    → DisplayTrace percent (c ∷ r) (cond e (pieces_from (digit c) r)
-    (Err (by_rule InvalidEscapeSequence (c ∷ r))))) [
-      | true ↦ λ i. trace_display (digit c) r i
-      | false ↦ λ i. stop false IsDisplayPiece DisplayStops (percent_sign ∷ c ∷ r)
-          (Err (by_rule InvalidEscapeSequence (c ∷ r))) (refl, ([], c, r, refl, refl, refl, lit≤ tt, i))
-    ] in on (is_lower_hexadecimal c) refl
-trace_display (digit d) (c ∷ r) h =
-    let v : ℕ = 16 * hexadecimal_value d + hexadecimal_value c in
-    let on : (e : Bool) → is_lower_hexadecimal c ≡ e
-    → DisplayTrace (digit d) (c ∷ r) (cond e (after_bytes (v ∷ []) (pieces_from outside r))
-    (Err (by_rule InvalidEscapeSequence (c ∷ r)))) =
-    λ e. elim e as (λ (e : Bool). is_lower_hexadecimal c ≡ e
-    → DisplayTrace (digit d) (c ∷ r) (cond e (after_bytes (v ∷ []) (pieces_from outside r))
-    (Err (by_rule InvalidEscapeSequence (c ∷ r))))) [
-      | true ↦ λ i. add false IsDisplayPiece DisplayStops v (percent_sign ∷ d ∷ c ∷ []) r (pieces_from outside r)
-          (inr (d, c, and_from (is_lower_hexadecimal d) (is_lower_hexadecimal c) h i, refl, refl))
-          (trace_display outside r tt)
-      | false ↦ λ i. stop false IsDisplayPiece DisplayStops (percent_sign ∷ d ∷ c ∷ r)
-          (Err (by_rule InvalidEscapeSequence (c ∷ r))) (
-            refl,
-            (d ∷ [], c, r, refl, refl, and_from (is_lower_hexadecimal d) true h refl, lit≤ tt, i),
-          )
-    ] in on (is_lower_hexadecimal c) refl
-trace_display outside (c ∷ r) h =
-    let A : Bool → Bool → Bool → Answer (List ℕ) =
-    λ q s p. cond q (Ok ([], r)) (cond s (pieces_from percent r)
-    (cond p (after_bytes (c ∷ []) (pieces_from outside r))
-    (Err (by_rule InvalidDisplayStringCharacter (c ∷ r))))) in
-    let on : (q s p : Bool) → (c == double_quote) ≡ q → (c == percent_sign) ≡ s → is_string_byte c ≡ p
-    → DisplayTrace outside (c ∷ r) (A q s p) =
-    λ q s p. elim q as (λ (q : Bool). (c == double_quote) ≡ q → (c == percent_sign) ≡ s → is_string_byte c ≡ p
-    → DisplayTrace outside (c ∷ r) (A q s p)) [
-      | true ↦ λ i j k. stop false IsDisplayPiece DisplayStops (c ∷ r) (Ok ([], r)) (
-        refl,
-        ap (λ (c : ℕ). c ∷ r) (eqb-true c double_quote i),
-      )
-      | false ↦ λ i. elim s as (λ (s : Bool). (c == percent_sign) ≡ s → is_string_byte c ≡ p
-          → DisplayTrace outside (c ∷ r) (A false s p)) [
-            | true ↦ λ j k. subst (λ (d : ℕ). Traced IsDisplayPiece (d ∷ r)
-                (Ends false DisplayStops (pieces_from percent r))) (sym (eqb-true c percent_sign j))
-                (trace_display percent r tt)
-            | false ↦ λ j. elim p as (λ (p : Bool). is_string_byte c ≡ p
-                → DisplayTrace outside (c ∷ r) (A false false p)) [
-                  | true ↦ λ k. add false IsDisplayPiece DisplayStops c (c ∷ []) r (pieces_from outside r)
-                      (inl (
-                        and_from (is_string_byte c) (not ((c == percent_sign) || (c == double_quote))) k
-                            (not_from_false ((c == percent_sign) || (c == double_quote))
-                            (or_from (c == percent_sign) (c == double_quote) j i)),
-                        refl,
-                      )) (trace_display outside r tt)
-                  | false ↦ λ k. stop false IsDisplayPiece DisplayStops (c ∷ r)
-                      (Err (by_rule InvalidDisplayStringCharacter (c ∷ r))) (refl, (c, r, refl, refl, k))
-                ]
-          ]
-    ] in on (c == double_quote) (c == percent_sign) (is_string_byte c) refl refl refl
+trace_display percent (c ∷ r) h = elim (cases_Bool (is_lower_hexadecimal c)) [
+  | inl i ↦ rw i (trace_display (digit c) r i)
+  | inr i ↦ rw i (stop false IsDisplayPiece DisplayStops (percent_sign ∷ c ∷ r)
+      (Err (by_rule InvalidEscapeSequence (c ∷ r))) (refl, ([], c, r, refl, refl, refl, lit≤ tt, i)))
+]
+trace_display (digit d) (c ∷ r) h = elim (cases_Bool (is_lower_hexadecimal c)) [
+  | inl i ↦ rw i (add false IsDisplayPiece DisplayStops (16 * hexadecimal_value d + hexadecimal_value c)
+      (percent_sign ∷ d ∷ c ∷ []) r (pieces_from outside r)
+      (inr (d, c, and_from (is_lower_hexadecimal d) (is_lower_hexadecimal c) h i, refl, refl))
+      (trace_display outside r tt))
+  | inr i ↦ rw i (stop false IsDisplayPiece DisplayStops (percent_sign ∷ d ∷ c ∷ r)
+      (Err (by_rule InvalidEscapeSequence (c ∷ r)))
+      (refl, (d ∷ [], c, r, refl, refl, and_from (is_lower_hexadecimal d) true h refl, lit≤ tt, i)))
+]
+trace_display outside (c ∷ r) h = elim (cases_Bool (c == double_quote)) [
+  | inl i ↦ rw i (stop false IsDisplayPiece DisplayStops (c ∷ r) (Ok ([], r))
+      (refl, ap (λ (c : ℕ). c ∷ r) (eqb-true c double_quote i)))
+  | inr i ↦ elim (cases_Bool (c == percent_sign)) [
+    | inl j ↦ rw (i, j) (rw (eqb-true c percent_sign j) (trace_display percent r tt))
+    | inr j ↦ elim (cases_Bool (is_string_byte c)) [
+      | inl k ↦ rw (i, j, k) (add false IsDisplayPiece DisplayStops c (c ∷ []) r (pieces_from outside r)
+          (inl (grind (arith, nat_tests), refl)) (trace_display outside r tt))
+      | inr k ↦ rw (i, j, k) (stop false IsDisplayPiece DisplayStops (c ∷ r)
+          (Err (by_rule InvalidDisplayStringCharacter (c ∷ r))) (refl, (c, r, refl, refl, k)))
+    ]
+  ]
+]
 
 -- what each gives, whole
 pub trace_of_string : (t : List ℕ) → Traced IsStringPiece t (Ends true StringStops (string_from false t))

@@ -1,26 +1,24 @@
 -- What is read as a bare item is one.
-use Rattle.std.proofs.Common.{ℕ, true, false, List, [], ◌∷◌, refl, sym, ap, subst, ℤ}
+use Rattle.std.proofs.Common.{ℕ, true, false, List, [], ◌∷◌, refl, ap, ℤ}
 use Rattle.std.proofs.lemmas.List.{append-nil}
 use Rattle.std.proofs.lemmas.Bool.{true≢false, and_from}
-use Rattle.sfv_spec.proofs.Marks.{double_quote, percent_sign, colon}
-use Rattle.sfv_spec.proofs.Marks.{digit_one, question_mark, at_sign}
+use Rattle.sfv_spec.proofs.Marks.{double_quote, percent_sign, colon, digit_one, question_mark, at_sign}
 use Rattle.sfv_spec.specs.Classes.{is_token_start}
 use Rattle.sfv_spec.specs.Strings.{IsDisplayPiece}
-use Rattle.sfv_spec.specs.Values.{BareValue, integer, decimal, string, token, byte_sequence}
+use Rattle.sfv_spec.specs.Values.{BareValue, integer, decimal, string, byte_sequence, boolean, date, display_string}
 use Rattle.sfv_spec.specs.declared.version.Version.{Version}
 use Rattle.sfv_spec.specs.declared.version.Version.TheVariants.{Rfc8941, Rfc9651}
-use Rattle.sfv_spec.specs.Values.{boolean, date, display_string}
 use Rattle.sfv_spec.specs.Grammar.{IsBareText}
 use Rattle.sfv_spec.specs.Numbers.{IsIntegerText}
 use Rattle.sfv_spec.specs.Events.{TreeEvent}
-use Rattle.sfv_model.specs.Judgements.{Sound, Mute}
-use Rattle.sfv_model.specs.Reader.{give, ◌>>=◌}
+use Rattle.sfv_model.specs.Judgements.{Sound, Mute, Quiet}
+use Rattle.sfv_model.specs.Reader.{Reader, give, ◌>>=◌}
 use Rattle.sfv_model.specs.Content.{bytes_at, IsBytesEnd}
-use Rattle.sfv_model.specs.Quoted.{string_at, display_at, IsStringEnd, IsDisplayEnd}
+use Rattle.sfv_model.specs.Quoted.{string_at, IsStringEnd, IsDisplayEnd}
 use Rattle.sfv_model.specs.Bare.{number_at, boolean_at, token_at, as_date, date_at, quoted_at, bare_at}
 use Rattle.sfv_model.proofs.sound.Combinators.{Found, Sound-give, Sound-fail, Sound-branch, Sound-byte, Sound-ahead}
 use Rattle.sfv_model.proofs.sound.Combinators.{Sound-map, Sound-weaker, Sound-back, Sound-span, Reads, Somewhere}
-use Rattle.sfv_model.proofs.texts.Joining.{joining_none}
+use Rattle.sfv_model.proofs.texts.Joining.{joining_none, in_turn}
 use Rattle.sfv_model.proofs.sound.ByteSequences.{Sound-bytes}
 use Rattle.sfv_model.proofs.sound.Quoted.{Sound-string, Sound-display}
 use Rattle.sfv_model.proofs.sound.Numbers.{IsNumber, Sound-number}
@@ -35,56 +33,48 @@ Told version = Somewhere (BareGoes version)
 goes : (version : Version) (v : BareValue) (t : List ℕ) → IsBareText version v t → BareGoes version t []
 goes version v t h = (v, h, refl)
 
+-- ?1 is the text of a bare item
+begun : (version : Version) → Told version []
+begun version = (question_mark ∷ digit_one ∷ [], goes version (boolean true) (question_mark ∷ digit_one ∷ []) refl)
+
+-- a reader that hands nothing out, and of whose value a bare item is made
+Sound-quiet : (version : Version) {A : Type 0} {f : Reader A} {P : A → List ℕ → Type 0} (front : List ℕ → List ℕ)
+    (make : A → BareValue) → Sound f P (Mute P) Quiet
+    → ((v : A) (t : List ℕ) → P v t → IsBareText version (make v) (front t))
+    → Sound (f >>= λ v. give (make v)) (λ v s. IsBareText version v (front s)) (λ s es. BareGoes version (front s) es)
+    (Told version)
+Sound-quiet version front make h k = Sound-map make (Sound-weaker h k
+    (λ u es g. ([], (make g.0, rw (append-nil u) (k g.0 u g.1), g.2))) (λ es e. rw e (begun version)))
+
 -- ---- booleans
 
 Sound-boolean : (version : Version) → Sound boolean_at (λ v s. IsBareText version v (question_mark ∷ s))
     (λ s es. BareGoes version (question_mark ∷ s) es) (Told version)
 unfolding boolean_at
-Sound-boolean version = Sound-byte _ _ _ _ _ _ (Sound-give _ _ _ _ refl)
-    (Sound-byte _ _ _ _ _ _ (Sound-give _ _ _ _ refl)
+Sound-boolean version = Sound-byte _ (Sound-give _ _ _ _ refl)
+    (Sound-byte _ (Sound-give _ _ _ _ refl)
     (Sound-fail _ _ _ _ (digit_one ∷ []) (goes version (boolean true) (question_mark ∷ digit_one ∷ []) refl)))
 
 -- ---- strings
 
 string_of : (version : Version) (s t : List ℕ) → IsStringEnd s t → IsBareText version (string s) (double_quote ∷ t)
-string_of version s t h = record { front = double_quote ∷ []; back = t; text = refl; first = refl; second = h }
+string_of version s t h = in_turn (double_quote ∷ []) t refl h
 
 Sound-quote : (version : Version) → Sound (string_at
     >>= λ s. give (string s)) (λ v s. IsBareText version v (double_quote ∷ s))
     (λ s es. BareGoes version (double_quote ∷ s) es) (Told version)
-Sound-quote version = Sound-map string_at (λ s. string s) _ _ _
-    (Sound-weaker _ _ _ _ _ _ _ Sound-string (λ s t h. string_of version s t h)
-    (λ u es g. (
-      [],
-      (
-        string g.0,
-        subst (λ (l : List ℕ). IsBareText version (string g.0) (double_quote ∷ l))
-            (sym (append-nil u)) (string_of version g.0 u g.1),
-        g.2,
-      ),
-    ))
-    (λ es e. (question_mark ∷ digit_one ∷ [], (boolean true, refl, e))))
+Sound-quote version =
+    Sound-quiet version (λ s. double_quote ∷ s) (λ s. string s) Sound-string (string_of version)
 
 -- ---- byte sequences
 
 colon_of : (version : Version) (s t : List ℕ) → IsBytesEnd s t → IsBareText version (byte_sequence s) (colon ∷ t)
-colon_of version s t h = record { front = colon ∷ []; back = t; text = refl; first = refl; second = h }
+colon_of version s t h = in_turn (colon ∷ []) t refl h
 
 Sound-colon : (version : Version) → Sound (bytes_at
     >>= λ s. give (byte_sequence s)) (λ v s. IsBareText version v (colon ∷ s)) (λ s es. BareGoes version (colon ∷ s) es)
     (Told version)
-Sound-colon version = Sound-map bytes_at (λ s. byte_sequence s) _ _ _
-    (Sound-weaker _ _ _ _ _ _ _ Sound-bytes (λ s t h. colon_of version s t h)
-    (λ u es g. (
-      [],
-      (
-        byte_sequence g.0,
-        subst (λ (l : List ℕ). IsBareText version (byte_sequence g.0) (colon ∷ l))
-            (sym (append-nil u)) (colon_of version g.0 u g.1),
-        g.2,
-      ),
-    ))
-    (λ es e. (question_mark ∷ digit_one ∷ [], (boolean true, refl, e))))
+Sound-colon version = Sound-quiet version (λ s. colon ∷ s) (λ s. byte_sequence s) Sound-bytes (colon_of version)
 
 -- ---- tokens
 
@@ -95,122 +85,68 @@ Sound-token version = Sound-branch _ _ _ _ _ _
       and_from (is_token_start c) _ e each,
       ap (λ (l : List ℕ). c ∷ l) (append-nil cs),
     )))
-    (Sound-fail _ _ _ _ (question_mark ∷ digit_one ∷ [])
-    (goes version (boolean true) (question_mark ∷ digit_one ∷ []) refl))
+    (Sound-fail _ _ _ _ _ (begun version).1)
 
 -- ---- dates
 
 date_of : (z : ℤ) (t : List ℕ) → IsIntegerText z t → IsBareText Rfc9651 (date z) (at_sign ∷ t)
-date_of z t h = (refl, record { front = at_sign ∷ []; back = t; text = refl; first = refl; second = h })
+date_of z t h = (refl, in_turn (at_sign ∷ []) t refl h)
 
 dated : (v : BareValue) (t : List ℕ) → IsNumber v t → Found (IsBareText Rfc9651) (as_date v) (at_sign ∷ t)
 dated (integer z) t h = date_of z t h
 dated (decimal z) t h = tt
-dated (string s) t h = absurd h
-dated (token s) t h = absurd h
-dated (byte_sequence s) t h = absurd h
-dated (boolean b) t h = absurd h
-dated (date z) t h = absurd h
-dated (display_string s) t h = absurd h
+dated _ t h = absurd h
 
 Sound-date : (version : Version) → Reads (date_at version) (IsBareText version) (BareGoes version)
 unfolding date_at
-Sound-date Rfc8941 = Sound-fail _ _ _ _ (question_mark ∷ digit_one ∷ [])
-    (goes Rfc8941 (boolean true) (question_mark ∷ digit_one ∷ []) refl)
-Sound-date Rfc9651 =
-    Sound-back _ _ _ _ _ refl (
-      question_mark ∷ digit_one ∷ [],
-      goes Rfc9651 (boolean true) (question_mark ∷ digit_one ∷ []) refl,
-    )
-    (Sound-byte _ _ _ _ _ _
-    (Sound-map (number_at true) as_date _ _ _
-    (Sound-weaker _ _ _ _ _ _ _
+Sound-date Rfc8941 = Sound-fail _ _ _ _ _ (begun Rfc8941).1
+Sound-date Rfc9651 = Sound-back _ _ _ _ _ refl (begun Rfc9651)
+    (Sound-byte _ (Sound-map as_date (Sound-weaker
     (Sound-number true (λ u es. BareGoes Rfc9651 (at_sign ∷ u) es) (Told Rfc9651)
-    (λ z t h. goes Rfc9651 (date z) (at_sign ∷ t) (date_of z t h)) (λ e. absurd (true≢false e))
-    (question_mark ∷ digit_one ∷ [], goes Rfc9651 (boolean true) (question_mark ∷ digit_one ∷ []) refl))
-    (λ v t h. dated v t h)
-    (λ u es g. ([], subst (λ (l : List ℕ). BareGoes Rfc9651 (at_sign ∷ l) es) (sym (append-nil u)) g))
-    (λ es g. g)))
-    (Sound-give _ _ _ _ tt))
+    (λ z t h. goes Rfc9651 (date z) (at_sign ∷ t) (date_of z t h)) (λ e. absurd (true≢false e)) (begun Rfc9651))
+    dated (λ u es g. ([], rw (append-nil u) g)) (λ es g. g))) (Sound-give _ _ _ _ tt))
 
 -- ---- display strings
 
 display_of : (s t : List ℕ) → IsDisplayEnd s t → IsBareText Rfc9651 (display_string s) (percent_sign ∷ double_quote ∷ t)
 display_of s t h = (
   refl,
-  record {
-    front = percent_sign ∷ double_quote ∷ [];
-    back = t;
-    text = refl;
-    first = refl;
-    second = h;
-  },
+  in_turn (percent_sign ∷ double_quote ∷ []) t refl h,
 )
 
 empty_display : IsDisplayEnd [] (double_quote ∷ [])
-empty_display = record {
-  front = [];
-  back = double_quote ∷ [];
-  text = refl;
-  first = (joining_none IsDisplayPiece, ([], (refl, refl)));
-  second = refl;
-}
+empty_display = in_turn [] (double_quote ∷ []) (joining_none IsDisplayPiece, ([], (refl, refl))) refl
 
 Sound-quoted : (version : Version) → Reads (quoted_at version) (IsBareText version) (BareGoes version)
 unfolding quoted_at
-Sound-quoted Rfc8941 = Sound-fail _ _ _ _ (question_mark ∷ digit_one ∷ [])
-    (goes Rfc8941 (boolean true) (question_mark ∷ digit_one ∷ []) refl)
+Sound-quoted Rfc8941 = Sound-fail _ _ _ _ _ (begun Rfc8941).1
 Sound-quoted Rfc9651 =
-    Sound-byte _ _ _ _ _ _
-    (Sound-byte _ _ _ _ _ _
-    (Sound-map display_at (λ s. display_string s) _ _ _
-    (Sound-weaker _ _ _ _ _ _ _ Sound-display (λ s t h. display_of s t h)
-    (λ u es g. (
-      [],
-      (
-        display_string g.0,
-        subst (λ (l : List ℕ).
-            IsBareText Rfc9651 (display_string g.0) (percent_sign ∷ double_quote ∷ l)) (sym (append-nil u))
-            (display_of g.0 u g.1),
-        g.2,
-      ),
-    ))
-    (λ es e. (question_mark ∷ digit_one ∷ [], (boolean true, refl, e)))))
+    Sound-byte _
+    (Sound-byte _
+    (Sound-quiet Rfc9651 (λ s. percent_sign ∷ double_quote ∷ s) (λ s. display_string s) Sound-display display_of)
     (Sound-fail _ _ _ _ (double_quote ∷ double_quote ∷ [])
     (goes Rfc9651 (display_string []) (percent_sign ∷ double_quote ∷ double_quote ∷ [])
     (display_of [] (double_quote ∷ []) empty_display))))
-    (Sound-fail _ _ _ _ (question_mark ∷ digit_one ∷ [])
-    (goes Rfc9651 (boolean true) (question_mark ∷ digit_one ∷ []) refl))
+    (Sound-fail _ _ _ _ _ (begun Rfc9651).1)
 
 -- ---- bare items
 
 number_of : (version : Version) (v : BareValue) (t : List ℕ) → IsNumber v t → IsBareText version v t
 number_of version (integer z) t h = h
 number_of version (decimal z) t h = h
-number_of version (string s) t h = absurd h
-number_of version (token s) t h = absurd h
-number_of version (byte_sequence s) t h = absurd h
-number_of version (boolean b) t h = absurd h
-number_of version (date z) t h = absurd h
-number_of version (display_string s) t h = absurd h
+number_of version _ t h = absurd h
 
 Sound-a_number : (version : Version) → Reads (number_at false) (IsBareText version) (BareGoes version)
-Sound-a_number version = Sound-weaker _ _ _ _ _ _ _
+Sound-a_number version = Sound-weaker
     (Sound-number false (BareGoes version) (Told version) (λ z t h. goes version (integer z) t h)
-    (λ e z t h. goes version (decimal z) t h) (
-      question_mark ∷ digit_one ∷ [],
-      goes version (boolean true) (question_mark ∷ digit_one ∷ []) refl,
-    ))
-    (λ v t h. number_of version v t h) (λ u es g. (
-      [],
-      subst (λ (l : List ℕ). BareGoes version l es) (sym (append-nil u)) g,
-    )) (λ es g. g)
+    (λ e z t h. goes version (decimal z) t h) (begun version))
+    (number_of version) (λ u es g. ([], rw (append-nil u) g)) (λ es g. g)
 
 pub Sound-bare : (version : Version) → Reads (bare_at version) (IsBareText version) (BareGoes version)
 unfolding bare_at
-Sound-bare version = Sound-byte _ _ _ _ _ _ (Sound-boolean version)
-    (Sound-byte _ _ _ _ _ _ (Sound-quote version)
-    (Sound-byte _ _ _ _ _ _ (Sound-colon version)
+Sound-bare version = Sound-byte _ (Sound-boolean version)
+    (Sound-byte _ (Sound-quote version)
+    (Sound-byte _ (Sound-colon version)
     (Sound-ahead _ _ _ _ _ _ (Sound-date version)
     (Sound-ahead _ _ _ _ _ _ (Sound-quoted version)
     (Sound-ahead _ _ _ _ _ _ (Sound-a_number version) (Sound-token version))))))

@@ -1,35 +1,32 @@
 -- What the reader of a Byte Sequence gives.
+use Rattle.std.proofs.lemmas.Bool.Decides.{nat_tests}
+use Rattle.std.proofs.lemmas.Bool.{not-true, and_parts, eqb-true, eqb-false, cases_Bool, true≢false}
 use Rattle.std.proofs.Common.{◌≡◌, ℕ, zero, suc, ◌<◌, ◌≤◌, ◌+◌, List, [], ◌∷◌, ◌++◌, length, take, drop, replicate, map}
-use Rattle.std.proofs.Common.{refl, sym, ◌∙◌, ap, subst, true, false, append_assoc, arith, inl, inr, Option, Some, None}
-use Rattle.std.proofs.Common.{Ok, Err}
+use Rattle.std.proofs.Common.{refl, sym, ◌∙◌, ap, true, false, append_assoc, arith, inl, inr, Option, Some, None, Ok}
+use Rattle.std.proofs.Common.{Err}
 use Rattle.std.specs.Prelude.{◌==◌, not}
 use Rattle.std.specs.List.{list_all, list_any}
-use Rattle.std.proofs.lemmas.Bool.{and_parts, eqb-true, eqb-false, cases_Bool, cases_lt, true≢false}
 use Rattle.std.proofs.lemmas.List.{take-append-le, drop_at, take-append-drop, drop-drop}
 use Rattle.std.proofs.lemmas.List.Folds.{list_all-append}
-use Rattle.sfv_spec.proofs.Marks.{colon, equals_sign}
+use Rattle.sfv_spec.proofs.Marks.{colon, equals_sign, is_symbol}
 use Rattle.sfv_spec.specs.Base64.{IsBase64Text, symbol}
-use Rattle.sfv_spec.proofs.Marks.{is_symbol}
 use Rattle.sfv_spec.specs.declared.error_kind.ErrorKind.TheVariants.{UnterminatedByteSequence}
 use Rattle.sfv_model.specs.Reader.{by_rule}
 use Rattle.sfv_model.specs.Judgements.{Reached, Sound, Mute, Quiet}
 use Rattle.sfv_model.specs.Content.{valid_from, bytes_of, fault_place, IsBytesEnd, is_colon, HasNoColon, content_in}
 use Rattle.sfv_model.specs.Content.{content_fault, closed_by, bytes_at}
+use Rattle.sfv_model.proofs.texts.Ranges.{run_weaker}
 use Rattle.sfv_model.proofs.base64.Shape.{are_symbols}
 use Rattle.sfv_model.proofs.base64.Contents.{gives_the_bytes, longest_valid}
+use Rattle.sfv_model.proofs.texts.Joining.{in_turn}
 
 -- no colon among symbols, nor in padding
 symbol_apart : (c : ℕ) → is_symbol c ≡ true → not (c == colon) ≡ true
 unfolding is_symbol
-symbol_apart c h = elim (cases_Bool (c == colon)) [
-  | inl p ↦ let e : c ≡ colon = eqb-true c colon p in absurd (true≢false (sym (rw e at h)))
-  | inr p ↦ rw p refl
-]
+symbol_apart c h = grind (arith, nat_tests)
 
 pub symbols_apart : (cs : List ℕ) → list_all is_symbol cs ≡ true → list_all (λ c. not (c == colon)) cs ≡ true
-symbols_apart [] h = refl
-symbols_apart (c ∷ cs) h = let p = and_parts (is_symbol c) (list_all is_symbol cs) h in
-    rw (symbol_apart c p.0) (symbols_apart cs p.1)
+symbols_apart cs h = run_weaker is_symbol (λ c. not (c == colon)) symbol_apart cs h
 
 pub padding_apart : (n : ℕ) → list_all (λ c. not (c == colon)) (replicate n equals_sign) ≡ true
 padding_apart zero = refl
@@ -53,10 +50,7 @@ unfolding content_in
 content_is [] rest h = (refl, refl)
 content_is (c ∷ content) rest h =
     let p = and_parts (not (is_colon c)) (list_all (λ c. not (is_colon c)) content) h in
-    let no : is_colon c ≡ false = elim (cases_Bool (is_colon c)) [
-      | inl y ↦ absurd (true≢false (sym (rw y at p.0)))
-      | inr n ↦ n
-    ] in
+    let no = not-true (is_colon c) p.0 in
     let r = content_is content rest p.1 in
     rw no (ap (λ (t : List ℕ). c ∷ t) r.0, r.1)
 
@@ -99,8 +93,7 @@ read_unclosed t h = rw h refl
 
 -- a text of Base64 has no colon
 pub text_apart : (bytes content : List ℕ) → IsBase64Text bytes content → HasNoColon content
-text_apart bytes content h = subst HasNoColon (sym h.text)
-    (both_apart (map symbol h.values) (replicate h.padding equals_sign)
+text_apart bytes content h = rw h.text (both_apart (map symbol h.values) (replicate h.padding equals_sign)
     (symbols_apart (map symbol h.values) (are_symbols h.values h.in_range.0)) (padding_apart h.padding))
 
 -- a malformed content: its place
@@ -109,17 +102,10 @@ pub fault_at : (content : List ℕ) → not (valid_from 0 content == length cont
 unfolding fault_place
 fault_at content h =
     let w = (longest_valid content).within in
-    elim (cases_Bool (valid_from 0 content == length content)) [
-      | inl y ↦ absurd (true≢false (sym (rw y at h)))
-      | inr n ↦
-          let ne = eqb-false (valid_from 0 content) (length content) n in
-          let lt : valid_from 0 content < length content =
-          elim (cases_lt (valid_from 0 content) (length content)) [
-            | inl l ↦ l
-            | inr g ↦ absurd (ne (omega (arith, w, g)))
-          ] in
-          (lt, rw n refl)
-    ]
+    let n = not-true (valid_from 0 content == length content) h in
+    let ne = eqb-false (valid_from 0 content) (length content) n in
+    let lt : valid_from 0 content < length content = omega (arith, w, ne) in
+    (lt, rw n refl)
 
 pub front_of : (m : ℕ) (content rest : List ℕ) → m ≤ length content → take m (content ++ rest) ≡ take m content
 front_of m content rest l = take-append-le m content rest l
@@ -130,13 +116,7 @@ sound_closed : (content rest : List ℕ) (value : Option (List ℕ)) → bytes_o
 sound_closed content rest (Some bytes) e = (
   content ++ colon ∷ [],
   rw (after_colon content rest) (sym (append_assoc content (colon ∷ []) rest)),
-  record {
-    front = content;
-    back = colon ∷ [];
-    text = refl;
-    first = (gives_the_bytes content bytes).1 e;
-    second = refl;
-  },
+  in_turn content (colon ∷ []) ((gives_the_bytes content bytes).1 e) refl,
 )
 sound_closed content rest None e =
     let t : List ℕ = content ++ colon ∷ rest in (
@@ -173,10 +153,8 @@ Sound-bytes = record {
         let content : List ℕ = content_in t in
         let r : Reached IsBytesEnd (Mute IsBytesEnd) Quiet (content ++ colon ∷ s.0)
         (bytes_at (content ++ colon ∷ s.0)) =
-        subst (λ a. Reached IsBytesEnd (Mute IsBytesEnd) Quiet (content ++ colon ∷ s.0) a)
-        (sym (read_closed content s.0 s.2)) (sound_closed content s.0 (bytes_of content) refl) in
-        subst (λ (t : List ℕ). Reached IsBytesEnd (Mute IsBytesEnd) Quiet t (bytes_at t)) (sym s.1) r
-    | inr n ↦ subst (λ a. Reached IsBytesEnd (Mute IsBytesEnd) Quiet t a) (sym (read_unclosed t n))
-        (λ l. absurd (true≢false (sym l)), λ l. (refl, refl))
+        rw (read_closed content s.0 s.2) (sound_closed content s.0 (bytes_of content) refl) in
+        rw s.1 r
+    | inr n ↦ rw (read_unclosed t n) (λ l. absurd (true≢false (sym l)), λ l. (refl, refl))
   ];
 }

@@ -1,14 +1,11 @@
 -- What is read as a key, parameters, an item is one.
-use Rattle.std.proofs.Common.{◌≡◌, ℕ, ◌≤◌, true, List, [], ◌∷◌, ◌++◌, length, Some, refl, sym, ap, subst, arith, inl}
-use Rattle.std.proofs.Common.{inr}
+use Rattle.std.proofs.Common.{◌≡◌, ℕ, ◌≤◌, true, List, [], ◌∷◌, ◌++◌, length, Some, refl, sym, ap, arith, inl, inr}
 use Rattle.std.specs.Prelude.{flat_map, map}
 use Rattle.std.proofs.lemmas.List.{append-nil, length-append}
 use Rattle.std.proofs.lemmas.Bool.{and_from}
-use Rattle.sfv_spec.proofs.Marks.{equals_sign, lower_a}
-use Rattle.sfv_spec.proofs.Marks.{semicolon}
+use Rattle.sfv_spec.proofs.Marks.{equals_sign, lower_a, semicolon, is_space}
 use Rattle.sfv_spec.specs.Texts.{Exactly, RunOf}
 use Rattle.sfv_spec.specs.Classes.{is_key, is_key_start}
-use Rattle.sfv_spec.proofs.Marks.{is_space}
 use Rattle.sfv_spec.specs.Values.{BareValue, boolean, RawParameters}
 use Rattle.sfv_spec.specs.declared.version.Version.{Version}
 use Rattle.sfv_spec.specs.Grammar.{IsBareText, IsKeyText, IsValueText, IsParameterText, IsParametersText, IsItemText}
@@ -16,10 +13,10 @@ use Rattle.sfv_spec.specs.Events.{TreeEvent, bare_item, parameter, parameters_en
 use Rattle.sfv_model.specs.Judgements.{Mute}
 use Rattle.sfv_model.specs.Bare.{bare_at}
 use Rattle.sfv_model.specs.Items.{key_at, value_at, parameter_at, parameter_event, parameters_at, item_of, item_at}
-use Rattle.sfv_model.proofs.sound.Combinators.{Sound-give, Sound-fail, Sound-led, Sound-branch, Sound-byte}
-use Rattle.sfv_model.proofs.sound.Combinators.{Sound-bind, Sound-map, Sound-weaker, Sound-span, Reads, Somewhere}
+use Rattle.sfv_model.proofs.sound.Combinators.{Sound-give, Sound-fail, Sound-led, Sound-branch, Sound-byte, Sound-bind}
+use Rattle.sfv_model.proofs.sound.Combinators.{Sound-map, Sound-within, Sound-here, Sound-span, Reads, Somewhere}
 use Rattle.sfv_model.proofs.sound.Combinators.{Begins, Goes, begins_after, begins_longer}
-use Rattle.sfv_model.proofs.texts.Joining.{joining_none, joined_end}
+use Rattle.sfv_model.proofs.texts.Joining.{joining_none, joined_end, in_turn}
 use Rattle.sfv_model.proofs.sound.Many.{Step, Consumes, Consumes-from}
 use Rattle.sfv_model.proofs.sound.Steps.{StepGoes, ManyGoes, Sound-steps}
 use Rattle.sfv_model.proofs.sound.Bare.{BareGoes, Sound-bare}
@@ -44,19 +41,8 @@ Sound-key = Sound-branch _ _ _ _ _ _
 pub parameter_of : (version : Version) (spaces k key t : List ℕ) (v : BareValue) → RunOf is_space spaces
     → IsKeyText key k
     → IsValueText version v t → IsParameterText version (key, v) (semicolon ∷ (spaces ++ (k ++ t)))
-parameter_of version spaces k key t v each is_key is_value = record {
-  front = semicolon ∷ [];
-  back = spaces ++ (k ++ t);
-  text = refl;
-  first = refl;
-  second = record {
-    front = spaces;
-    back = k ++ t;
-    text = refl;
-    first = each;
-    second = record { front = k; back = t; text = refl; first = is_key; second = is_value };
-  };
-}
+parameter_of version spaces k key t v each is_key is_value = in_turn (semicolon ∷ []) (spaces ++ (k ++ t)) refl
+    (in_turn spaces (k ++ t) each (in_turn k t is_key is_value))
 
 abbrev pub ParameterGoes : Version → List ℕ → List TreeEvent → Type 0
 ParameterGoes version = StepGoes (IsParameterText version) (Exactly []) parameter_event
@@ -66,22 +52,13 @@ true_value version = inl (refl, refl)
 
 value_of : (version : Version) (v : BareValue) (t : List ℕ) → IsBareText version v t
     → IsValueText version v (equals_sign ∷ t)
-value_of version v t h = inr (record { front = equals_sign ∷ []; back = t; text = refl; first = refl; second = h })
+value_of version v t h = inr (in_turn (equals_sign ∷ []) t refl h)
 
 pub Sound-value : (version : Version) → Reads (value_at version) (IsValueText version) (Mute (IsValueText version))
 unfolding value_at
-Sound-value version = Sound-byte _ _ _ _ _ _
-    (Sound-weaker _ _ _ _ _ _ _ (Sound-bare version) (λ v t h. value_of version v t h) (λ u es g. (
-      [],
-      (
-        g.0,
-        subst (λ (l : List ℕ). IsValueText version g.0 (equals_sign ∷ l)) (sym (append-nil u))
-            (value_of version g.0 u g.1),
-        g.2,
-      ),
-    ))
-    (λ es g. (equals_sign ∷ g.0, (g.1.0, value_of version g.1.0 g.0 g.1.1, g.1.2))))
-    (Sound-give _ _ _ _ (true_value version))
+Sound-value version = Sound-byte _
+    (Sound-here (λ u. equals_sign ∷ u) (λ es. es) (Mute (IsValueText version)) (Sound-bare version) (value_of version)
+    (λ u es g. (g.0, value_of version g.0 u g.1, g.2))) (Sound-give _ _ _ _ (true_value version))
 
 -- nothing is visited before the value is read
 none_yet : (p : List ℕ × BareValue) (es : List TreeEvent) → es ≡ [] → Begins (parameter_event p) es
@@ -90,51 +67,24 @@ none_yet p es e = (parameter_event p, ap (λ (l : List TreeEvent). l ++ paramete
 pub Sound-parameter : (version : Version) → Reads (parameter_at version) (Step (IsParameterText version) (Exactly []))
     (ParameterGoes version)
 unfolding parameter_at
-Sound-parameter version = Sound-byte _ _ _ _ _ _
-    (Sound-span _ _ _ _ _ (λ spaces each.
-    Sound-bind IsKeyText key_at _ _ _ _
-    (Sound-weaker _ _ _ _ _ _ _ Sound-key (λ v t h. h)
+Sound-parameter version = Sound-byte _
+    (Sound-span _ _ _ _ _ (λ spaces each. Sound-bind IsKeyText key_at _ _ _ _
+    (Sound-within (λ u. semicolon ∷ (spaces ++ u)) (λ es. es) (ParameterGoes version) Sound-key (λ v t h. h)
     (λ u es g. (
       [],
       (
         Some (g.0, boolean true),
-        subst (λ (l : List ℕ). IsParameterText version (
-          g.0,
-          boolean true,
-        ) (semicolon ∷ (spaces ++ l))) refl
-            (parameter_of version spaces u g.0 [] (boolean true) each g.1 (true_value version)),
+        parameter_of version spaces u g.0 [] (boolean true) each g.1 (true_value version),
         none_yet (g.0, boolean true) es g.2,
       ),
-    ))
-    (λ es g. (
-      semicolon ∷ ([] ++ (g.0 ++ [])),
-      (
-        Some (g.1.0, boolean true),
-        parameter_of version [] g.0 g.1.0 [] (boolean true) refl g.1.1 (true_value version),
-        none_yet (g.1.0, boolean true) es g.1.2,
-      ),
     )))
-    (λ k key is_key. Sound-map (value_at version) (λ v. Some (key, v)) _ _ _
-    (Sound-weaker _ _ _ _ _ _ _ (Sound-value version) (λ v t h. parameter_of version spaces k key t v each is_key h)
+    (λ k key is_key. Sound-map (λ v. Some (key, v))
+    (Sound-here (λ u. semicolon ∷ (spaces ++ (k ++ u))) (λ es. es) (ParameterGoes version) (Sound-value version)
+    (λ v t h. parameter_of version spaces k key t v each is_key h)
     (λ u es g. (
-      [],
-      (
-        Some (key, g.0),
-        subst (λ (l : List ℕ). IsParameterText version (
-          key,
-          g.0,
-        ) (semicolon ∷ (spaces ++ (k ++ l)))) (sym (append-nil u))
-            (parameter_of version spaces k key u g.0 each is_key g.1),
-        none_yet (key, g.0) es g.2,
-      ),
-    ))
-    (λ es g. (
-      semicolon ∷ ([] ++ (k ++ g.0)),
-      (
-        Some (key, g.1.0),
-        parameter_of version [] k key g.0 g.1.0 refl is_key g.1.1,
-        none_yet (key, g.1.0) es g.1.2,
-      ),
+      Some (key, g.0),
+      parameter_of version spaces k key u g.0 each is_key g.1,
+      none_yet (key, g.0) es g.2,
     ))))))
     (Sound-give _ _ _ _ refl)
 
@@ -151,8 +101,7 @@ each_event (p ∷ ps) = ap (λ (l : List TreeEvent). parameter p.0 p.1 ∷ l) (e
 
 pub parameters_begin : (ps : RawParameters) (es : List TreeEvent) → Begins (flat_map parameter_event ps) es
     → Begins (parameters_events ps) es
-parameters_begin ps es b = begins_longer _ es (parameters_end ∷ [])
-    (subst (λ (l : List TreeEvent). Begins l es) (each_event ps) b)
+parameters_begin ps es b = begins_longer _ es (parameters_end ∷ []) (rw (← each_event ps) b)
 
 abbrev pub ParametersGo : Version → List ℕ → List TreeEvent → Type 0
 ParametersGo version = Goes (IsParametersText version) parameters_events
@@ -161,21 +110,12 @@ parameters_go : (version : Version) (u : List ℕ) (es : List TreeEvent)
     → ManyGoes (IsParameterText version) (Exactly []) parameter_event u es → ParametersGo version u es
 parameters_go version u es g = (g.0, joined_end (IsParameterText version) g.0 u g.1, parameters_begin g.0 es g.2)
 
--- with nothing after it
-pub as_it_stands : (W : List ℕ → List TreeEvent → Type 0) (u : List ℕ) (es : List TreeEvent) → W u es
-    → (d : List ℕ) × W (u ++ d) es
-as_it_stands W u es h = ([], subst (λ (l : List ℕ). W l es) (sym (append-nil u)) h)
-
 pub Sound-parameters : (version : Version) → Reads (parameters_at version) (IsParametersText version)
     (ParametersGo version)
 unfolding parameters_at
-Sound-parameters version = Sound-weaker _ _ _ _ _ _ _
+Sound-parameters version = Sound-here (λ u. u) (λ es. es) (ParametersGo version)
     (Sound-steps (IsParameterText version) (Exactly []) parameter_event [] refl (parameter_at version)
-    (Sound-parameter version)) (λ ps t h. joined_end (IsParameterText version) ps t h)
-    (λ u es g. as_it_stands (ParametersGo version) u es (parameters_go version u es g)) (λ es g. (
-      g.0,
-      parameters_go version g.0 es g.1,
-    ))
+    (Sound-parameter version)) (joined_end (IsParameterText version)) (parameters_go version)
 
 -- ---- items
 
@@ -184,7 +124,7 @@ ItemGoes version = Goes (IsItemText version) item_events
 
 pub item_with : (version : Version) (b : BareValue) (ps : RawParameters) (s t : List ℕ) → IsBareText version b s
     → IsParametersText version ps t → IsItemText version (item_of b ps) (s ++ t)
-item_with version b ps s t h k = record { front = s; back = t; text = refl; first = h; second = k }
+item_with version b ps s t h k = in_turn s t h k
 
 bare_goes : (version : Version) (u : List ℕ) (es : List TreeEvent) → BareGoes version u es
     → ItemGoes version (u ++ []) es
@@ -205,10 +145,8 @@ after_bare version b s h u es g = (
 pub Sound-item : (version : Version) → Reads (item_at version) (IsItemText version) (ItemGoes version)
 unfolding item_at
 Sound-item version = Sound-bind (IsBareText version) (bare_at version) _ _ _ _
-    (Sound-weaker _ _ _ _ _ _ _ (Sound-bare version) (λ v t h. h) (λ u es g. ([], bare_goes version u es g))
-    (λ es g. (g.0 ++ [], bare_goes version g.0 es g.1)))
-    (λ s b h. Sound-led _ _ _ _ _ (Sound-map (parameters_at version) (item_of b) _ _ _
-    (Sound-weaker _ _ _ _ _ _ _ (Sound-parameters version) (λ ps t k. item_with version b ps s t h k)
-    (λ u es g. as_it_stands (λ l fs. ItemGoes version (s ++ l) (bare_item b ∷ fs)) u es
-    (after_bare version b s h u es g))
-    (λ es g. (s ++ g.0, after_bare version b s h g.0 es g.1)))))
+    (Sound-within (λ u. u) (λ es. es) (ItemGoes version) (Sound-bare version) (λ v t h. h)
+    (λ u es g. ([], bare_goes version u es g)))
+    (λ s b h. Sound-led _ (Sound-map (item_of b)
+    (Sound-here (λ u. s ++ u) (λ es. bare_item b ∷ es) (ItemGoes version) (Sound-parameters version)
+    (λ ps t k. item_with version b ps s t h k) (after_bare version b s h))))

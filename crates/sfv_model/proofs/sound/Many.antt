@@ -1,18 +1,18 @@
 -- Step after step.
+use Rattle.sfv_model.proofs.sound.Combinators.{sound_at, Sound-give, Sound-ruled, Sound-led, Sound-bind, Sound-map}
+use Rattle.sfv_model.proofs.sound.Combinators.{Sound-weaker}
 use Rattle.std.proofs.Common.{◌≡◌, ℕ, zero, suc, ◌+◌, ◌<◌, ◌≤◌, List, [], ◌∷◌, ◌++◌, length, Option, Some, None, Ok}
-use Rattle.std.proofs.Common.{Err, refl, sym, ap, subst, ◌∙◌, append_assoc, arith}
+use Rattle.std.proofs.Common.{Err, refl, sym, ap, subst, ◌∙◌, append_assoc, arith, inl, inr, ◌⊎◌}
 use Rattle.std.specs.Prelude.{flat_map}
 use Rattle.std.proofs.lemmas.List.{append-nil, append_cancel_right, length-append}
 use Rattle.sfv_spec.specs.Texts.{IsJoining}
 use Rattle.sfv_spec.specs.Events.{TreeEvent}
 use Rattle.sfv_spec.specs.declared.error_kind.ErrorKind.TheVariants.{UnterminatedByteSequence}
-use Rattle.sfv_model.specs.Judgements.{Reached, Sound, Lasts, Local}
+use Rattle.sfv_model.specs.Judgements.{Sound, Lasts, Local}
 use Rattle.sfv_model.specs.Reader.{Fault, Answer, Reader, after_events, and_then, give, ◌>>=◌, bind, led_answer, led}
 use Rattle.sfv_model.specs.Reader.{go_on, many_within, many}
-use Rattle.sfv_model.proofs.sound.Combinators.{Sound-give, Sound-ruled, Sound-led, Sound-bind, Sound-map}
-use Rattle.sfv_model.proofs.sound.Combinators.{Sound-weaker}
 use Rattle.sfv_model.proofs.local.Combinators.{Local-give, Local-ruled, Local-led, Local-bind}
-use Rattle.sfv_model.proofs.texts.Joining.{joining_none, joining_push, Joined, events_push}
+use Rattle.sfv_model.proofs.texts.Joining.{joining_none, joining_push, Joined, events_push, in_turn}
 
 -- a step gives a value for its piece, or nothing for the closing text
 abbrev pub Step : {A : Type 0} → (A → List ℕ → Type 0) → (List ℕ → Type 0) → Option A → List ℕ → Type 0
@@ -43,9 +43,8 @@ module _ {A : Type 0} (P : A → List ℕ → Type 0) (E : List ℕ → Type 0)
       → (d : List ℕ) × W (s ++ (u ++ (x ++ d))) (flat_map parts vs ++ (parts v ++ es))
   moved s u vs x v es w = (
     [],
-    subst (λ (l : List ℕ). W l (flat_map parts vs ++ (parts v ++ es))) (append_assoc s u x
-        ∙ ap (λ (l : List ℕ). s ++ (u ++ l)) (sym (append-nil x)))
-        (subst (λ (l : List TreeEvent). W ((s ++ u) ++ x) l) (events_push parts vs v es) w),
+    rw (← append_assoc s u x ∙ ap (λ (l : List ℕ). s ++ (u ++ l)) (sym (append-nil x)))
+        (rw (← events_push parts vs v es) w),
   )
 
   next : (more : Reader (List A)) → ((s : List ℕ) (vs : List A) → IsJoining P vs s
@@ -53,17 +52,11 @@ module _ {A : Type 0} (P : A → List ℕ → Type 0) (E : List ℕ → Type 0)
       → (u : List ℕ) (o : Option A) → Step P E o u
       → Sound (go_on parts more o) (λ w x. Joined P E w (u ++ x)) (λ x es. Behind parts W s vs (u ++ x) es)
       (Told parts V vs)
-  next more k s vs j u None e = Sound-give [] _ _ _ (subst E (sym (append-nil u)) e)
+  next more k s vs j u None e = Sound-give [] _ _ _ (rw (append-nil u) e)
   next more k s vs j u (Some v) e =
-      Sound-led (parts v) _ _ _ _ (Sound-map more (λ ws. v ∷ ws) _ _ _
-      (Sound-weaker (Joined P E) _ _ more _ _ _ (k (s ++ u) (vs ++ v ∷ []) (joining_push P vs v s u j e))
-      (λ ws x m. record {
-        front = u;
-        back = x;
-        text = refl;
-        first = e;
-        second = m;
-      }) (λ x es w. moved s u vs x v es w) (λ es w. subst V (events_push parts vs v es) w)))
+      Sound-led (parts v) (Sound-map (λ ws. v ∷ ws)
+      (Sound-weaker (k (s ++ u) (vs ++ v ∷ []) (joining_push P vs v s u j e))
+      (λ ws x m. in_turn u x e m) (λ x es w. moved s u vs x v es w) (λ es w. rw (← events_push parts vs v es) w)))
 
   within : (n : ℕ) (s : List ℕ) (vs : List A) → IsJoining P vs s
       → Sound (many_within parts n step) (Joined P E) (Behind parts W s vs) (Told parts V vs)
@@ -82,8 +75,7 @@ pub Consumes-from : {A : Type 0} (P : A → List ℕ → Type 0) (E : List ℕ �
     → Sound step (Step P E) W V
     → ((v : A) (s : List ℕ) → P v s → 1 ≤ length s) → Consumes step
 Consumes-from P E W V step h k = record {
-  consumes = λ t r v e.
-      let m : Reached (Step P E) W V t (Ok (Some v, r)) = subst (λ a. Reached (Step P E) W V t a) e (h.sound t) in
+  consumes = λ t r v e. let m = sound_at h t (Ok (Some v, r)) e in
       let len = ap length m.1 in
       omega (arith, k v m.0 m.2, len, length-append m.0 r);
 }
@@ -126,6 +118,13 @@ pub starts : {A : Type 0} (parts : A → List TreeEvent) (a : Answer (List A)) �
 starts parts (Ok x) = refl
 starts parts (Err e) = refl
 
+-- a step gives a value, or nothing, or a fault
+cases_step : {A : Type 0} (a : Answer (Option A)) → ((v : A) × (r : List ℕ) × (a ≡ Ok (Some v, r)))
+    ⊎ (((r : List ℕ) × (a ≡ Ok (None, r))) ⊎ ((e : Fault) × (a ≡ Err e)))
+cases_step (Ok (Some v, r)) = inl (v, r, refl)
+cases_step (Ok (None, r)) = inr (inl (r, refl))
+cases_step (Err e) = inr (inr (e, refl))
+
 -- ---- enough steps are enough
 
 module _ {A : Type 0} (parts : A → List TreeEvent) (step : Reader (Option A)) (c : Consumes step) where
@@ -134,72 +133,48 @@ module _ {A : Type 0} (parts : A → List TreeEvent) (step : Reader (Option A)) 
   unfolding many_within bind led
   settle zero m t h k = absurd (omega arith)
   settle (suc n) zero t h k = absurd (omega arith)
-  settle (suc n) (suc m) t h k =
-      let on : (a : Answer (Option A)) → step t ≡ a
-      → and_then a (go_on parts (many_within parts n step)) ≡ and_then a (go_on parts (many_within parts m step)) =
-      λ a. elim a as (λ (a : Answer (Option A)). step t ≡ a
-      → and_then a (go_on parts (many_within parts n step)) ≡ and_then a (go_on parts (many_within parts m step))) [
-        | Ok x ↦ elim x.0 as (λ (o : Option A). step t ≡ Ok (o, x.1)
-            → go_on parts (many_within parts n step) o x.1 ≡ go_on parts (many_within parts m step) o x.1) [
-              | None ↦ λ e. refl
-              | Some v ↦ λ e. let less : length x.1 < length t = c.consumes t x.1 v e in
-                  ap (put parts v) (settle n m x.1 (omega arith) (omega arith))
-            ]
-        | Err x ↦ λ e. refl
-      ] in on (step t) refl
+  settle (suc n) (suc m) t h k = elim (cases_step (step t)) [
+    | inl s ↦ let less : length s.1 < length t = c.consumes t s.1 s.0 s.2 in
+        rw s.2 (ap (put parts s.0) (settle n m s.1 (omega arith) (omega arith)))
+    | inr o ↦ elim o [ inl s ↦ rw s.1 refl | inr s ↦ rw s.1 refl ]
+  ]
 
   pub many_is : (t : List ℕ) → many parts step t ≡ (step >>= go_on parts (many parts step)) t
   unfolding many many_within bind led
-  many_is t =
-      let on : (a : Answer (Option A)) → step t ≡ a
-      → and_then a (go_on parts (many_within parts (length t) step)) ≡ and_then a (go_on parts (many parts step)) =
-      λ a. elim a as (λ (a : Answer (Option A)). step t ≡ a
-      → and_then a (go_on parts (many_within parts (length t) step)) ≡ and_then a (go_on parts (many parts step))) [
-        | Ok x ↦ elim x.0 as (λ (o : Option A). step t ≡ Ok (o, x.1)
-            → go_on parts (many_within parts (length t) step) o x.1 ≡ go_on parts (many parts step) o x.1) [
-              | None ↦ λ e. refl
-              | Some v ↦ λ e. let less : length x.1 < length t = c.consumes t x.1 v e in
-                  ap (put parts v) (settle (length t) (suc (length x.1)) x.1 less (omega arith))
-            ]
-        | Err x ↦ λ e. refl
-      ] in on (step t) refl
+  many_is t = elim (cases_step (step t)) [
+    | inl s ↦ let less : length s.1 < length t = c.consumes t s.1 s.0 s.2 in
+        rw s.2 (ap (put parts s.0) (settle (length t) (suc (length s.1)) s.1 less (omega arith)))
+    | inr o ↦ elim o [ inl s ↦ rw s.1 refl | inr s ↦ rw s.1 refl ]
+  ]
 
   -- ---- what an answer rests on
 
+  -- with any number of steps that is enough
+  many_at : Local step → (t : List ℕ) (a : Answer (List A)) → many parts step t ≡ a → (n : ℕ) → length t < n
+      → Lasts (many_within parts n step) t a
+  unfolding many
+  many_at h t a e n lt = subst (Lasts (many_within parts n step) t) (settle n (suc (length t)) t lt (omega arith) ∙ e)
+      ((Local-many_within parts n h).lasts t)
+
   many_lasts : Local step → (t : List ℕ) (a : Answer (List A)) → many parts step t ≡ a → Lasts (many parts step) t a
   unfolding many
-  many_lasts h t (Ok x) e =
-      let w0 : Lasts (many_within parts (suc (length t)) step) t (Ok x) =
-      subst (λ a. Lasts (many_within parts (suc (length t)) step) t a) e
-      ((Local-many_within parts (suc (length t)) h).lasts t) in (
-        w0.0,
-        w0.1,
-        λ r i.
-            let m : ℕ = suc (length t + length (w0.0 ++ r)) in
-            let w : Lasts (many_within parts m step) t (Ok x) =
-            subst (λ a. Lasts (many_within parts m step) t a)
-            (settle m (suc (length t)) t (omega arith) (omega arith) ∙ e) ((Local-many_within parts m h).lasts t) in
-            let same : w.0 ≡ w0.0 = append_cancel_right w.0 w0.0 x.1 (sym w.1 ∙ w0.1) in
-            settle (suc (length (w0.0 ++ r))) m (w0.0 ++ r) (omega arith) (omega arith)
-            ∙ ap (λ (l : List ℕ). many_within parts m step (l ++ r)) (sym same) ∙ w.2 r i,
-      )
-  many_lasts h t (Err x) e = λ exact.
-      let w0 = (subst (λ a. Lasts (many_within parts (suc (length t)) step) t a) e
-      ((Local-many_within parts (suc (length t)) h).lasts t)) exact in (
-        w0.0,
-        w0.1,
-        λ r i.
-            let m : ℕ = suc (length t + length (w0.0 ++ r)) in
-            let w = (subst (λ a. Lasts (many_within parts m step) t a)
-            (settle m (suc (length t)) t (omega arith) (omega arith)
-            ∙ e) ((Local-many_within parts m h).lasts t)) exact in
-            let same : w.0 ≡ w0.0 = append_cancel_right w.0 w0.0 x.rest (sym w.1 ∙ w0.1) in
-            let f = w.2 r i in (
-              f.0,
-              settle (suc (length (w0.0 ++ r))) m (w0.0 ++ r) (omega arith) (omega arith)
-                  ∙ ap (λ (l : List ℕ). many_within parts m step (l ++ r)) (sym same) ∙ f.1,
-            ),
-      )
+  many_lasts h t (Ok x) e = let w0 = many_at h t (Ok x) e (suc (length t)) (omega arith) in (
+    w0.0,
+    w0.1,
+    λ r i. let m = suc (length t + length (w0.0 ++ r)) in
+        let w = many_at h t (Ok x) e m (omega arith) in
+        let same : w.0 ≡ w0.0 = append_cancel_right w.0 w0.0 x.1 (sym w.1 ∙ w0.1) in
+        cc (settle (suc (length (w0.0 ++ r))) m (w0.0 ++ r) (omega arith) (omega arith), w.2 r i),
+  )
+  many_lasts h t (Err x) e = λ exact. let w0 = many_at h t (Err x) e (suc (length t)) (omega arith) exact in (
+    w0.0,
+    w0.1,
+    λ r i. let m = suc (length t + length (w0.0 ++ r)) in
+        let w = many_at h t (Err x) e m (omega arith) exact in
+        let same : w.0 ≡ w0.0 = append_cancel_right w.0 w0.0 x.rest (sym w.1 ∙ w0.1) in
+        let f = w.2 r i in
+        (f.0, cc (settle (suc (length (w0.0 ++ r))) m (w0.0 ++ r) (omega arith) (omega arith), f.1)),
+  )
 
   pub Local-many : Local step → Local (many parts step)
   Local-many h = record { lasts = λ t. many_lasts h t (many parts step t) refl }
@@ -215,9 +190,8 @@ module _ {A : Type 0} (parts : A → List TreeEvent) (step : Reader (Option A)) 
   many_complete P E F q again stop (v ∷ vs) s j =
       let rest = many_complete P E F q again stop vs j.back j.second in
       let one = again v j.front (j.back ++ q) j.first rest.1 in
-      let all : s ++ q ≡ j.front ++ (j.back ++ q) = ap (λ (l : List ℕ). l ++ q) j.text
-      ∙ append_assoc j.front j.back q in
-      (ap (many parts step) all ∙ many_is (j.front ++ (j.back ++ q)) ∙ rw (one.0, rest.0) refl, subst F (sym all) one.1)
+      let all : s ++ q ≡ j.front ++ (j.back ++ q) = simp (j.text, append_assoc) in
+      (ap (many parts step) all ∙ many_is (j.front ++ (j.back ++ q)) ∙ rw (one.0, rest.0) refl, rw all one.1)
 
   -- ---- a loop that puts the values after a front
 

@@ -1,32 +1,27 @@
 -- What is read as an inner list, as a member of a list or of a dictionary, is one.
-use Rattle.std.proofs.Common.{◌≡◌, ℕ, ◌≤◌, true, List, [], ◌∷◌, ◌++◌, length, Some, None, refl, sym, ap, subst, ◌∙◌}
+use Rattle.std.proofs.Common.{◌≡◌, ℕ, ◌≤◌, true, List, [], ◌∷◌, ◌++◌, length, Some, None, refl, sym, ap, ◌∙◌}
 use Rattle.std.proofs.Common.{append_assoc, arith, inl, inr}
 use Rattle.std.specs.Prelude.{codes, flat_map}
-use Rattle.sfv_spec.proofs.Marks.{space, equals_sign}
-use Rattle.sfv_spec.proofs.Marks.{left_parenthesis, right_parenthesis}
+use Rattle.sfv_spec.proofs.Marks.{space, equals_sign, left_parenthesis, right_parenthesis, is_space, true_with}
 use Rattle.sfv_spec.specs.Texts.{Exactly, RunOf, ◌⨾◌}
-use Rattle.sfv_spec.proofs.Marks.{is_space}
 use Rattle.sfv_spec.specs.Values.{boolean, RawParameters, RawItem, RawMember, item}
 use Rattle.sfv_spec.specs.declared.version.Version.{Version}
 use Rattle.sfv_spec.specs.Grammar.{Spaces, SomeSpaces, IsKeyText, IsParameterText, IsParametersText, IsItemText}
 use Rattle.sfv_spec.specs.Grammar.{IsMemberText, IsMemberValueText, IsDictionaryMemberText}
-use Rattle.sfv_spec.proofs.Marks.{true_with}
 use Rattle.sfv_spec.specs.Events.{TreeEvent, entry, keyed_entry, begins_item, begins_inner_list, bare_item}
 use Rattle.sfv_spec.specs.Events.{inner_list_end, parameters_events, item_events, member_events, inner_item_events}
 use Rattle.sfv_spec.specs.Events.{entry_events, keyed_events}
 use Rattle.sfv_model.specs.Judgements.{Sound}
-use Rattle.sfv_model.specs.Reader.{many}
-use Rattle.sfv_model.specs.Items.{key_at, parameters_at, item_at}
+use Rattle.sfv_model.specs.Items.{key_at}
 use Rattle.sfv_model.specs.Members.{inner_item_at, next_item_at, inner_items_at, inner_of, closed_events, inner_at}
 use Rattle.sfv_model.specs.Members.{member_at, entry_at, member_value_at, keyed_at}
 use Rattle.sfv_model.proofs.sound.Combinators.{Sound-give, Sound-fail, Sound-led, Sound-byte, Sound-ahead, Sound-bind}
-use Rattle.sfv_model.proofs.sound.Combinators.{Sound-map, Sound-within, Sound-span, Reads, Somewhere, Begins, Goes}
+use Rattle.sfv_model.proofs.sound.Combinators.{Sound-map, Sound-within, Sound-here, Sound-span, Reads, Somewhere, Goes}
 use Rattle.sfv_model.proofs.sound.Combinators.{begins_after, begins_longer}
-use Rattle.sfv_model.proofs.texts.Joining.{joining_none, Joined, split_joined}
+use Rattle.sfv_model.proofs.texts.Joining.{joining_none, Joined, split_joined, in_turn}
 use Rattle.sfv_model.proofs.sound.Many.{Step, Consumes, Consumes-from}
 use Rattle.sfv_model.proofs.sound.Steps.{StepGoes, Sound-steps}
-use Rattle.sfv_model.proofs.sound.Items.{KeyGoes, Sound-key, ParametersGo, Sound-parameters, ItemGoes, Sound-item}
-use Rattle.sfv_model.proofs.sound.Items.{as_it_stands}
+use Rattle.sfv_model.proofs.sound.Items.{Sound-key, ParametersGo, Sound-parameters, ItemGoes, Sound-item}
 
 -- ---- inner items
 
@@ -39,10 +34,8 @@ inner_item_goes version u es g = (g.0, g.1, begins_after (begins_item ∷ []) (i
 
 pub Sound-inner_item : (version : Version) → Reads (inner_item_at version) (IsItemText version) (InnerItemGoes version)
 unfolding inner_item_at
-Sound-inner_item version = Sound-led _ _ _ _ _
-    (Sound-within (λ u. u) (λ es. begins_item ∷ es) (item_at version) (IsItemText version) (ItemGoes version)
-    (IsItemText version) (InnerItemGoes version) (Sound-item version) (λ v t h. h)
-    (λ u es g. as_it_stands (λ l fs. InnerItemGoes version l (begins_item ∷ fs)) u es (inner_item_goes version u es g)))
+Sound-inner_item version = Sound-led _ (Sound-here (λ u. u) (λ es. begins_item ∷ es) (InnerItemGoes version)
+    (Sound-item version) (λ v t h. h) (inner_item_goes version))
 
 -- the closing parenthesis, and one more item
 abbrev pub IsClosed : List ℕ → Type 0
@@ -52,17 +45,11 @@ abbrev pub IsNextItem : Version → RawItem → List ℕ → Type 0
 IsNextItem version i = SomeSpaces ⨾ IsItemText version i
 
 pub closed : (spaces : List ℕ) → RunOf is_space spaces → IsClosed (spaces ++ right_parenthesis ∷ [])
-closed spaces each = record { front = spaces; back = right_parenthesis ∷ []; text = refl; first = each; second = refl }
+closed spaces each = in_turn spaces (right_parenthesis ∷ []) each refl
 
 pub next_item : (version : Version) (spaces t : List ℕ) (i : RawItem) → RunOf is_space spaces → IsItemText version i t
     → IsNextItem version i (space ∷ (spaces ++ t))
-next_item version spaces t i each h = record {
-  front = space ∷ spaces;
-  back = t;
-  text = refl;
-  first = record { front = space ∷ []; back = spaces; text = refl; first = refl; second = each };
-  second = h;
-}
+next_item version spaces t i each h = in_turn (space ∷ spaces) t (in_turn (space ∷ []) spaces refl each) h
 
 abbrev pub NextItemGoes : Version → List ℕ → List TreeEvent → Type 0
 NextItemGoes version = StepGoes (IsNextItem version) IsClosed inner_item_events
@@ -73,20 +60,15 @@ at_bracket version = (None, closed [] refl, ([], refl))
 pub Sound-next_item : (version : Version) → Reads (next_item_at version) (Step (IsNextItem version) IsClosed)
     (NextItemGoes version)
 unfolding next_item_at
-Sound-next_item version = Sound-byte space _ _ _ _ _
+Sound-next_item version = Sound-byte _
     (Sound-span _ _ _ _ _ (λ spaces each.
-    Sound-byte _ _ _ _ _ _
+    Sound-byte _
     (Sound-give _ _ _ _ (closed (space ∷ spaces) each))
-    (Sound-map (inner_item_at version) (λ i. Some i) _ _ _
-    (Sound-within (λ u. space ∷ (spaces ++ u)) (λ es. es) (inner_item_at version) (IsItemText version)
-    (InnerItemGoes version) _ (NextItemGoes version) (Sound-inner_item version)
+    (Sound-map (λ i. Some i)
+    (Sound-here (λ u. space ∷ (spaces ++ u)) (λ es. es) (NextItemGoes version) (Sound-inner_item version)
     (λ i t h. next_item version spaces t i each h)
-    (λ u es g. as_it_stands (λ l fs. NextItemGoes version (space ∷ (spaces ++ l)) fs) u es (
-      Some g.0,
-      next_item version spaces u g.0 each g.1,
-      g.2,
-    ))))))
-    (Sound-byte _ _ _ _ _ _
+    (λ u es g. (Some g.0, next_item version spaces u g.0 each g.1, g.2))))))
+    (Sound-byte _
     (Sound-give _ _ _ _ (closed [] refl))
     (Sound-ahead _ _ _ _ _ _ (Sound-fail _ _ _ _ (right_parenthesis ∷ []) (at_bracket version))
     (Sound-fail _ _ _ _ (right_parenthesis ∷ []) (at_bracket version))))
@@ -108,13 +90,7 @@ ItemsGo version = Goes (IsItems version) (λ is. flat_map inner_item_events is)
 
 pub items_with : (version : Version) (spaces s t : List ℕ) (i : RawItem) (is : List RawItem) → RunOf is_space spaces
     → IsItemText version i s → Joined (IsNextItem version) IsClosed is t → IsItems version (i ∷ is) (spaces ++ (s ++ t))
-items_with version spaces s t i is each h k = record {
-  front = spaces;
-  back = s ++ t;
-  text = refl;
-  first = each;
-  second = record { front = s; back = t; text = refl; first = h; second = k };
-}
+items_with version spaces s t i is each h k = in_turn spaces (s ++ t) each (in_turn s t h k)
 
 pub bracket : IsClosed (right_parenthesis ∷ [])
 bracket = closed [] refl
@@ -123,11 +99,10 @@ pub Sound-items : (version : Version) → Reads (inner_items_at version) (IsItem
 unfolding inner_items_at
 Sound-items version = Sound-ahead _ _ _ _ _ _
     (Sound-span _ _ _ _ _ (λ spaces each.
-    Sound-byte _ _ _ _ _ _
+    Sound-byte _
     (Sound-give _ _ _ _ (closed spaces each))
     (Sound-bind (IsItemText version) (inner_item_at version) _ _ _ _
-    (Sound-within (λ u. spaces ++ u) (λ es. es) (inner_item_at version) (IsItemText version) (InnerItemGoes version) _
-    (ItemsGo version) (Sound-inner_item version) (λ v t h. h)
+    (Sound-within (λ u. spaces ++ u) (λ es. es) (ItemsGo version) (Sound-inner_item version) (λ v t h. h)
     (λ u es g. (
       right_parenthesis ∷ [],
       (
@@ -136,12 +111,12 @@ Sound-items version = Sound-ahead _ _ _ _ _ _
         begins_longer (inner_item_events g.0) es [] g.2,
       ),
     )))
-    (λ s i h. Sound-led _ _ _ _ _ (Sound-map (many inner_item_events (next_item_at version)) (λ is. i ∷ is) _ _ _
-    (Sound-within (λ u. spaces ++ (s ++ u)) (λ es. inner_item_events i ++ es) _ _ _ _ (ItemsGo version)
+    (λ s i h. Sound-led _ (Sound-map (λ is. i ∷ is)
+    (Sound-here (λ u. spaces ++ (s ++ u)) (λ es. inner_item_events i ++ es) (ItemsGo version)
     (Sound-steps (IsNextItem version) IsClosed inner_item_events (right_parenthesis ∷ []) bracket (next_item_at version)
     (Sound-next_item version))
     (λ is t k. items_with version spaces s t i is each h k)
-    (λ u es g. as_it_stands (λ l fs. ItemsGo version (spaces ++ (s ++ l)) (inner_item_events i ++ fs)) u es (
+    (λ u es g. (
       i ∷ g.0,
       items_with version spaces s u i g.0 each h g.1,
       begins_after (inner_item_events i) (flat_map inner_item_events g.0) es g.2,
@@ -153,26 +128,13 @@ Sound-items version = Sound-ahead _ _ _ _ _ _
 -- in the form of the grammar
 pub inner_text : (version : Version) (is : List RawItem) (ps : RawParameters) (s t : List ℕ) → IsItems version is s
     → IsParametersText version ps t → IsMemberText version (inner_of is ps) (left_parenthesis ∷ (s ++ t))
-inner_text version [] ps s t h k = record {
-  front = left_parenthesis ∷ [];
-  back = s ++ t;
-  text = refl;
-  first = refl;
-  second = record {
-    front = h.front;
-    back = right_parenthesis ∷ t;
-    text = ap (λ (l : List ℕ). l ++ t) (h.text ∙ ap (λ (l : List ℕ). h.front ++ l) h.second)
-        ∙ append_assoc h.front (right_parenthesis ∷ []) t;
-    first = h.first;
-    second = record {
-      front = [];
-      back = right_parenthesis ∷ t;
-      text = refl;
-      first = refl;
-      second = record { front = right_parenthesis ∷ []; back = t; text = refl; first = refl; second = k };
-    };
-  };
-}
+inner_text version [] ps s t h k = in_turn (left_parenthesis ∷ []) (s ++ t) refl (record {
+  front = h.front;
+  back = right_parenthesis ∷ t;
+  text = simp (h.text, h.second, append_assoc);
+  first = h.first;
+  second = in_turn [] (right_parenthesis ∷ t) refl (in_turn (right_parenthesis ∷ []) t refl k);
+})
 inner_text version (i ∷ is) ps s t h k =
     let m = split_joined (IsNextItem version) IsClosed is h.second.back h.second.second in
     let z = m.second in
@@ -181,37 +143,15 @@ inner_text version (i ∷ is) ps s t h k =
     ∙ ap (λ (l : List ℕ). h.second.front ++ l) (m.text
     ∙ ap (λ (l : List ℕ). m.front ++ l) (z.text ∙ ap (λ (l : List ℕ). z.front ++ l) z.second))))
     ∙ simp append_assoc in
-    record {
-      front = left_parenthesis ∷ [];
-      back = s ++ t;
-      text = refl;
-      first = refl;
-      second = record {
-        front = h.front;
-        back = ((h.second.front ++ m.front) ++ z.front) ++ (right_parenthesis ∷ t);
-        text = whole;
-        first = h.first;
-        second = record {
-          front = (h.second.front ++ m.front) ++ z.front;
-          back = right_parenthesis ∷ t;
-          text = refl;
-          first = record {
-            front = h.second.front ++ m.front;
-            back = z.front;
-            text = refl;
-            first = record {
-              front = h.second.front;
-              back = m.front;
-              text = refl;
-              first = h.second.first;
-              second = m.first;
-            };
-            second = z.first;
-          };
-          second = record { front = right_parenthesis ∷ []; back = t; text = refl; first = refl; second = k };
-        };
-      };
-    }
+    in_turn (left_parenthesis ∷ []) (s ++ t) refl (record {
+      front = h.front;
+      back = ((h.second.front ++ m.front) ++ z.front) ++ (right_parenthesis ∷ t);
+      text = whole;
+      first = h.first;
+      second = in_turn ((h.second.front ++ m.front) ++ z.front) (right_parenthesis ∷ t)
+          (in_turn (h.second.front ++ m.front) z.front (in_turn h.second.front m.front h.second.first m.first) z.first)
+          (in_turn (right_parenthesis ∷ []) t refl k);
+    })
 
 abbrev pub MemberGoes : Version → List ℕ → List TreeEvent → Type 0
 MemberGoes version = Goes (IsMemberText version) member_events
@@ -228,9 +168,8 @@ after_items : (version : Version) (is : List RawItem) (s : List ℕ) → IsItems
 after_items version is s h u es g = (
   inner_of is g.0,
   inner_text version is g.0 s u h g.1,
-  subst (λ (l : List TreeEvent). Begins l (begins_inner_list ∷ (closed_events is ++ es))) (sym (inner_all is g.0))
-      (begins_after (begins_inner_list ∷ []) (closed_events is ++ parameters_events g.0) (closed_events is ++ es)
-      (begins_after (closed_events is) (parameters_events g.0) es g.2)),
+  rw (inner_all is g.0) (begins_after (begins_inner_list ∷ []) (closed_events is ++ parameters_events g.0)
+      (closed_events is ++ es) (begins_after (closed_events is) (parameters_events g.0) es g.2)),
 )
 
 items_go : (version : Version) (u : List ℕ) (es : List TreeEvent) → ItemsGo version u es
@@ -238,8 +177,7 @@ items_go : (version : Version) (u : List ℕ) (es : List TreeEvent) → ItemsGo 
 items_go version u es g = (
   inner_of g.0 [],
   inner_text version g.0 [] u [] g.1 (joining_none (IsParameterText version)),
-  subst (λ (l : List TreeEvent). Begins l (begins_inner_list ∷ es)) (sym (inner_all g.0 []))
-      (begins_after (begins_inner_list ∷ []) (closed_events g.0 ++ parameters_events []) es
+  rw (inner_all g.0 []) (begins_after (begins_inner_list ∷ []) (closed_events g.0 ++ parameters_events []) es
       (begins_longer (closed_events g.0) es (parameters_events [])
       (begins_longer (flat_map inner_item_events g.0) es (inner_list_end ∷ []) g.2))),
 )
@@ -249,18 +187,12 @@ Sound-inner : (version : Version) → Sound (inner_at version) (λ m s. IsMember
     (λ es. Somewhere (MemberGoes version) (begins_inner_list ∷ es))
 unfolding inner_at
 Sound-inner version = Sound-bind (IsItems version) (inner_items_at version) _ _ _ _
-    (Sound-within (λ u. left_parenthesis ∷ u) (λ es. begins_inner_list ∷ es) (inner_items_at version) (IsItems version)
-    (ItemsGo version) _ (MemberGoes version) (Sound-items version) (λ v t h. h) (λ u es g. (
-      [],
-      items_go version u es g,
-    )))
-    (λ s is h. Sound-led _ _ _ _ _ (Sound-map (parameters_at version) (inner_of is) _ _ _
-    (Sound-within (λ u. left_parenthesis ∷ (s ++ u)) (λ es. begins_inner_list ∷ (closed_events is ++ es))
-    (parameters_at version) (IsParametersText version) (ParametersGo version) _ (MemberGoes version)
-    (Sound-parameters version)
-    (λ ps t k. inner_text version is ps s t h k)
-    (λ u es g. as_it_stands (λ l fs. MemberGoes version (left_parenthesis ∷ (s ++ l))
-    (begins_inner_list ∷ (closed_events is ++ fs))) u es (after_items version is s h u es g)))))
+    (Sound-within (λ u. left_parenthesis ∷ u) (λ es. begins_inner_list ∷ es) (MemberGoes version) (Sound-items version)
+    (λ v t h. h) (λ u es g. ([], items_go version u es g)))
+    (λ s is h. Sound-led _ (Sound-map (inner_of is)
+    (Sound-here (λ u. left_parenthesis ∷ (s ++ u)) (λ es. begins_inner_list ∷ (closed_events is ++ es))
+    (MemberGoes version) (Sound-parameters version) (λ ps t k. inner_text version is ps s t h k)
+    (after_items version is s h))))
 
 -- ---- members
 
@@ -270,25 +202,18 @@ item_goes version u es g = (item g.0, g.1, begins_after (begins_item ∷ []) (it
 
 pub Sound-member : (version : Version) → Reads (member_at version) (IsMemberText version) (MemberGoes version)
 unfolding member_at
-Sound-member version = Sound-byte _ _ _ _ _ _ (Sound-led _ _ _ _ _ (Sound-inner version))
-    (Sound-led _ _ _ _ _ (Sound-map (item_at version) (λ i. item i) _ _ _
-    (Sound-within (λ u. u) (λ es. begins_item ∷ es) (item_at version) (IsItemText version) (ItemGoes version) _
-    (MemberGoes version) (Sound-item version) (λ v t h. h)
-    (λ u es g. as_it_stands (λ l fs. MemberGoes version l (begins_item ∷ fs)) u es (item_goes version u es g)))))
+Sound-member version = Sound-byte _ (Sound-led _ (Sound-inner version)) (Sound-led _ (Sound-map (λ i. item i)
+    (Sound-here (λ u. u) (λ es. begins_item ∷ es) (MemberGoes version) (Sound-item version) (λ v t h. h)
+    (item_goes version))))
 
 abbrev pub EntryGoes : Version → List ℕ → List TreeEvent → Type 0
 EntryGoes version = Goes (IsMemberText version) entry_events
 
 pub Sound-entry : (version : Version) → Reads (entry_at version) (IsMemberText version) (EntryGoes version)
 unfolding entry_at
-Sound-entry version = Sound-led _ _ _ _ _
-    (Sound-within (λ u. u) (λ es. entry ∷ es) (member_at version) (IsMemberText version) (MemberGoes version) _
-    (EntryGoes version) (Sound-member version) (λ v t h. h)
-    (λ u es g. as_it_stands (λ l fs. EntryGoes version l (entry ∷ fs)) u es (
-      g.0,
-      g.1,
-      begins_after (entry ∷ []) (member_events g.0) es g.2,
-    )))
+Sound-entry version = Sound-led _
+    (Sound-here (λ u. u) (λ es. entry ∷ es) (EntryGoes version) (Sound-member version) (λ v t h. h)
+    (λ u es g. (g.0, g.1, begins_after (entry ∷ []) (member_events g.0) es g.2)))
 
 -- ---- members of dictionaries
 
@@ -300,7 +225,7 @@ ValueGoes version = Goes (IsMemberValueText version) member_events
 
 pub given : (version : Version) (m : RawMember) (t : List ℕ) → IsMemberText version m t
     → IsMemberValueText version m (equals_sign ∷ t)
-given version m t h = inl (record { front = equals_sign ∷ []; back = t; text = refl; first = refl; second = h })
+given version m t h = inl (in_turn (equals_sign ∷ []) t refl h)
 
 left_out : (version : Version) (ps : RawParameters) (t : List ℕ) → IsParametersText version ps t
     → IsMemberValueText version (true_with ps) t
@@ -309,47 +234,38 @@ left_out version ps t h = inr (ps, refl, h)
 pub Sound-member_value : (version : Version) → Reads (member_value_at version) (IsMemberValueText version)
     (ValueGoes version)
 unfolding member_value_at
-Sound-member_value version = Sound-byte _ _ _ _ _ _
-    (Sound-within (λ u. equals_sign ∷ u) (λ es. es) (member_at version) (IsMemberText version) (MemberGoes version) _
-    (ValueGoes version) (Sound-member version) (λ m t h. given version m t h)
-    (λ u es g. as_it_stands (λ l fs. ValueGoes version (equals_sign ∷ l) fs) u es (g.0, given version g.0 u g.1, g.2)))
-    (Sound-led _ _ _ _ _ (Sound-map (parameters_at version) true_with _ _ _
-    (Sound-within (λ u. u) (λ es. begins_item ∷ bare_item (boolean true) ∷ es) (parameters_at version)
-    (IsParametersText version) (ParametersGo version) _ (ValueGoes version) (Sound-parameters version)
-    (λ ps t h. left_out version ps t h)
-    (λ u es g. as_it_stands (λ l fs. ValueGoes version l (begins_item ∷ bare_item (boolean true) ∷ fs)) u es (
+Sound-member_value version = Sound-byte _
+    (Sound-here (λ u. equals_sign ∷ u) (λ es. es) (ValueGoes version) (Sound-member version) (given version)
+    (λ u es g. (g.0, given version g.0 u g.1, g.2)))
+    (Sound-led _ (Sound-map true_with
+    (Sound-here (λ u. u) (λ es. begins_item ∷ bare_item (boolean true) ∷ es) (ValueGoes version)
+    (Sound-parameters version) (left_out version)
+    (λ u es g. (
       true_with g.0,
       left_out version g.0 u g.1,
-      begins_after (begins_item ∷ bare_item (boolean true) ∷ [])
-          (parameters_events g.0) es g.2,
+      begins_after (begins_item ∷ bare_item (boolean true) ∷ []) (parameters_events g.0) es g.2,
     )))))
 
 pub keyed : (version : Version) (key k t : List ℕ) (m : RawMember) → IsKeyText key k → IsMemberValueText version m t
     → IsDictionaryMemberText version (key, m) (k ++ t)
-keyed version key k t m h g = record { front = k; back = t; text = refl; first = h; second = g }
+keyed version key k t m h g = in_turn k t h g
 
 pub Sound-keyed : (version : Version) → Reads (keyed_at version) (IsDictionaryMemberText version) (KeyedGoes version)
 unfolding keyed_at
 Sound-keyed version = Sound-bind IsKeyText key_at _ _ _ _
-    (Sound-within (λ u. u) (λ es. es) key_at IsKeyText KeyGoes _ (KeyedGoes version) Sound-key (λ v t h. h)
+    (Sound-within (λ u. u) (λ es. es) (KeyedGoes version) Sound-key (λ v t h. h)
     (λ u es g. (
       [],
       (
         (g.0, true_with []),
-        keyed version g.0 u [] (true_with []) g.1
-            (left_out version [] [] (joining_none (IsParameterText version))),
-        (
-          keyed_events (g.0, true_with []),
-          ap (λ (l : List TreeEvent). l ++ keyed_events (g.0, true_with []))
-              (sym g.2),
-        ),
+        keyed version g.0 u [] (true_with []) g.1 (left_out version [] [] (joining_none (IsParameterText version))),
+        (keyed_events (g.0, true_with []), rw g.2 refl),
       ),
     )))
-    (λ k key h. Sound-led _ _ _ _ _ (Sound-map (member_value_at version) (λ m. (key, m)) _ _ _
-    (Sound-within (λ u. k ++ u) (λ es. keyed_entry key ∷ es) (member_value_at version) (IsMemberValueText version)
-    (ValueGoes version) _ (KeyedGoes version) (Sound-member_value version)
+    (λ k key h. Sound-led _ (Sound-map (λ m. (key, m))
+    (Sound-here (λ u. k ++ u) (λ es. keyed_entry key ∷ es) (KeyedGoes version) (Sound-member_value version)
     (λ m t g. keyed version key k t m h g)
-    (λ u es g. as_it_stands (λ l fs. KeyedGoes version (k ++ l) (keyed_entry key ∷ fs)) u es (
+    (λ u es g. (
       (key, g.0),
       keyed version key k u g.0 h g.1,
       begins_after (keyed_entry key ∷ []) (member_events g.0) es g.2,

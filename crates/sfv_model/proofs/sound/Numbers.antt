@@ -3,13 +3,10 @@ use Rattle.std.proofs.Common.{◌≡◌, ℕ, ◌+◌, ◌*◌, ◌-◌, ◌^◌
 use Rattle.std.proofs.Common.{refl, sym, ap, subst, ◌∙◌, append_assoc, arith}
 use Rattle.std.proofs.lemmas.List.{append-nil, nil_from_length}
 use Rattle.std.proofs.lemmas.Bool.{eqb-true, eqb-false, ltb-false}
-use Rattle.sfv_spec.proofs.Marks.{digit_zero}
-use Rattle.sfv_spec.proofs.Marks.{minus_sign, dot}
+use Rattle.sfv_spec.proofs.Marks.{digit_zero, minus_sign, dot, is_digit, minus_text}
 use Rattle.sfv_spec.specs.Texts.{RunOf}
-use Rattle.sfv_spec.proofs.Marks.{is_digit}
 use Rattle.sfv_spec.specs.Values.{BareValue, integer, decimal}
 use Rattle.sfv_spec.specs.Numbers.{AreDigits, place_value, signed, IsIntegerText, IsDecimalText}
-use Rattle.sfv_spec.proofs.Marks.{minus_text}
 use Rattle.sfv_spec.specs.Events.{TreeEvent}
 use Rattle.sfv_model.specs.Judgements.{Sound}
 use Rattle.sfv_model.specs.Reader.{◌>>=◌, up_to}
@@ -83,7 +80,7 @@ module _ (dated : Bool) (W : List ℕ → List TreeEvent → Type 0) (V : List T
       (λ u es. W (Fraction negative whole fraction u) es) V
   unfolding decimal_at
   Sound-decimal negative whole fraction counted each most =
-      Sound-cond (eqb (length fraction) 0) _ _ _ _ _ (λ e. Sound-give _ _ _ _ tt)
+      Sound-cond {b = eqb (length fraction) 0} (λ e. Sound-give _ _ _ _ tt)
       (λ e. let some : 1 ≤ length fraction = omega (arith, eqb-false _ _ e) in
       let counted' : AreDigits 1 3 fraction = (some, most, each) in
       Sound-ahead _ _ _ _ _ _ (Sound-long dated refl negative whole fraction counted counted')
@@ -110,8 +107,7 @@ module _ (dated : Bool) (W : List ℕ → List TreeEvent → Type 0) (V : List T
       → Sound (whole_at dated negative whole) (AtWhole negative whole) (λ u es. W (Whole negative whole u) es) V
   unfolding whole_at
   Sound-whole negative whole each most =
-      Sound-cond _ _ _ _ _ _
-      (λ e. let nothing : whole ≡ [] = nil_from_length whole (eqb-true _ _ e) in
+      Sound-cond (λ e. let nothing = nil_from_length whole (eqb-true _ _ e) in
       Sound-fail _ _ _ _ (digit_zero ∷ []) (rw nothing
       (i (signed negative 0) (Whole negative (digit_zero ∷ []) [])
       (integer_here negative (digit_zero ∷ []) (omega arith, omega arith, refl)))))
@@ -120,7 +116,7 @@ module _ (dated : Bool) (W : List ℕ → List TreeEvent → Type 0) (V : List T
       let here = integer_here negative whole counted in
       Sound-ahead _ _ _ _ _ _ (Sound-fail _ _ _ _ [] (i _ _ here))
       (Sound-ahead _ _ _ _ _ _
-      (Sound-cond _ _ _ _ _ _ (λ _. Sound-fail _ _ _ _ [] (i _ _ here)) (λ lt. Sound-point negative whole (
+      (Sound-cond (λ _. Sound-fail _ _ _ _ [] (i _ _ here)) (λ lt. Sound-point negative whole (
         counted.0,
         ltb-false _ _ lt,
         each,
@@ -131,6 +127,4 @@ module _ (dated : Bool) (W : List ℕ → List TreeEvent → Type 0) (V : List T
   unfolding number_at
   Sound-number = Sound-bind (λ n s. s ≡ minus_text n) sign_at (λ negative. up_to is_digit 15
       >>= whole_at dated negative) _ _ _ (Sound-sign _ _)
-      (λ s negative e. subst (λ (s : List ℕ). Sound (up_to is_digit 15
-      >>= whole_at dated negative) (λ w u. IsNumber w (s ++ u)) (λ u es. W (s ++ u) es) V) (sym e)
-      (Sound-up_to _ _ _ _ _ _ (λ whole each most. Sound-whole negative whole each most)))
+      (λ s negative e. rw e (Sound-up_to _ _ _ _ _ _ (λ whole each most. Sound-whole negative whole each most)))

@@ -1,10 +1,9 @@
 -- What the readers of Strings and Display Strings give.
-use Rattle.std.proofs.Common.{◌≡◌, ℕ, Bool, true, false, cond, List, [], ◌∷◌, ◌++◌, Ok, Err, refl, sym, ap, subst, ◌∙◌}
+use Rattle.std.proofs.Common.{inl, ◌≡◌, ℕ, Bool, true, false, List, [], ◌∷◌, ◌++◌, Ok, Err, refl, sym, ap, ◌∙◌}
 use Rattle.std.proofs.Common.{append_assoc, inr}
 use Rattle.std.specs.List.{concat, AllZip}
 use Rattle.std.specs.Str.{is_utf8}
-use Rattle.std.specs.Str.Lossy.{utf8_valid_len}
-use Rattle.std.proofs.lemmas.Bool.{true≢false}
+use Rattle.std.proofs.lemmas.Bool.{cases_Bool, true≢false}
 use Rattle.std.proofs.lemmas.List.{append-nil}
 use Rattle.std.proofs.lemmas.Str.{IsUtf8-from_is_utf8}
 use Rattle.sfv_spec.proofs.Marks.{double_quote, backslash}
@@ -13,12 +12,13 @@ use Rattle.sfv_spec.specs.declared.error_kind.ErrorKind.{ErrorKind}
 use Rattle.sfv_spec.specs.declared.error_kind.ErrorKind.TheVariants.{InvalidStringCharacter, UnterminatedString}
 use Rattle.sfv_spec.specs.declared.error_kind.ErrorKind.TheVariants.{UnterminatedEscapeSequence, InvalidEscapeSequence}
 use Rattle.sfv_spec.specs.declared.error_kind.ErrorKind.TheVariants.{InvalidUtf8InDisplayString}
-use Rattle.sfv_model.specs.Reader.{Fault, Answer, at_reach, by_rule}
+use Rattle.sfv_model.specs.Reader.{Fault, Answer, at_reach}
 use Rattle.sfv_model.specs.Judgements.{GoesOn, Reached, Sound, Mute, Quiet}
-use Rattle.sfv_model.specs.Quoted.{IsStringEnd, IsDisplayEnd, string_at, outside, pieces_from, after_pieces, checked}
-use Rattle.sfv_model.specs.Quoted.{display_at, StringStops, DisplayStops, Traced, IsDisplayFault}
+use Rattle.sfv_model.specs.Quoted.{IsStringEnd, IsDisplayEnd, string_at, outside, pieces_from, checked, display_at}
+use Rattle.sfv_model.specs.Quoted.{StringStops, DisplayStops, Traced, IsDisplayFault}
 use Rattle.sfv_model.proofs.quoted.Traces.{Ends, trace_of_string, trace_of_display}
 use Rattle.sfv_model.proofs.quoted.Pieces.{display_ruled}
+use Rattle.sfv_model.proofs.texts.Joining.{in_turn}
 
 -- where a reader stopped, without how its fault is placed
 pub stopped_at : (exact : Bool) (P : ℕ → List ℕ → Type 0)
@@ -38,13 +38,7 @@ stopped_at exact P Stops t e h = record {
 -- a beginning up to a fault can be completed
 completed : (bytes : List ℕ) (pieces : List (List ℕ)) (p : List ℕ) → AllZip IsStringPiece bytes pieces
     → p ≡ concat pieces → IsStringEnd bytes (p ++ double_quote ∷ [])
-completed bytes pieces p h e = record {
-  front = p;
-  back = double_quote ∷ [];
-  text = refl;
-  first = record { pieces = pieces; text = e; each = h };
-  second = refl;
-}
+completed bytes pieces p h e = in_turn p (double_quote ∷ []) (record { pieces = pieces; text = e; each = h }) refl
 
 -- one more piece at the end
 pub zip_more : (P : ℕ → List ℕ → Type 0) (bytes : List ℕ) (pieces : List (List ℕ)) (c : ℕ) (p : List ℕ)
@@ -109,14 +103,11 @@ string_reached : (t : List ℕ) (a : Answer (List ℕ)) → Traced IsStringPiece
     → Reached IsStringEnd (Mute IsStringEnd) Quiet t a
 string_reached t (Ok x) h = (
   concat h.pieces ++ double_quote ∷ [],
-  h.text ∙ ap (λ (l : List ℕ). concat h.pieces ++ l) h.ends.1
-      ∙ sym (append_assoc (concat h.pieces) (double_quote ∷ []) x.1),
-  subst (λ (s : List ℕ). IsStringEnd s (concat h.pieces ++ double_quote ∷ [])) (sym h.ends.0)
-      (completed h.bytes h.pieces (concat h.pieces) h.content refl),
+  simp (h.text, h.ends.1, append_assoc),
+  rw h.ends.0 (completed h.bytes h.pieces (concat h.pieces) h.content refl),
 )
 string_reached t (Err e) h = (
-  λ _. subst (λ (e : Fault). GoesOn (Mute IsStringEnd) t e) (sym h.ends.0)
-      (string_completed e.kind h.left e.rest t h.bytes h.pieces h.text h.content h.ends.1),
+  λ _. rw h.ends.0 (string_completed e.kind h.left e.rest t h.bytes h.pieces h.text h.content h.ends.1),
   λ i. absurd (true≢false (sym (ap (λ (e : Fault). e.exact) h.ends.0) ∙ i)),
 )
 
@@ -128,32 +119,18 @@ Sound-string = record { sound = λ t. string_reached t (string_at t) (trace_of_s
 
 display_reached : (t : List ℕ) (a : Answer (List ℕ)) → Traced IsDisplayPiece t (Ends false DisplayStops a)
     → Reached IsDisplayEnd (Mute IsDisplayEnd) Quiet t (checked t a)
-display_reached t (Ok x) h =
-    let wrong : Answer (List ℕ) = Err (by_rule InvalidUtf8InDisplayString (after_pieces (utf8_valid_len x.0) t)) in
-    let on : (b : Bool) → is_utf8 x.0 ≡ b → Reached IsDisplayEnd (Mute IsDisplayEnd) Quiet t (cond b (Ok x) wrong) =
-    λ b. elim b as (λ (b : Bool). is_utf8 x.0 ≡ b
-    → Reached IsDisplayEnd (Mute IsDisplayEnd) Quiet t (cond b (Ok x) wrong)) [
-      | true ↦ λ e. (
-        concat h.pieces ++ double_quote ∷ [],
-        h.text ∙ ap (λ (l : List ℕ). concat h.pieces ++ l) h.ends.1
-            ∙ sym (append_assoc (concat h.pieces) (double_quote ∷ []) x.1),
-        record {
-          front = concat h.pieces;
-          back = double_quote ∷ [];
-          text = refl;
-          first = (
-            record {
-              pieces = h.pieces;
-              text = refl;
-              each = subst (λ (s : List ℕ). AllZip IsDisplayPiece s h.pieces) (sym h.ends.0) h.content;
-            },
-            IsUtf8-from_is_utf8 x.0 e,
-          );
-          second = refl;
-        },
-      )
-      | false ↦ λ e. (λ l. absurd (true≢false (sym l)), λ l. (refl, refl))
-    ] in on (is_utf8 x.0) refl
+display_reached t (Ok x) h = elim (cases_Bool (is_utf8 x.0)) [
+  | inl e ↦ rw e (
+    concat h.pieces ++ double_quote ∷ [],
+    simp (h.text, h.ends.1, append_assoc),
+    in_turn (concat h.pieces) (double_quote ∷ []) (
+      record
+          { pieces = h.pieces; text = refl; each = rw h.ends.0 h.content },
+      IsUtf8-from_is_utf8 x.0 e,
+    ) refl,
+  )
+  | inr e ↦ rw e (λ l. absurd (true≢false (sym l)), λ l. (refl, refl))
+]
 display_reached t (Err e) h = (
   λ l. absurd (true≢false (sym l ∙ ap (λ (e : Fault). e.exact) h.ends.0)),
   λ l. (ap (λ (e : Fault). e.events) h.ends.0, display_ruled e.kind h.left e.rest h.ends.1),

@@ -1,31 +1,27 @@
 -- Members with commas between them, of any kind.
-use Rattle.std.proofs.Common.{◌≡◌, ℕ, ◌≤◌, true, eqb, List, [], ◌∷◌, ◌++◌, length, Some, None, Ok, Err, refl}
-use Rattle.std.proofs.Common.{sym, ap, subst, ◌∙◌, append_assoc, arith}
+use Rattle.std.proofs.Common.{◌≡◌, ℕ, ◌≤◌, true, eqb, List, [], ◌∷◌, ◌++◌, length, Some, None, Ok, Err, refl, sym, ap}
+use Rattle.std.proofs.Common.{◌∙◌, append_assoc, arith}
 use Rattle.std.specs.Prelude.{codes, flat_map}
 use Rattle.std.proofs.lemmas.List.{append-nil, length-append}
 use Rattle.std.proofs.lemmas.Bool.{or_parts}
-use Rattle.sfv_spec.proofs.Marks.{tab}
-use Rattle.sfv_spec.proofs.Marks.{comma}
+use Rattle.sfv_spec.proofs.Marks.{tab, comma, is_space, is_space_or_tab}
 use Rattle.sfv_spec.specs.Texts.{Exactly, RunOf, ◌⨾◌}
-use Rattle.sfv_spec.proofs.Marks.{is_space, is_space_or_tab}
-use Rattle.sfv_spec.specs.Grammar.{Spaces, OptionalWhitespace, Comma, AreMembersText}
+use Rattle.sfv_spec.specs.Grammar.{OptionalWhitespace, Comma, AreMembersText}
 use Rattle.sfv_spec.specs.Events.{TreeEvent}
 use Rattle.sfv_spec.specs.declared.error_kind.ErrorKind.TheVariants.{TrailingComma}
 use Rattle.sfv_model.specs.Judgements.{Sound, Local}
 use Rattle.sfv_model.specs.Reader.{Fault, Reader, Apart, any, after_events, back, many, give}
 use Rattle.sfv_model.specs.Fields.{comma_at, next_at, members_at}
 use Rattle.sfv_model.proofs.sound.Combinators.{run_head, Found, Sound-give, Sound-fail, Sound-led, Sound-byte}
-use Rattle.sfv_model.proofs.sound.Combinators.{Sound-ahead, Sound-bind, Sound-map, Sound-back, Sound-within}
+use Rattle.sfv_model.proofs.sound.Combinators.{Sound-ahead, Sound-bind, Sound-map, Sound-back, Sound-within, Sound-here}
 use Rattle.sfv_model.proofs.sound.Combinators.{Sound-span, Reads, Somewhere, Goes, begins_after, begins_longer}
 use Rattle.sfv_model.proofs.local.Combinators.{Local-give, Local-fail, Local-led, Local-bind, Local-ahead, Local-back}
 use Rattle.sfv_model.proofs.local.Combinators.{Local-span, local_rules}
-use Rattle.sfv_model.proofs.complete.Combinators.{Apart-nil, Apart-cons, branch_take, ahead_past, ahead_take}
-use Rattle.sfv_model.proofs.complete.Combinators.{ahead_any, bind_complete, back_complete, led_complete}
-use Rattle.sfv_model.proofs.complete.Combinators.{span_complete}
-use Rattle.sfv_model.proofs.texts.Joining.{Joined, split_joined, joined_split}
+use Rattle.sfv_model.proofs.complete.Combinators.{Apart-nil, Apart-cons, branch_take, ahead_past, ahead_take, ahead_any}
+use Rattle.sfv_model.proofs.complete.Combinators.{bind_complete, back_complete, led_complete, span_complete}
+use Rattle.sfv_model.proofs.texts.Joining.{Joined, split_joined, joined_split, in_turn}
 use Rattle.sfv_model.proofs.sound.Many.{Step, Consumes, Consumes-from, Local-many, many_complete}
 use Rattle.sfv_model.proofs.sound.Steps.{StepGoes, Sound-steps}
-use Rattle.sfv_model.proofs.sound.Items.{as_it_stands}
 use Rattle.sfv_model.proofs.faults.PiecesToFault.{after_twice, bind_met, led_met, many_met}
 
 -- a comma, and what may stand after it
@@ -35,7 +31,7 @@ IsComma u = Exactly (codes ",") ⨾ OptionalWhitespace
 pub Sound-comma : (W : List ℕ → List TreeEvent → Type 0) (V : List TreeEvent → Type 0)
     → Sound comma_at (Found IsComma) W V
 unfolding comma_at
-Sound-comma W V = Sound-byte _ _ _ _ _ _
+Sound-comma W V = Sound-byte _
     (Sound-span _ _ _ _ _ (λ s each. Sound-ahead _ _ _ _ _ _
     (Sound-give _ _ _ _ (record {
       front = comma ∷ [];
@@ -63,40 +59,33 @@ module _ {A : Type 0} (P : A → List ℕ → Type 0) (parts : A → List TreeEv
     front = before ++ c;
     back = t;
     text = sym (append_assoc before c t);
-    first = record { front = before; back = c; text = refl; first = each; second = h };
+    first = in_turn before c each h;
     second = k;
   }
 
   pub Sound-next : Reads one P (Goes P parts) → Reads (next_at one) (Step IsNext OptionalWhitespace) NextGoes
   unfolding next_at
-  Sound-next h = Sound-span _ _ _ _ _ (λ s each.
-      let done : OptionalWhitespace (s ++ []) = subst OptionalWhitespace (sym (append-nil s)) each in
+  Sound-next h = Sound-span _ _ _ _ _ (λ s each. let done : OptionalWhitespace (s ++ []) = rw (append-nil s) each in
       Sound-ahead _ _ _ _ _ _
       (Sound-ahead _ _ _ _ _ _
       (Sound-bind IsComma (back TrailingComma comma_at) _ _ _ _ (Sound-back _ _ _ _ _ refl (
         [],
         (None, refl, ([], refl)),
       ) (Sound-comma _ _))
-      (λ c u k. Sound-map one (λ m. Some m) _ _ _
-      (Sound-within (λ x. s ++ (c ++ x)) (λ es. es) one P (Goes P parts) _ NextGoes h
-      (λ m t g. next_member s c t u m each k g)
-      (λ x es g. as_it_stands (λ l fs. NextGoes (s ++ (c ++ l)) fs) x es (
-        Some g.0,
-        next_member s c x u g.0 each k g.1,
-        g.2,
-      )))))
+      (λ c u k. Sound-map (λ m. Some m)
+      (Sound-here (λ x. s ++ (c ++ x)) (λ es. es) NextGoes h (λ m t g. next_member s c t u m each k g)
+      (λ x es g. (Some g.0, next_member s c x u g.0 each k g.1, g.2)))))
       (Sound-fail _ _ _ _ [] (None, done, ([], refl))))
       (Sound-give _ _ _ _ done))
 
   next_takes : (m : A) (t : List ℕ) → IsNext m t → 1 ≤ length t
   next_takes m t h = rw h.text (omega (
     arith,
-    length-append h.front h.back,
     ap length h.first.text,
-    length-append h.first.front h.first.back,
     ap length h.first.second.text,
-    length-append h.first.second.front h.first.second.back,
-    ap length h.first.second.first,
+    ap length
+        h.first.second.first,
+    length-append {A = ℕ},
   ))
 
   pub Consumes-next : Reads one P (Goes P parts) → Consumes (next_at one)
@@ -108,38 +97,31 @@ module _ {A : Type 0} (P : A → List ℕ → Type 0) (parts : A → List TreeEv
       → Joined IsNext OptionalWhitespace ms u → AreMembersText P (m ∷ ms) (s ++ (t ++ u))
   dictionary_members_text s t u m ms each h j =
       let k = split_joined IsNext OptionalWhitespace ms u j in
-      record {
-        front = s;
-        back = t ++ u;
-        text = refl;
-        first = each;
-        second = record {
-          front = t ++ k.front;
-          back = k.back;
-          text = ap (λ (l : List ℕ). t ++ l) k.text
-              ∙ sym (append_assoc t k.front k.back);
-          first = record { front = t; back = k.front; text = refl; first = h; second = k.first };
-          second = k.second;
-        };
-      }
+      in_turn s (t ++ u) each (record {
+        front = t ++ k.front;
+        back = k.back;
+        text = simp
+            (k.text, append_assoc);
+        first = in_turn t k.front h k.first;
+        second = k.second;
+      })
 
   pub Sound-members : Reads one P (Goes P parts) → Reads (members_at parts one) (AreMembersText P) MembersGo
   unfolding members_at
   Sound-members h = Sound-span _ _ _ _ _ (λ s each.
       Sound-ahead _ _ _ _ _ _
       (Sound-bind P one _ _ _ _
-      (Sound-within (λ x. s ++ x) (λ es. es) one P (Goes P parts) _ MembersGo h (λ m t g. g)
+      (Sound-within (λ x. s ++ x) (λ es. es) MembersGo h (λ m t g. g)
       (λ x es g. ([], (g.0 ∷ [], dictionary_members_text s x [] g.0 [] each g.1 refl, begins_longer (parts g.0) es [] g.2))))
-      (λ t m k. Sound-led _ _ _ _ _ (Sound-map (many parts (next_at one)) (λ ms. m ∷ ms) _ _ _
-      (Sound-within (λ x. s ++ (t ++ x)) (λ es. parts m ++ es) _ _ _ _ MembersGo
+      (λ t m k. Sound-led _ (Sound-map (λ ms. m ∷ ms)
+      (Sound-here (λ x. s ++ (t ++ x)) (λ es. parts m ++ es) MembersGo
       (Sound-steps IsNext OptionalWhitespace parts [] refl (next_at one) (Sound-next h))
       (λ ms x j. dictionary_members_text s t x m ms each k j)
-      (λ x es g. as_it_stands (λ l fs. MembersGo (s ++ (t ++ l)) (parts m ++ fs)) x es (
+      (λ x es g. (
         m ∷ g.0,
         dictionary_members_text s t x m g.0 each k g.1,
         begins_after (parts m) (flat_map parts g.0) es g.2,
-      ))))))
-      (Sound-give _ _ _ _ (subst Spaces (sym (append-nil s)) each)))
+      )))))) (Sound-give _ _ _ _ (rw (append-nil s) each)))
 
   -- ---- what an answer rests on
 
@@ -195,7 +177,7 @@ module _ {A : Type 0} (P : A → List ℕ → Type 0) (parts : A → List TreeEv
               ∙ ahead_any _ _ _ (omega arith) ∙ ahead_take _ _ _ comma (c.back ++ (h.back ++ q)) refl
               ∙ bind_complete _ _ _ _ _ (comma_complete c.back (h.back ++ q) c.second n.0 n.1)
               ∙ bind_complete _ _ _ _ _ (again m h.back q h.second f),
-          subst F (sym all) (blank_ends b (comma ∷ (c.back ++ (h.back ++ q))) h.first.first (comma_ends _)),
+          rw all (blank_ends b (comma ∷ (c.back ++ (h.back ++ q))) h.first.first (comma_ends _)),
         )
 
     end_complete : (e : List ℕ) → RunOf is_space_or_tab e → (next_at one (e ++ []) ≡ Ok (None, [])) × F (e ++ [])
@@ -222,8 +204,7 @@ module _ {A : Type 0} (P : A → List ℕ → Type 0) (parts : A → List TreeEv
         (λ v a q p f. next_complete v a q p f) (λ e c. end_complete e c) ms rest
         (joined_split IsNext OptionalWhitespace ms o.back h.second.back o.second h.second.second) in
         let all : t ≡ h.front ++ (o.front ++ (rest ++ [])) =
-        h.text ∙ ap (λ (l : List ℕ). h.front ++ l) (h.second.text ∙ ap (λ (l : List ℕ). l ++ h.second.back) o.text
-        ∙ append_assoc o.front o.back h.second.back ∙ ap (λ (l : List ℕ). o.front ++ l) (sym (append-nil rest))) in
+        cc (h.text, h.second.text, o.text, append_assoc o.front o.back h.second.back, append-nil rest) in
         let n = fresh m o.front (rest ++ []) o.first in
         ap (members_at parts one) all ∙ bind_complete _ _ _ _ _
         (span_complete is_space h.front (o.front ++ (rest ++ [])) h.first (no_space _ n.0))

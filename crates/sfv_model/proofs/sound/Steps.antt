@@ -5,9 +5,9 @@ use Rattle.std.proofs.lemmas.List.{append-nil}
 use Rattle.sfv_spec.specs.Texts.{IsJoining}
 use Rattle.sfv_spec.specs.Events.{TreeEvent}
 use Rattle.sfv_model.specs.Reader.{Reader, many}
-use Rattle.sfv_model.proofs.sound.Combinators.{Sound-weaker, Somewhere, Begins, Goes, Reads, begins_after}
+use Rattle.sfv_model.proofs.sound.Combinators.{Sound-within, Somewhere, Begins, Goes, Reads, begins_after}
 use Rattle.sfv_model.proofs.texts.Joining.{joining_push, Joined, joined_split, events_push}
-use Rattle.sfv_model.proofs.sound.Many.{Step, Behind, Told, Sound-many}
+use Rattle.sfv_model.proofs.sound.Many.{Step, Sound-many}
 
 abbrev pub step_events : {A : Type 0} → (A → List TreeEvent) → Option A → List TreeEvent
 step_events parts (Some v) = parts v
@@ -31,7 +31,7 @@ module _ {A : Type 0} (P : A → List ℕ → Type 0) (E : List ℕ → Type 0) 
     [],
     (
       vs,
-      joined_split P E vs s (u ++ []) j (subst E (sym (append-nil u)) h),
+      joined_split P E vs s (u ++ []) j (rw (append-nil u) h),
       subst (λ (l : List TreeEvent). Begins l (flat_map parts vs ++ es)) (append-nil (flat_map parts vs))
           (begins_after (flat_map parts vs) [] es b),
     ),
@@ -40,11 +40,9 @@ module _ {A : Type 0} (P : A → List ℕ → Type 0) (E : List ℕ → Type 0) 
     z,
     (
       vs ++ v ∷ [],
-      subst (λ (l : List ℕ). Joined P E (vs ++ v ∷ []) l) (append_assoc s u z)
-          (joined_split P E (vs ++ v ∷ []) (s ++ u) z (joining_push P vs v s u j h) e),
-      subst (λ (l : List TreeEvent). Begins l (flat_map parts vs ++ es))
-          (sym (sym (append-nil (flat_map parts (vs ++ v ∷ []))) ∙ events_push parts vs v []
-          ∙ ap (λ (l : List TreeEvent). flat_map parts vs ++ l) (append-nil (parts v))))
+      rw (← append_assoc s u z) (joined_split P E (vs ++ v ∷ []) (s ++ u) z (joining_push P vs v s u j h) e),
+      rw (sym (append-nil (flat_map parts (vs ++ v ∷ []))) ∙ events_push parts vs v [] ∙ ap
+          (λ (l : List TreeEvent). flat_map parts vs ++ l) (append-nil (parts v)))
           (begins_after (flat_map parts vs) (parts v) es b),
     ),
   )
@@ -52,8 +50,6 @@ module _ {A : Type 0} (P : A → List ℕ → Type 0) (E : List ℕ → Type 0) 
   pub Sound-steps : (step : Reader (Option A)) → Reads step (Step P E) (StepGoes P E parts)
       → Reads (many parts step) (Joined P E) (ManyGoes P E parts)
   Sound-steps step k = Sound-many P E (ManyGoes P E parts) (Somewhere (ManyGoes P E parts)) parts step
-      (λ s vs j. Sound-weaker (Step P E) (StepGoes P E parts) (Somewhere (StepGoes P E parts)) step (Step P E)
-      (Behind parts (ManyGoes P E parts) s vs) (Told parts (Somewhere (ManyGoes P E parts)) vs) k
-      (λ v t p. p) (λ u es g. goes_on s vs j u es g.0 g.1 g.2) (λ es g. let m =
-      goes_on s vs j g.0 es g.1.0 g.1.1 g.1.2 in (s ++ (g.0 ++ m.0), m.1)))
+      (λ s vs j. Sound-within (λ u. s ++ u) (λ es. flat_map parts vs ++ es) (ManyGoes P E parts) k (λ v t p. p)
+      (λ u es g. goes_on s vs j u es g.0 g.1 g.2))
       (λ s vs j. let m = goes_on s vs j z [] None e ([], refl) in (s ++ (z ++ m.0), m.1))

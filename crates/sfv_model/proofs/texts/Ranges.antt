@@ -1,6 +1,6 @@
 -- Parts of an input, and runs of bytes in it.
-use Rattle.std.proofs.Common.{◌≡◌, ℕ, zero, suc, ◌<◌, ◌≤◌, ◌+◌, ◌-◌, Bool, true, List, [], ◌∷◌, ◌++◌, length}
-use Rattle.std.proofs.Common.{drop, refl, sym, ap, ◌∙◌, take-append-drop, arith}
+use Rattle.std.proofs.Common.{◌≡◌, ℕ, zero, suc, ◌<◌, ◌≤◌, ◌+◌, ◌-◌, Bool, true, List, [], ◌∷◌, ◌++◌, length, drop}
+use Rattle.std.proofs.Common.{refl, take-append-drop, arith}
 use Rattle.std.specs.Prelude.{IsUtf8, slice_index, slice_range}
 use Rattle.std.specs.List.{list_all}
 use Rattle.std.specs.Str.{IsAscii}
@@ -19,9 +19,7 @@ byte_at input at l = drop_more input at 0 l
 pub range_at : (input : List ℕ) (from to : ℕ) → from ≤ to → drop from input ≡ slice_range input from to ++ drop to input
 range_at input from to l =
     let e : from + (to - from) ≡ to = omega arith in
-    sym (take-append-drop (to - from) (drop from input))
-    ∙ ap (λ (l : List ℕ). slice_range input from to ++ l) (drop-drop (to - from) from input
-    ∙ ap (λ (n : ℕ). drop n input) e)
+    cc (take-append-drop (to - from) (drop from input), drop-drop (to - from) from input)
 
 -- ---- runs
 

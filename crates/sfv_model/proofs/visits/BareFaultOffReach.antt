@@ -1,26 +1,22 @@
 -- A bare item that is at fault elsewhere than at the reach: its first byte begins some bare item.
-use Rattle.std.proofs.Common.{◌≡◌, ℕ, true, false, List, [], ◌∷◌, ◌++◌, Err, refl, sym, ap, subst, ◌∙◌, inl, inr}
+use Rattle.sfv_model.proofs.sound.Combinators.{sound_at}
+use Rattle.std.proofs.Common.{◌≡◌, ℕ, true, false, List, [], ◌∷◌, ◌++◌, Err, refl, sym, ap, ◌∙◌, inl, inr}
 use Rattle.std.proofs.lemmas.Bool.{true≢false, cases_Bool, eqb-true}
-use Rattle.sfv_spec.proofs.Marks.{double_quote, colon, percent_sign}
-use Rattle.sfv_spec.proofs.Marks.{question_mark, at_sign, minus_sign}
+use Rattle.sfv_spec.proofs.Marks.{double_quote, colon, percent_sign, question_mark, at_sign, minus_sign, is_digit}
 use Rattle.sfv_spec.specs.Classes.{is_token_start}
-use Rattle.sfv_spec.proofs.Marks.{is_digit}
 use Rattle.sfv_spec.specs.Values.{BareValue}
 use Rattle.sfv_spec.specs.declared.version.Version.{Version}
 use Rattle.sfv_spec.specs.declared.version.Version.TheVariants.{Rfc8941, Rfc9651}
-use Rattle.sfv_spec.specs.Grammar.{IsBareText}
-use Rattle.sfv_spec.specs.Events.{TreeEvent}
 use Rattle.sfv_spec.specs.declared.error_kind.ErrorKind.{ErrorKind}
 use Rattle.sfv_spec.specs.declared.error_kind.ErrorKind.TheVariants.{ExpectedStartOfBareItem, Rfc8941Date}
 use Rattle.sfv_spec.specs.declared.error_kind.ErrorKind.TheVariants.{Rfc8941DisplayString}
-use Rattle.sfv_model.specs.Judgements.{Reached}
-use Rattle.sfv_model.specs.Reader.{Fault, Answer, at_reach, visited, byte, branch, ahead, back, up_to, bind, give, fail, span}
+use Rattle.sfv_model.specs.Reader.{Fault, Answer, at_reach, byte, branch, ahead, back, up_to, bind, give, fail, span}
 use Rattle.sfv_model.specs.Bare.{bare_at, boolean_at, date_at, quoted_at, number_at, sign_at, whole_at, token_at}
 use Rattle.sfv_model.specs.Bare.{is_number_start}
-use Rattle.sfv_model.specs.Content.{symbol_value, padding_in, valid_from, values_in, bytes_from, bytes_of, fault_place, content_in, bytes_at}
+use Rattle.sfv_model.specs.Content.{symbol_value, padding_in, valid_from, values_in, bytes_from, bytes_of, fault_place}
+use Rattle.sfv_model.specs.Content.{content_in, bytes_at}
 use Rattle.sfv_model.specs.Quoted.{string_from}
-use Rattle.sfv_model.proofs.sound.Combinators.{Somewhere, Begins}
-use Rattle.sfv_model.proofs.sound.Bare.{BareGoes, Sound-bare}
+use Rattle.sfv_model.proofs.sound.Bare.{Sound-bare}
 use Rattle.sfv_model.proofs.places.Calls.{Stuck}
 use Rattle.sfv_model.proofs.visits.EventsBeforeRuleAlike.{Tells, Early, begins_all}
 
@@ -60,7 +56,8 @@ stuck_token : (version : Version) (c : ℕ) → is_token_start c ≡ true → is
 unfolding bare_at branch ahead bind give fail token_at span
 stuck_token version c d n m q k a p = rw (m, q, k, a, p, n, d) refl
 
-no_bare : (version : Version) (c : ℕ) (r : List ℕ) → is_token_start c ≡ false → is_number_start c ≡ false
+-- no other byte begins a bare item
+pub no_bare : (version : Version) (c : ℕ) (r : List ℕ) → is_token_start c ≡ false → is_number_start c ≡ false
     → byte question_mark c ≡ false → byte double_quote c ≡ false → byte colon c ≡ false → byte at_sign c ≡ false
     → byte percent_sign c ≡ false → bare_at version (c ∷ r) ≡ Err (at_reach ExpectedStartOfBareItem (c ∷ r))
 unfolding bare_at branch ahead fail token_at
@@ -78,10 +75,7 @@ old_display r = refl
 is_exact : (a : Answer BareValue) (k : ErrorKind) (t : List ℕ) (e : Fault) → a ≡ Err (at_reach k t) → a ≡ Err e
     → e.exact ≡ false → ⊥
 is_exact a k t e h i x =
-    let here : Answer BareValue = Err (at_reach k t) in
-    let both : here ≡ Err e = sym h ∙ i in
-    let same : at_reach k t ≡ e = cc in
-    true≢false (ap (λ (e : Fault). e.exact) same ∙ x)
+    let same : at_reach k t ≡ e = cc in true≢false (ap (λ (e : Fault). e.exact) same ∙ x)
 
 -- the byte begins some bare item
 abbrev Begun : Version → ℕ → Type 0
@@ -100,37 +94,19 @@ begun_display Rfc9651 r e i x = ([], stuck_percent)
 begun : (version : Version) (c : ℕ) (r : List ℕ) (e : Fault) → bare_at version (c ∷ r) ≡ Err e → e.exact ≡ false
     → Begun version c
 begun version c r e i x = elim (cases_Bool (byte question_mark c)) [
-  | inl y ↦ (
-    49 ∷ [],
-    subst (λ (c : ℕ). Stuck (bare_at version (c ∷ 49 ∷ 0 ∷ []))) (sym (eqb-true c question_mark y))
-        (stuck_mark version),
-  )
+  | inl y ↦ rw (eqb-true c question_mark y) (49 ∷ [], stuck_mark version)
   | inr m ↦ elim (cases_Bool (byte double_quote c)) [
-    | inl y ↦ (
-      34 ∷ [],
-      subst (λ (c : ℕ). Stuck (bare_at version (c ∷ 34 ∷ 0 ∷ []))) (sym (eqb-true c double_quote y))
-          (stuck_quote version),
-    )
+    | inl y ↦ rw (eqb-true c double_quote y) (34 ∷ [], stuck_quote version)
     | inr q ↦ elim (cases_Bool (byte colon c)) [
-      | inl y ↦ (
-        58 ∷ [],
-        subst (λ (c : ℕ). Stuck (bare_at version (c ∷ 58 ∷ 0 ∷ []))) (sym (eqb-true c colon y))
-            (stuck_colon version),
-      )
+      | inl y ↦ rw (eqb-true c colon y) (58 ∷ [], stuck_colon version)
       | inr k ↦ elim (cases_Bool (byte at_sign c)) [
         | inl y ↦ let is : c ≡ 64 = eqb-true c at_sign y in
-            subst (λ (c : ℕ). Begun version c) (sym is)
-            (begun_date version r e (ap (λ (c : ℕ). bare_at version (c ∷ r)) (sym is) ∙ i) x)
+            rw is (begun_date version r e (ap (λ (c : ℕ). bare_at version (c ∷ r)) (sym is) ∙ i) x)
         | inr a ↦ elim (cases_Bool (byte percent_sign c)) [
           | inl y ↦ let is : c ≡ 37 = eqb-true c percent_sign y in
-              subst (λ (c : ℕ). Begun version c) (sym is)
-              (begun_display version r e (ap (λ (c : ℕ). bare_at version (c ∷ r)) (sym is) ∙ i) x)
+              rw is (begun_display version r e (ap (λ (c : ℕ). bare_at version (c ∷ r)) (sym is) ∙ i) x)
           | inr p ↦ elim (cases_Bool (byte minus_sign c)) [
-            | inl y ↦ (
-              [],
-              subst (λ (c : ℕ). Stuck (bare_at version (c ∷ 0 ∷ []))) (sym (eqb-true c minus_sign y))
-                  (stuck_minus version),
-            )
+            | inl y ↦ rw (eqb-true c minus_sign y) ([], stuck_minus version)
             | inr s ↦ elim (cases_Bool (is_digit c)) [
               | inl d ↦ ([], stuck_digit version c d m q k a p s)
               | inr d ↦ elim (cases_Bool (is_token_start c)) [
@@ -148,16 +124,13 @@ begun version c r e i x = elim (cases_Bool (byte question_mark c)) [
     no_number : is_digit c ≡ false → byte minus_sign c ≡ false → is_number_start c ≡ false
     no_number d s = rw (d, s) refl
 
-nothing_there : (version : Version) → bare_at version [] ≡ Err (at_reach ExpectedStartOfBareItem [])
+-- nor does the end of the text
+pub nothing_there : (version : Version) → bare_at version [] ≡ Err (at_reach ExpectedStartOfBareItem [])
 unfolding bare_at branch ahead fail token_at
 nothing_there version = refl
 
 no_events : (version : Version) (t : List ℕ) (e : Fault) → bare_at version t ≡ Err e → e.exact ≡ false → e.events ≡ []
-no_events version t e i x =
-    let h : Reached (IsBareText version) (BareGoes version) (Somewhere (BareGoes version)) t (Err e) =
-    subst (λ a. Reached (IsBareText version) (BareGoes version) (Somewhere (BareGoes version)) t a) i
-    ((Sound-bare version).sound t) in
-    (h.1 x).0.1.2
+no_events version t e i x = ((sound_at (Sound-bare version) t (Err e) i).1 x).0.1.2
 
 pub Early-bare : (version : Version) → Early (bare_at version) (λ _. [])
 Early-bare version = record { early = at }
@@ -172,8 +145,7 @@ Early-bare version = record { early = at }
           next = c;
           after = r;
           text = refl;
-          emitted = λ q. subst (λ (es : List TreeEvent). Begins (visited (λ _. []) (bare_at version (c ∷ q))) es)
-              (sym (no_events version (c ∷ r) e i x)) (begins_all _);
+          emitted = λ q. rw (no_events version (c ∷ r) e i x) (begins_all _);
           more = b.0;
           stuck = b.1;
         }

@@ -1,8 +1,7 @@
 -- What was visited of a field that goes on after a comma.
 use Rattle.std.proofs.Common.{◌≡◌, ℕ, List, [], ◌∷◌, ◌++◌, refl, sym, ap, subst, ◌∙◌, append_assoc}
 use Rattle.std.proofs.lemmas.List.{append-nil}
-use Rattle.sfv_spec.proofs.Marks.{comma}
-use Rattle.sfv_spec.proofs.Marks.{is_space}
+use Rattle.sfv_spec.proofs.Marks.{comma, is_space}
 use Rattle.sfv_spec.specs.Values.{RawField, HasMember}
 use Rattle.sfv_spec.specs.declared.field_kind.FieldKind.{FieldKind}
 use Rattle.sfv_spec.specs.declared.field_kind.FieldKind.TheVariants.{Item as item_field, List as list_field}
@@ -28,10 +27,9 @@ visited_members version kind raw t rest many has h =
     let fault = comma_after version kind raw t [] many has h refl in
     let m = (Early-field version (Early-bare version) kind).early (t ++ comma ∷ []) _ fault refl in
     let all : t ++ comma ∷ rest ≡ m.before ++ m.next ∷ (m.after ++ rest) =
-    sym (append_assoc t (comma ∷ []) rest) ∙ ap (λ (l : List ℕ). l ++ rest) m.text
-    ∙ append_assoc m.before (m.next ∷ m.after) rest in
-    subst (λ (l : List ℕ). Begins (visited (events kind) (whole_field_at version kind l)) (events kind raw)) (sym all)
-    (subst (Begins (visited (events kind) (whole_field_at version kind (m.before ++ m.next ∷ (m.after ++ rest)))))
+    cc (append_assoc t (comma ∷ []) rest, m.text, append_assoc m.before (m.next ∷ m.after) rest) in
+    rw all (subst
+    (Begins (visited (events kind) (whole_field_at version kind (m.before ++ m.next ∷ (m.after ++ rest)))))
     (append-nil (events kind raw)) (m.emitted (m.after ++ rest)))
 
 -- a field in front of a comma, whatever follows it

@@ -1,8 +1,8 @@
 -- What was told before a fault is told by a text that goes on from the reach.
-use Rattle.std.proofs.Common.{◌≡◌, ℕ, zero, suc, ◌≤◌, true, false, List, [], ◌∷◌, ◌++◌, length, take, drop, Ok, Err, refl, sym}
-use Rattle.std.proofs.Common.{ap, subst, ◌∙◌, append_assoc, arith, inl, inr}
+use Rattle.std.proofs.lemmas.Bool.{cases_lt, cases_Bool}
+use Rattle.std.proofs.Common.{◌≡◌, ℕ, zero, suc, ◌≤◌, true, false, List, [], ◌∷◌, ◌++◌, length, take, drop, Ok, Err}
+use Rattle.std.proofs.Common.{refl, sym, ap, subst, ◌∙◌, append_assoc, arith, inl, inr}
 use Rattle.std.proofs.lemmas.List.{length-append, length-drop, take_at, append-nil}
-use Rattle.std.proofs.lemmas.Bool.{cases_order, cases_Bool}
 use Rattle.sfv_spec.specs.Values.{RawField}
 use Rattle.sfv_spec.specs.declared.field_kind.FieldKind.{FieldKind}
 use Rattle.sfv_spec.specs.declared.version.Version.{Version}
@@ -22,7 +22,6 @@ use Rattle.sfv_model.specs.Judgements.{Reached}
 use Rattle.sfv_spec.specs.declared.error_kind.ErrorKind.TheVariants.{TrailingCharactersAfterParsedValue}
 use Rattle.sfv_spec.proofs.Versions.{one_reach_lem}
 use Rattle.sfv_model.proofs.complete.Fields.{field_complete}
-use Rattle.sfv_model.proofs.places.Calls.{Stuck}
 use Rattle.sfv_model.proofs.places.CalledIsWanted.{begins_stuck}
 use Rattle.sfv_model.proofs.visits.EventsBeforeRuleAlike.{Tells, Early}
 use Rattle.sfv_model.proofs.visits.EventsBeforeRule.{Early-field}
@@ -47,11 +46,10 @@ module _ (version : Version) (kind : FieldKind) (leaf : Early (bare_at version) 
       → BeginsAccepted version kind (m.before ++ m.next ∷ [])
   begun_after t es m =
       let b = begins_stuck version kind (m.before ++ m.next ∷ m.more)
-      (subst (λ (l : List ℕ). Stuck (whole_field_at version kind l))
-      (sym (append_assoc m.before (m.next ∷ m.more) (0 ∷ []))) m.stuck) in (
+      (rw (append_assoc m.before (m.next ∷ m.more) (0 ∷ [])) m.stuck) in (
         m.more ++ b.0,
-        subst (IsAccepted version kind) (append_assoc m.before (m.next ∷ m.more) b.0
-            ∙ sym (append_assoc m.before (m.next ∷ []) (m.more ++ b.0))) b.1,
+        rw (← append_assoc m.before (m.next ∷ m.more) b.0 ∙ sym (append_assoc m.before (m.next ∷ []) (m.more ++ b.0)))
+            b.1,
       )
 
   -- the reach lies after the byte after which it was told
@@ -63,13 +61,9 @@ module _ (version : Version) (kind : FieldKind) (leaf : Early (bare_at version) 
       let whole : t ≡ front ++ m.after = m.text ∙ sym (append_assoc m.before (m.next ∷ []) m.after) in
       let cut : take (length front) t ≡ front = ap (take (length front)) whole ∙ take_at front m.after _ refl in
       let fits : length front ≤ length t = omega (arith, ap length whole, length-append front m.after) in
-      let far : length front ≤ n = elim (cases_order n (length front)) [
-        | inl same ↦ omega (arith, same)
-        | inr o ↦ elim o [
-          | inl less ↦ absurd (reach.longest (length front) less fits (subst (BeginsAccepted version kind) (sym cut)
-              (begun_after t e.events m)))
-          | inr more ↦ omega (arith, more)
-        ]
+      let far : length front ≤ n = elim (cases_lt n (length front)) [
+        | inl less ↦ absurd (reach.longest (length front) less fits (rw cut (begun_after t e.events m)))
+        | inr more ↦ omega (arith, more)
       ] in
       let rest : (r : List ℕ) × (take n t ≡ front ++ r) = taken front m.after t n whole far in
       record {
@@ -77,8 +71,7 @@ module _ (version : Version) (kind : FieldKind) (leaf : Early (bare_at version) 
         more = reach.holds.0;
         accepted = reach.holds.1.1;
         begins = emitted_after t e.events m reach.holds.1.0 (rest.0 ++ reach.holds.0)
-            (subst (IsFieldText version kind reach.holds.1.0)
-            (ap (λ (l : List ℕ). l ++ reach.holds.0) rest.1 ∙ append_assoc front rest.0 reach.holds.0
+            (rw (← ap (λ (l : List ℕ). l ++ reach.holds.0) rest.1 ∙ append_assoc front rest.0 reach.holds.0
             ∙ append_assoc m.before (m.next ∷ []) (rest.0 ++ reach.holds.0)) reach.holds.1.1);
       }
     where
@@ -99,9 +92,8 @@ front_is t front rest n e d le =
       arith,
       ap (length {A = ℕ}) d,
       ap (length {A = ℕ}) e,
-      length-drop n t,
-      length-append front rest,
-      le,
+      length-drop {A = ℕ},
+      length-append {A = ℕ},
     ) in
     ap (take n) e ∙ take_at front rest n (sym same)
 
@@ -129,21 +121,18 @@ reached_events version kind t e i n reach = on (whole_field_at version kind t) r
         record {
           raw = v;
           more = [];
-          accepted = subst (IsFieldText version kind v) (sym (append-nil (take n t) ∙ front)) h.2;
+          accepted = rw (append-nil (take n t) ∙ front) h.2;
           begins = ([], ap (λ (e : Fault). e.events) same ∙ sym (append-nil e.events));
         }
     on (Err x) k h j =
         let same : x ≡ e = cc in
         elim (cases_Bool e.exact) [
-          | inl y ↦
-              let g = h.0 (ap (λ (e : Fault). e.exact) same ∙ y) in
-              let front : take n t ≡ g.front = front_is t g.front x.rest n g.parts
-              (placed_at y ∙ sym (ap (λ (e : Fault). e.rest) same)) reach.within in
+          | inl y ↦ let g = h.0 (cc) in
+              let front : take n t ≡ g.front = front_is t g.front x.rest n g.parts (cc (placed_at y)) reach.within in
               record {
                 raw = g.holds.0;
                 more = g.more;
-                accepted = subst (λ (l : List ℕ). IsFieldText version kind g.holds.0 (l ++ g.more)) (sym front)
-                    g.holds.1;
+                accepted = rw front g.holds.1;
                 begins = subst (λ (e : Fault). Begins (events kind g.holds.0) e.events) same g.holds.2;
               }
           | inr y ↦ ruled_events version kind (Early-bare version) t e (k ∙ ap (λ (x : Fault). Err x) same) y n reach

@@ -1,23 +1,21 @@
 -- What the readers told before a fault with a rule; leaf: so it is of bare items.
-use Rattle.std.proofs.Common.{◌≡◌, ℕ, Bool, true, false, cond, List, [], ◌∷◌, ◌++◌, Option, Some, None, Ok, Err, refl, sym}
+use Rattle.sfv_model.proofs.sound.Combinators.{sound_at, Begins, Reads, Goes, Sound-back, Steady-span}
+use Rattle.std.proofs.Common.{◌≡◌, ℕ, Bool, true, false, List, [], ◌∷◌, ◌++◌, Option, Some, None, Ok, Err, refl, sym}
 use Rattle.std.proofs.Common.{ap, subst, ◌∙◌, append_assoc, flat_map, inl, inr}
 use Rattle.std.proofs.lemmas.List.{append-nil}
 use Rattle.std.proofs.lemmas.Bool.{true≢false, cases_Bool, eqb-true}
-use Rattle.sfv_spec.proofs.Marks.{comma}
-use Rattle.sfv_spec.proofs.Marks.{is_space}
-use Rattle.sfv_spec.specs.Values.{boolean, RawParameters}
+use Rattle.sfv_spec.proofs.Marks.{comma, is_space, true_with}
+use Rattle.sfv_spec.specs.Values.{boolean, RawParameters, RawItem, RawMember, item, inner_list}
 use Rattle.sfv_spec.specs.declared.field_kind.FieldKind.{FieldKind}
 use Rattle.sfv_spec.specs.declared.field_kind.FieldKind.TheVariants.{Item as item_field, List as list_field}
 use Rattle.sfv_spec.specs.declared.field_kind.FieldKind.TheVariants.{Dictionary as dictionary_field}
 use Rattle.sfv_spec.specs.declared.version.Version.{Version}
-use Rattle.sfv_spec.specs.Values.{RawItem, RawMember, item, inner_list}
 use Rattle.sfv_spec.specs.Grammar.{IsMemberText, IsDictionaryMemberText}
-use Rattle.sfv_spec.proofs.Marks.{true_with}
 use Rattle.sfv_spec.specs.Events.{TreeEvent, events, entry, keyed_entry, begins_item, begins_inner_list, bare_item}
 use Rattle.sfv_spec.specs.Events.{inner_list_end, inner_item_events, parameters_events, item_events, member_events}
 use Rattle.sfv_spec.specs.Events.{entry_events, keyed_events}
 use Rattle.sfv_spec.specs.declared.error_kind.ErrorKind.TheVariants.{TrailingComma, TrailingCharactersAfterMember}
-use Rattle.sfv_model.specs.Judgements.{Reached, Local, Quiet}
+use Rattle.sfv_model.specs.Judgements.{Local, Quiet}
 use Rattle.sfv_model.specs.Reader.{Fault, Answer, Reader, visited, and_then, give, fail, ◌>>=◌, bind, led, led_answer}
 use Rattle.sfv_model.specs.Reader.{branch, ahead, back, span, many, one_and_more, byte, any}
 use Rattle.sfv_model.specs.Bare.{bare_at, token_at}
@@ -25,7 +23,6 @@ use Rattle.sfv_model.specs.Items.{key_at, value_at, parameter_at, parameter_even
 use Rattle.sfv_model.specs.Members.{inner_item_at, next_item_at, inner_items_at, inner_of, closed_events, inner_at}
 use Rattle.sfv_model.specs.Members.{member_at, entry_at, member_value_at, keyed_at}
 use Rattle.sfv_model.specs.Fields.{comma_at, next_at, members_at, whole_field_at}
-use Rattle.sfv_model.proofs.sound.Combinators.{Begins, Reads, Goes, Sound-back, Steady-span}
 use Rattle.sfv_model.proofs.sound.Items.{Consumes-parameter, parameters_begin}
 use Rattle.sfv_model.proofs.sound.Members.{Consumes-next_item, Sound-entry, Sound-keyed}
 use Rattle.sfv_model.proofs.sound.Separated.{IsComma, Sound-comma, Consumes-next, Local-next}
@@ -33,19 +30,15 @@ use Rattle.sfv_model.proofs.sound.Steps.{step_events}
 use Rattle.sfv_model.proofs.local.Combinators.{Local-span, looks}
 use Rattle.sfv_model.proofs.local.Items.{Local-key, Local-value, Local-parameter, Local-item}
 use Rattle.sfv_model.proofs.local.Bare.{Local-bare}
-use Rattle.sfv_model.proofs.local.Members.{Local-inner_item, Local-next_item, Local-items}
-use Rattle.sfv_model.proofs.local.Members.{Local-entry, Local-keyed}
+use Rattle.sfv_model.proofs.local.Members.{Local-inner_item, Local-next_item, Local-items, Local-entry, Local-keyed}
 use Rattle.sfv_model.proofs.places.Calls.{Stuck, stuck_bind}
-use Rattle.sfv_model.proofs.places.FaultsOfCalls.{Mark, eaten}
 use Rattle.sfv_model.proofs.places.CallsOfReaders.{stuck_give, stuck_then, stuck_after, stuck_value, stuck_parameters}
 use Rattle.sfv_model.proofs.places.CallsOfReaders.{stuck_next_items, stuck_next, stuck_space, stuck_last}
 use Rattle.sfv_model.proofs.places.CallsOfReaders.{stuck-member_value, Local-comma}
 use Rattle.sfv_model.proofs.visits.EventsBeforeRuleAlike.{Tells, Early, begins_all, Early-give, Early-fail, Early-span}
-use Rattle.sfv_model.proofs.visits.EventsBeforeRuleAlike.{tells_after, tells_second, Early-led, Early-bind, Early-then, Early-map, Early-led_map, Early-branch}
-use Rattle.sfv_model.proofs.visits.EventsBeforeRuleAlike.{Early-ahead, Early-many, Early-one_and_more, Early-more, Early-led_in}
-
-some_mark : Mark
-some_mark = eaten true []
+use Rattle.sfv_model.proofs.visits.EventsBeforeRuleAlike.{tells_after, tells_second, Early-led, Early-bind, Early-then}
+use Rattle.sfv_model.proofs.visits.EventsBeforeRuleAlike.{Early-map, Early-led_map, Early-branch, Early-ahead}
+use Rattle.sfv_model.proofs.visits.EventsBeforeRuleAlike.{Early-many, Early-one_and_more, Early-more}
 
 stuck_key : Stuck (key_at (0 ∷ []))
 unfolding key_at branch fail
@@ -57,8 +50,7 @@ exact_of (Err e) = e.exact
 
 comma_quiet : (t : List ℕ) (y : Fault) → back TrailingComma comma_at t ≡ Err y → y.events ≡ []
 comma_quiet t y e =
-    let m : Reached IsComma (λ _ _. ⊥) Quiet t (Err y) = subst (λ a. Reached IsComma (λ _ _. ⊥) Quiet t a) e
-    ((Sound-back TrailingComma comma_at IsComma (λ _ _. ⊥) Quiet refl refl (Sound-comma _ _)).sound t) in
+    let m = sound_at (Sound-back TrailingComma comma_at IsComma (λ _ _. ⊥) Quiet refl refl (Sound-comma _ _)) t _ e in
     elim (cases_Bool y.exact) [ inl x ↦ absurd ((m.0 x).holds) | inr x ↦ (m.1 x).0 ]
 
 module _ {A : Type 0} (P : A → List ℕ → Type 0) (parts : A → List TreeEvent) (one : Reader A)
@@ -67,7 +59,7 @@ module _ {A : Type 0} (P : A → List ℕ → Type 0) (parts : A → List TreeEv
   Another = one >>= λ m. give (Some m)
 
   Early-another : Early Another (step_events parts)
-  Early-another = Early-map one (λ m. Some m) parts (step_events parts) h l (λ m. ([], sym (append-nil _)))
+  Early-another = Early-map (λ m. Some m) h l (λ m. ([], sym (append-nil _)))
 
   abbrev AtComma : Reader (Option A)
   AtComma = ahead (byte comma) (back TrailingComma comma_at >>= λ _. Another) (fail TrailingCharactersAfterMember)
@@ -86,8 +78,7 @@ module _ {A : Type 0} (P : A → List ℕ → Type 0) (parts : A → List TreeEv
       (Early-another.early q e i x))
   after_comma c r n (Err y) k e i x =
       let same : y ≡ e = cc in
-      subst (λ (es : List TreeEvent). Tells AtComma (step_events parts) (c ∷ r) es)
-      (sym (comma_quiet (c ∷ r) y k) ∙ ap (λ (y : Fault). y.events) same) (record {
+      rw (← sym (comma_quiet (c ∷ r) y k) ∙ ap (λ (y : Fault). y.events) same) (record {
         before = [];
         next = c;
         after = r;
@@ -101,17 +92,13 @@ module _ {A : Type 0} (P : A → List ℕ → Type 0) (parts : A → List TreeEv
   unfolding ahead bind fail
   Early-comma = record { early = at }
     where
-      on : (b : Bool) (c : ℕ) (r : List ℕ) → byte comma c ≡ b → (e : Fault)
-          → cond b ((back TrailingComma comma_at >>= λ _. Another) (c ∷ r))
-          (fail TrailingCharactersAfterMember (c ∷ r)) ≡ Err e → e.exact ≡ false
-          → Tells AtComma (step_events parts) (c ∷ r) e.events
-      on true c r n e i x = after_comma c r n (back TrailingComma comma_at (c ∷ r)) refl e i x
-      on false c r n e i x =
-          let w : true ≡ e.exact = ap (λ (a : Answer (Option A)). exact_of a) i in absurd (true≢false (w ∙ x))
-
       at : (t : List ℕ) (e : Fault) → AtComma t ≡ Err e → e.exact ≡ false → Tells AtComma (step_events parts) t e.events
       at [] e i x = let w : true ≡ e.exact = ap (λ (a : Answer (Option A)). exact_of a) i in absurd (true≢false (w ∙ x))
-      at (c ∷ r) e i x = on (byte comma c) c r refl e i x
+      at (c ∷ r) e i x = elim (cases_Bool (byte comma c)) [
+        | inl n ↦ after_comma c r n (back TrailingComma comma_at (c ∷ r)) refl e (rw n at i) x
+        | inr n ↦ let w : true ≡ e.exact = ap (λ (a : Answer (Option A)). exact_of a) (rw n at i) in
+            absurd (true≢false (w ∙ x))
+      ]
 
   stuck_at_comma : Stuck (ahead any AtComma (give None) (0 ∷ []))
   unfolding ahead fail
@@ -119,8 +106,8 @@ module _ {A : Type 0} (P : A → List ℕ → Type 0) (parts : A → List TreeEv
 
   Early-next : Early (next_at one) (step_events parts)
   unfolding next_at
-  Early-next = Early-then _ _ _ (Early-span _ _) (Local-span _)
-      (λ s. Early-ahead _ _ _ _ Early-comma (Early-give _ _)) (λ s. stuck_at_comma)
+  Early-next = Early-then (Early-span _ _) (Local-span _)
+      (λ s. Early-ahead _ Early-comma (Early-give _ _)) (λ s. stuck_at_comma)
 
   stuck_first : Stuck (ahead any (one_and_more parts one (next_at one)) (give []) (0 ∷ []))
   unfolding ahead bind
@@ -133,48 +120,44 @@ module _ {A : Type 0} (P : A → List ℕ → Type 0) (parts : A → List TreeEv
 
   Early-members : Early (members_at parts one) (λ vs. flat_map parts vs)
   unfolding members_at
-  Early-members = Early-then _ _ _ (Early-span _ _) (Local-span _)
-      (λ s. Early-ahead _ _ _ _ (Early-one_and_more parts (next_at one) (Consumes-next P parts one reads)
+  Early-members = Early-then (Early-span _ _) (Local-span _)
+      (λ s. Early-ahead _ (Early-one_and_more parts (next_at one) (Consumes-next P parts one reads)
       (Local-next P parts one l) Early-next (stuck_next parts one) one h l) (Early-give _ _)) (λ s. stuck_first)
 
 module _ (version : Version) (leaf : Early (bare_at version) (λ _. [])) where
   Early-value : Early (value_at version) (λ _. [])
   unfolding value_at
-  Early-value = Early-branch _ _ _ _ (λ c. leaf) (Early-give _ _)
+  Early-value = Early-branch _ (λ c. leaf) (Early-give _ _)
 
   Early-key : Early key_at (λ _. [])
   unfolding key_at
-  Early-key = Early-branch _ _ _ _ (λ c. Early-then _ _ _ (Early-span _ _) (Local-span _) (λ cs. Early-give _ _)
+  Early-key = Early-branch _ (λ c. Early-then (Early-span _ _) (Local-span _) (λ cs. Early-give _ _)
       (λ cs. stuck_give _)) (Early-fail _ _)
 
   Early-parameter : Early (parameter_at version) (step_events parameter_event)
   unfolding parameter_at
-  Early-parameter = Early-branch _ _ _ _
-      (λ c. Early-then _ _ _ (Early-span _ _) (Local-span _)
-      (λ s. Early-then _ _ _ Early-key Local-key
-      (λ k. Early-map (value_at version) (λ v. Some (k, v)) (λ _. []) _ Early-value (Local-value version)
-      (λ v. begins_all _))
+  Early-parameter = Early-branch _ (λ c. Early-then (Early-span _ _) (Local-span _)
+      (λ s. Early-then Early-key Local-key
+      (λ k. Early-map (λ v. Some (k, v)) Early-value (Local-value version) (λ v. begins_all _))
       (λ k. stuck_then _ _ (stuck_value version) (λ v. stuck_give _)))
       (λ s. stuck_then _ _ stuck_key (λ k. stuck_then _ _ (stuck_value version) (λ v. stuck_give _))))
       (Early-give _ _)
 
   Early-parameters : Early (parameters_at version) parameters_events
   unfolding parameters_at
-  Early-parameters = Early-more _ (λ ps. flat_map parameter_event ps) parameters_events
-      (λ ps. parameters_begin ps (flat_map parameter_event ps) ([], sym (append-nil _)))
+  Early-parameters = Early-more (λ ps. parameters_begin ps (flat_map parameter_event ps) ([], sym (append-nil _)))
       (Early-many parameter_event (parameter_at version) (Consumes-parameter version) (Local-parameter version)
       Early-parameter (stuck_parameters version))
 
   pub Early-item : Early (item_at version) item_events
   unfolding item_at
-  Early-item = Early-then (bare_at version) _ item_events leaf (Local-bare version)
-      (λ b. Early-led_map (bare_item b ∷ []) (parameters_at version) (item_of b) parameters_events item_events
-      (λ ps. ([], sym (append-nil _))) Early-parameters)
-      (λ b. stuck_after _ _ (stuck_last version some_mark (item_of b)))
+  Early-item = Early-then leaf (Local-bare version)
+      (λ b. Early-led_map (bare_item b ∷ []) (item_of b) (λ ps. ([], sym (append-nil _))) Early-parameters)
+      (λ b. stuck_after _ _ (stuck_last version (item_of b)))
 
   Early-inner_item : Early (inner_item_at version) inner_item_events
   unfolding inner_item_at
-  Early-inner_item = Early-led (begins_item ∷ []) (item_at version) item_events inner_item_events (λ i. refl) Early-item
+  Early-inner_item = Early-led (begins_item ∷ []) (λ t i q j. refl) Early-item
 
   stuck_parenthesis : (v : Option RawItem)
       → Stuck (branch (byte 41) (λ _. give v) (inner_item_at version >>= λ i. give (Some i)) (0 ∷ []))
@@ -183,13 +166,11 @@ module _ (version : Version) (leaf : Early (bare_at version) (λ _. [])) where
 
   Early-next_item : Early (next_item_at version) (step_events inner_item_events)
   unfolding next_item_at
-  Early-next_item = Early-branch _ _ _ _
-      (λ c. Early-then _ _ _ (Early-span _ _) (Local-span _)
-      (λ s. Early-branch _ _ _ _ (λ d. Early-give _ _)
-      (Early-map (inner_item_at version) (λ i. Some i) inner_item_events _ Early-inner_item (Local-inner_item version)
-      (λ i. ([], sym (append-nil _)))))
+  Early-next_item = Early-branch _ (λ c. Early-then (Early-span _ _) (Local-span _)
+      (λ s. Early-branch _ (λ d. Early-give _ _)
+      (Early-map (λ i. Some i) Early-inner_item (Local-inner_item version) (λ i. ([], sym (append-nil _)))))
       (λ s. stuck_parenthesis None))
-      (Early-branch _ _ _ _ (λ d. Early-give _ _) (Early-ahead _ _ _ _ (Early-fail _ _) (Early-fail _ _)))
+      (Early-branch _ (λ d. Early-give _ _) (Early-ahead _ (Early-fail _ _) (Early-fail _ _)))
 
   stuck_items : Stuck (branch (byte 41) (λ _. give []) (inner_item_at version
       >>= λ i. led (inner_item_events i) (many inner_item_events (next_item_at version) >>= λ is. give (i ∷ is)))
@@ -199,14 +180,12 @@ module _ (version : Version) (leaf : Early (bare_at version) (λ _. [])) where
 
   Early-items : Early (inner_items_at version) (λ is. flat_map inner_item_events is)
   unfolding inner_items_at
-  Early-items = Early-ahead _ _ _ _
-      (Early-then _ _ _ (Early-span _ _) (Local-span _)
-      (λ s. Early-branch _ _ _ _ (λ d. Early-give _ _)
+  Early-items = Early-ahead _ (Early-then (Early-span _ _) (Local-span _)
+      (λ s. Early-branch _ (λ d. Early-give _ _)
       (Early-one_and_more inner_item_events (next_item_at version) (Consumes-next_item version)
       (Local-next_item version) Early-next_item (stuck_next_items version) (inner_item_at version) Early-inner_item
       (Local-inner_item version)))
-      (λ s. stuck_items))
-      (Early-fail _ _)
+      (λ s. stuck_items)) (Early-fail _ _)
 
   -- the events of an inner list after its beginning
   after_start : RawMember → List TreeEvent
@@ -229,17 +208,10 @@ module _ (version : Version) (leaf : Early (bare_at version) (λ _. [])) where
 
   Early-inner : Early (inner_at version) after_start
   unfolding inner_at after_start
-  Early-inner = Early-bind (inner_items_at version)
-      (λ is. led (closed_events is) (parameters_at version >>= λ ps. give (inner_of is ps))) (λ is. flat_map inner_item_events is) after_start Early-items
-      (Local-items version)
-      (λ is. Early-led_map (closed_events is) (parameters_at version) (inner_of is) parameters_events after_start
-      (λ ps. (
-        [],
-        sym (append_assoc (flat_map inner_item_events is) (inner_list_end ∷ []) (parameters_events ps))
-            ∙ sym (append-nil _),
-      )) Early-parameters)
-      closed_goes
-      (λ is. stuck_after _ _ (stuck_last version some_mark (inner_of is)))
+  Early-inner = Early-bind Early-items (Local-items version)
+      (λ is. Early-led_map (closed_events is) (inner_of is) (λ ps. ([], simp (append_assoc, append-nil)))
+      Early-parameters)
+      closed_goes (λ is. stuck_after _ _ (stuck_last version (inner_of is)))
 
   list_starts : (t : List ℕ) (v : RawMember) (q : List ℕ) → inner_at version t ≡ Ok (v, q)
       → member_events v ≡ (begins_inner_list ∷ []) ++ after_start v
@@ -250,10 +222,8 @@ module _ (version : Version) (leaf : Early (bare_at version) (λ _. [])) where
           → led_answer (closed_events is) (and_then a (λ ps. give (inner_of is ps))) ≡ Ok (v, q)
           → member_events v ≡ (begins_inner_list ∷ []) ++ after_start v
       inner is (Ok x) h =
-          let here : RawMember × List ℕ = (inner_of is x.0, x.1) in
-          let there : RawMember × List ℕ = (v, q) in
-          let same : here ≡ there = cc in
-          subst (λ (p : RawMember × List ℕ). member_events p.0 ≡ (begins_inner_list ∷ []) ++ after_start p.0) same refl
+          let pairs : (inner_of is x.0, x.1) ≡ (v, q) = cc in
+          let same : inner_of is x.0 ≡ v = ap (λ (p : RawMember × List ℕ). p.0) pairs in rw (← same) refl
       inner is (Err x) h = absurd cc
 
       on : (a : Answer (List RawItem)) → and_then a (λ is q. led_answer (closed_events is)
@@ -264,27 +234,24 @@ module _ (version : Version) (leaf : Early (bare_at version) (λ _. [])) where
 
   Early-member : Early (member_at version) member_events
   unfolding member_at
-  Early-member = Early-branch _ _ _ _
-      (λ c. Early-led_in (begins_inner_list ∷ []) (inner_at version) after_start member_events list_starts Early-inner)
-      (Early-led_map (begins_item ∷ []) (item_at version) (λ i. item i) item_events member_events
-      (λ i. ([], sym (append-nil _))) Early-item)
+  Early-member = Early-branch _ (λ c. Early-led (begins_inner_list ∷ []) list_starts Early-inner)
+      (Early-led_map (begins_item ∷ []) (λ i. item i) (λ i. ([], sym (append-nil _))) Early-item)
 
   pub Early-entry : Early (entry_at version) entry_events
   unfolding entry_at
-  Early-entry = Early-led (entry ∷ []) (member_at version) member_events entry_events (λ v. refl) Early-member
+  Early-entry = Early-led (entry ∷ []) (λ t v q j. refl) Early-member
 
   Early-member_value : Early (member_value_at version) member_events
   unfolding member_value_at
-  Early-member_value = Early-branch _ _ _ _ (λ c. Early-member)
-      (Early-led_map (begins_item ∷ bare_item (boolean true) ∷ []) (parameters_at version) true_with parameters_events
-      member_events (λ ps. ([], sym (append-nil _))) Early-parameters)
+  Early-member_value = Early-branch _ (λ c. Early-member)
+      (Early-led_map (begins_item ∷ bare_item (boolean true) ∷ []) true_with (λ ps. ([], sym (append-nil _)))
+      Early-parameters)
 
   pub Early-keyed : Early (keyed_at version) keyed_events
   unfolding keyed_at
-  Early-keyed = Early-then key_at _ keyed_events Early-key Local-key
-      (λ k. Early-led_map (keyed_entry k ∷ []) (member_value_at version) (λ m. (k, m)) member_events keyed_events
-      (λ m. ([], sym (append-nil _))) Early-member_value)
-      (λ k. stuck_after _ _ (stuck_then _ _ (stuck-member_value version some_mark) (λ m. stuck_give _)))
+  Early-keyed = Early-then Early-key Local-key
+      (λ k. Early-led_map (keyed_entry k ∷ []) (λ m. (k, m)) (λ m. ([], sym (append-nil _))) Early-member_value)
+      (λ k. stuck_after _ _ (stuck_then _ _ (stuck-member_value version) (λ m. stuck_give _)))
 
   -- ---- fields
 
@@ -303,22 +270,17 @@ module _ (version : Version) (leaf : Early (bare_at version) (λ _. [])) where
   spaces_begin : (i : RawItem) (q : List ℕ) → Begins (visited item_events ((span is_space >>= λ _. give i) q))
       (item_events i)
   unfolding bind give
-  spaces_begin i q = on (span is_space q) refl
-    where
-      on : (a : Answer (List ℕ)) → span is_space q ≡ a → Begins (visited item_events (and_then a (λ _. give i)))
-          (item_events i)
-      on (Ok x) k = ([], sym (append-nil _))
-      on (Err x) k = let m = (Steady-span is_space).steady q in absurd cc
+  spaces_begin i q = let m = (Steady-span is_space).steady q in rw m.3 ([], sym (append-nil _))
 
   stuck_after_item : (i : RawItem) → Stuck ((span is_space >>= λ _. give i) (0 ∷ []))
   stuck_after_item i = stuck_then (span is_space) (λ _. give i) stuck_space (λ _. stuck_give i)
 
   pub Early-field : (kind : FieldKind) → Early (whole_field_at version kind) (events kind)
   unfolding whole_field_at
-  Early-field item_field = Early-then _ _ _ (Early-span _ _) (Local-span _)
-      (λ s. Early-bind (item_at version) (λ i. span is_space >>= λ _. give i) item_events item_events Early-item
-      (Local-item version) (λ i. Early-then _ _ _ (Early-span _ _) (Local-span _) (λ _. Early-give _ _)
-      (λ _. stuck_give _)) spaces_begin stuck_after_item)
+  Early-field item_field = Early-then (Early-span _ _) (Local-span _)
+      (λ s. Early-bind Early-item (Local-item version)
+      (λ i. Early-then (Early-span _ _) (Local-span _) (λ _. Early-give _ _) (λ _. stuck_give _))
+      spaces_begin stuck_after_item)
       (λ s. stuck_then (item_at version) (λ i. span is_space >>= λ _. give i) stuck_item stuck_after_item)
   Early-field list_field = Early-members (IsMemberText version) entry_events (entry_at version) (Sound-entry version)
       (Local-entry version) Early-entry stuck_entry

@@ -1,9 +1,9 @@
 -- What was told before a fault with a rule is told before every text that goes on alike.
-use Rattle.std.proofs.Common.{◌≡◌, ℕ, zero, suc, ◌<◌, Bool, true, false, cond, List, [], ◌∷◌, ◌++◌, length, Option}
-use Rattle.std.proofs.Common.{Some, None, Ok, Err, refl, sym, ap, subst, ◌∙◌, append_assoc, arith}
+use Rattle.std.proofs.Common.{◌≡◌, ℕ, zero, suc, ◌<◌, Bool, true, false, List, [], ◌∷◌, ◌++◌, length, Option, Some}
+use Rattle.std.proofs.Common.{None, Ok, Err, refl, sym, ap, subst, ◌∙◌, append_assoc, arith, inl, inr}
 use Rattle.std.specs.Prelude.{flat_map}
 use Rattle.std.proofs.lemmas.List.{append-nil}
-use Rattle.std.proofs.lemmas.Bool.{true≢false}
+use Rattle.std.proofs.lemmas.Bool.{true≢false, cases_Bool}
 use Rattle.sfv_spec.specs.Events.{TreeEvent}
 use Rattle.sfv_spec.specs.declared.error_kind.ErrorKind.{ErrorKind}
 use Rattle.sfv_model.specs.Judgements.{Lasts, Local}
@@ -13,7 +13,7 @@ use Rattle.sfv_model.proofs.sound.Combinators.{Begins, begins_after, Steady-span
 use Rattle.sfv_model.proofs.sound.Many.{Consumes, many_is}
 use Rattle.sfv_model.proofs.sound.Steps.{step_events}
 use Rattle.sfv_model.proofs.local.Combinators.{first_after, untaken, looks}
-use Rattle.sfv_model.proofs.places.Calls.{Stuck, stuck_led, stuck_bind}
+use Rattle.sfv_model.proofs.places.Calls.{Stuck, stuck_bind}
 use Rattle.sfv_model.proofs.places.CallsOfReaders.{stuck_give, stuck_then, stuck_after}
 
 -- After before and one byte more, the events es were told, whatever follows; and something may follow.
@@ -51,9 +51,9 @@ tells_after f g parts p t es same m =
       next = m.next;
       after = m.after;
       text = ap (λ (l : List ℕ). p ++ l) m.text ∙ sym (append_assoc p m.before (m.next ∷ m.after));
-      emitted = λ r. subst (λ a. Begins (visited parts a) es) (sym (again r)) (m.emitted r);
+      emitted = λ r. rw (again r) (m.emitted r);
       more = m.more;
-      stuck = subst Stuck (sym (again (m.more ++ 0 ∷ []))) m.stuck;
+      stuck = rw (again (m.more ++ 0 ∷ [])) m.stuck;
     }
 
 nothing_emitted : {A : Type 0} (f : Reader A) (parts : A → List TreeEvent) (es : List TreeEvent) → Tells f parts [] es → ⊥
@@ -78,39 +78,67 @@ Early-fail k parts = record {
 pub Early-span : (class : ℕ → Bool) (parts : List ℕ → List TreeEvent) → Early (span class) parts
 Early-span class parts = record { early = λ t e i x. let m = (Steady-span class).steady t in absurd cc }
 
-begins_led : {A : Type 0} (es : List TreeEvent) (parts whole : A → List TreeEvent) → ((v : A) → whole v ≡ es ++ parts v)
-    → (fs : List TreeEvent) (a : Answer A) → Begins (visited parts a) fs
-    → Begins (visited whole (led_answer es a)) (es ++ fs)
-begins_led es parts whole each fs (Ok x) b =
-    subst (λ (l : List TreeEvent). Begins l (es ++ fs)) (sym (each x.0)) (begins_after es (parts x.0) fs b)
-begins_led es parts whole each fs (Err x) b = begins_after es x.events fs b
-
-pub tells_led : {A : Type 0} (es : List TreeEvent) (f : Reader A) (parts whole : A → List TreeEvent) (t : List ℕ)
-    (fs : List TreeEvent) → ((v : A) → whole v ≡ es ++ parts v) → Tells f parts t fs
-    → Tells (led es f) whole t (es ++ fs)
-unfolding led
-tells_led es f parts whole t fs each m = record {
+-- the events and the stuck bytes of one reader carry over to another
+tells_as : {A B : Type 0} {f : Reader A} {g : Reader B} {parts : A → List TreeEvent} {whole : B → List TreeEvent}
+    {t : List ℕ} {es fs : List TreeEvent}
+    → ((s : List ℕ) → Begins (visited parts (f s)) es → Begins (visited whole (g s)) fs)
+    → ((s : List ℕ) → Stuck (f s) → Stuck (g s)) → Tells f parts t es → Tells g whole t fs
+tells_as emitted stuck m = record {
   before = m.before;
   next = m.next;
   after = m.after;
   text = m.text;
-  emitted = λ r. begins_led es parts whole each fs (f (m.before ++ m.next ∷ r)) (m.emitted r);
+  emitted = λ r. emitted _ (m.emitted r);
   more = m.more;
-  stuck = stuck_led es (f (m.before ++ m.next ∷ (m.more ++ 0 ∷ []))) m.stuck;
+  stuck = stuck _ m.stuck;
 }
 
-pub Early-led : {A : Type 0} (es : List TreeEvent) (f : Reader A) (parts whole : A → List TreeEvent)
-    → ((v : A) → whole v ≡ es ++ parts v) → Early f parts → Early (led es f) whole
-unfolding led
-Early-led {A} es f parts whole each h = record { early = λ t e i x. on t (f t) refl e i x }
+-- an answer whose rest is that of another, and whose events are some more and those of the other
+abbrev Alike : {A B : Type 0} → List TreeEvent → (A → List TreeEvent) → (B → List TreeEvent) → Answer A → Answer B
+    → Type 0
+Alike {A} {B} es parts whole (Ok x) b = (w : B) × (b ≡ Ok (w, x.1)) × Begins (whole w) (es ++ parts x.0)
+Alike es parts whole (Err e) b = b ≡ Err (after_events es e)
+
+alike_begins : {A B : Type 0} (es fs : List TreeEvent) (parts : A → List TreeEvent) (whole : B → List TreeEvent)
+    (a : Answer A) (b : Answer B) → Alike es parts whole a b → Begins (visited parts a) fs
+    → Begins (visited whole b) (es ++ fs)
+alike_begins es fs parts whole (Ok x) b h k = rw h.1 (begins_trans _ _ _ h.2 (begins_after es (parts x.0) fs k))
+alike_begins es fs parts whole (Err x) b h k = rw h (begins_after es x.events fs k)
+
+alike_stuck : {A B : Type 0} (es : List TreeEvent) (parts : A → List TreeEvent) (whole : B → List TreeEvent)
+    (a : Answer A) (b : Answer B) → Alike es parts whole a b → Stuck a → Stuck b
+alike_stuck es parts whole (Ok x) b h k = rw h.1 k
+alike_stuck es parts whole (Err x) b h k = rw h k
+
+-- what is told before a fault of one reader is told of a reader with alike answers
+tells_alike : {A B : Type 0} {f : Reader A} {g : Reader B} (es : List TreeEvent) (parts : A → List TreeEvent)
+    (whole : B → List TreeEvent) → ((s : List ℕ) → Alike es parts whole (f s) (g s)) → (t : List ℕ) (e : Fault)
+    → g t ≡ Err e → e.exact ≡ false
+    → ((y : Fault) → f t ≡ Err y → y.exact ≡ false → Tells f parts t y.events) → Tells g whole t e.events
+tells_alike {A} {B} {f} {g} es parts whole alike t e i x h = on (f t) refl (alike t)
   where
-    on : (t : List ℕ) (a : Answer A) → f t ≡ a → (e : Fault) → led_answer es a ≡ Err e → e.exact ≡ false
-        → Tells (led es f) whole t e.events
-    on t (Ok y) k e i x = absurd cc
-    on t (Err y) k e i x =
+    on : (a : Answer A) → f t ≡ a → Alike es parts whole a (g t) → Tells g whole t e.events
+    on (Ok y) k m = let is = m.1 in absurd cc
+    on (Err y) k m =
         let same : after_events es y ≡ e = cc in
-        subst (λ (e : Fault). Tells (led es f) whole t e.events) same
-        (tells_led es f parts whole t y.events each (h.early t y k (ap (λ (e : Fault). e.exact) same ∙ x)))
+        rw (← same) (tells_as (λ s. alike_begins es y.events parts whole (f s) (g s) (alike s))
+        (λ s. alike_stuck es parts whole (f s) (g s) (alike s)) (h y k (ap (λ (e : Fault). e.exact) same ∙ x)))
+
+Early-alike : {A B : Type 0} {f : Reader A} {g : Reader B} (es : List TreeEvent) (parts : A → List TreeEvent)
+    (whole : B → List TreeEvent) → ((s : List ℕ) → Alike es parts whole (f s) (g s)) → Early f parts → Early g whole
+Early-alike es parts whole alike h =
+    record { early = λ t e i x. tells_alike es parts whole alike t e i x (λ y k z. h.early t y k z) }
+
+-- with events before, where the values that are read have them
+pub Early-led : {A : Type 0} (es : List TreeEvent) {f : Reader A} {parts whole : A → List TreeEvent}
+    → ((t : List ℕ) (v : A) (q : List ℕ) → f t ≡ Ok (v, q) → whole v ≡ es ++ parts v) → Early f parts
+    → Early (led es f) whole
+unfolding led
+Early-led {A} es {f} {parts} {whole} each = Early-alike es parts whole (λ s. on s (f s) refl)
+  where
+    on : (s : List ℕ) (a : Answer A) → f s ≡ a → Alike es parts whole a (led_answer es a)
+    on s (Ok x) i = (x.0, refl, rw (each s x.0 x.1 i) ([], sym (append-nil _)))
+    on s (Err x) i = refl
 
 -- the first of two readings is at fault
 pub tells_first : {A B : Type 0} (f : Reader A) (g : A → Reader B) (front : A → List TreeEvent) (parts : B
@@ -118,54 +146,26 @@ pub tells_first : {A B : Type 0} (f : Reader A) (g : A → Reader B) (front : A 
     → ((v : A) (q : List ℕ) → Begins (visited parts (g v q)) (front v)) → ((v : A) → Stuck (g v (0 ∷ [])))
     → Tells f front t es → Tells (f >>= g) parts t es
 unfolding bind
-tells_first {A} f g front parts t es goes stuck m = record {
-  before = m.before;
-  next = m.next;
-  after = m.after;
-  text = m.text;
-  emitted = λ r. on (f (m.before ++ m.next ∷ r)) (m.emitted r);
-  more = m.more;
-  stuck = stuck_bind g (f (m.before ++ m.next ∷ (m.more ++ 0 ∷ []))) stuck m.stuck;
-}
+tells_first {A} f g front parts t es goes stuck = tells_as (λ s. on (f s)) (λ s. stuck_bind g (f s) stuck)
   where
     on : (a : Answer A) → Begins (visited front a) es → Begins (visited parts (and_then a g)) es
     on (Ok y) b = begins_trans _ _ _ (goes y.0 y.1) b
     on (Err y) b = b
 
 -- a value is made, whose events are some more and those of the reading
-pub tells_led_map : {A B : Type 0} (es : List TreeEvent) (f : Reader A) (m : A → B) (front : A → List TreeEvent)
-    (whole : B → List TreeEvent) (t : List ℕ) (fs : List TreeEvent) → ((v : A) → Begins (whole (m v)) (es ++ front v))
-    → Tells f front t fs → Tells (led es (f >>= λ v. give (m v))) whole t (es ++ fs)
-unfolding led bind give
-tells_led_map {A} es f m front whole t fs each k = record {
-  before = k.before;
-  next = k.next;
-  after = k.after;
-  text = k.text;
-  emitted = λ r. on (f (k.before ++ k.next ∷ r)) (k.emitted r);
-  more = k.more;
-  stuck = stuck_led es (and_then (f (k.before ++ k.next ∷ (k.more ++ 0 ∷ []))) (λ v. give (m v)))
-      (stuck_bind (λ v. give (m v)) (f (k.before ++ k.next ∷ (k.more ++ 0 ∷ []))) (λ v. refl) k.stuck);
-}
-  where
-    on : (a : Answer A) → Begins (visited front a) fs
-        → Begins (visited whole (led_answer es (and_then a (λ v. give (m v))))) (es ++ fs)
-    on (Ok y) b = begins_trans _ _ _ (each y.0) (begins_after es (front y.0) fs b)
-    on (Err y) b = begins_after es y.events fs b
+alike_map : {A B : Type 0} (es : List TreeEvent) (m : A → B) (front : A → List TreeEvent) (whole : B → List TreeEvent)
+    → ((v : A) → Begins (whole (m v)) (es ++ front v)) → (a : Answer A)
+    → Alike es front whole a (led_answer es (and_then a (λ v. give (m v))))
+unfolding give
+alike_map es m front whole each (Ok x) = (m x.0, refl, each x.0)
+alike_map es m front whole each (Err x) = refl
 
-pub Early-led_map : {A B : Type 0} (es : List TreeEvent) (f : Reader A) (m : A → B) (front : A → List TreeEvent)
-    (whole : B → List TreeEvent) → ((v : A) → Begins (whole (m v)) (es ++ front v)) → Early f front
+pub Early-led_map : {A B : Type 0} (es : List TreeEvent) {f : Reader A} (m : A → B) {front : A → List TreeEvent}
+    {whole : B → List TreeEvent} → ((v : A) → Begins (whole (m v)) (es ++ front v)) → Early f front
     → Early (led es (f >>= λ v. give (m v))) whole
-unfolding led bind give
-Early-led_map {A} es f m front whole each h = record { early = λ t e i x. on t (f t) refl e i x }
-  where
-    on : (t : List ℕ) (a : Answer A) → f t ≡ a → (e : Fault) → led_answer es (and_then a (λ v. give (m v))) ≡ Err e
-        → e.exact ≡ false → Tells (led es (f >>= λ v. give (m v))) whole t e.events
-    on t (Ok y) k e i x = absurd cc
-    on t (Err y) k e i x =
-        let same : after_events es y ≡ e = cc in
-        subst (λ (e : Fault). Tells (led es (f >>= λ v. give (m v))) whole t e.events) same
-        (tells_led_map es f m front whole t y.events each (h.early t y k (ap (λ (e : Fault). e.exact) same ∙ x)))
+unfolding led bind
+Early-led_map es {f} m {front} {whole} each =
+    Early-alike es front whole (λ s. alike_map es m front whole each (f s))
 
 -- the second is
 pub tells_second : {A B : Type 0} (f : Reader A) (g : A → Reader B) (parts : B → List TreeEvent) (t : List ℕ) (v : A)
@@ -174,15 +174,15 @@ pub tells_second : {A B : Type 0} (f : Reader A) (g : A → Reader B) (parts : B
 unfolding bind
 tells_second f g parts t v q es l e m =
     let k : Lasts f t (Ok (v, q)) = subst (λ a. Lasts f t a) e (l.lasts t) in
-    subst (λ (t : List ℕ). Tells (f >>= g) parts t es) (sym k.1)
-    (tells_after (f >>= g) (g v) parts k.0 q es (λ r i. ap (λ a. and_then a g) (k.2 r i)) m)
+    rw k.1 (tells_after (f >>= g) (g v) parts k.0 q es (λ r i. ap (λ a. and_then a g) (k.2 r i)) m)
 
-pub Early-bind : {A B : Type 0} (f : Reader A) (g : A → Reader B) (front : A → List TreeEvent) (parts : B
-    → List TreeEvent) → Early f front → Local f → ((v : A) → Early (g v) parts)
+pub Early-bind : {A B : Type 0} {f : Reader A} {g : A → Reader B} {front : A → List TreeEvent}
+    {parts : B → List TreeEvent} → Early f front → Local f → ((v : A) → Early (g v) parts)
     → ((v : A) (q : List ℕ) → Begins (visited parts (g v q)) (front v)) → ((v : A) → Stuck (g v (0 ∷ [])))
     → Early (f >>= g) parts
 unfolding bind
-Early-bind {A} f g front parts h l k goes stuck = record { early = λ t e i x. on t (f t) refl e i x }
+Early-bind {A} {B} {f} {g} {front} {parts} h l k goes stuck =
+    record { early = λ t e i x. on t (f t) refl e i x }
   where
     on : (t : List ℕ) (a : Answer A) → f t ≡ a → (e : Fault) → and_then a g ≡ Err e → e.exact ≡ false
         → Tells (f >>= g) parts t e.events
@@ -192,51 +192,48 @@ Early-bind {A} f g front parts h l k goes stuck = record { early = λ t e i x. o
         tells_first f g front parts t e.events goes stuck (h.early t e (n ∙ ap (λ (y : Fault). Err y) same) x)
 
 -- where the first hands out nothing
-pub Early-then : {A B : Type 0} (f : Reader A) (g : A → Reader B) (parts : B → List TreeEvent) → Early f (λ _. [])
+pub Early-then : {A B : Type 0} {f : Reader A} {g : A → Reader B} {parts : B → List TreeEvent} → Early f (λ _. [])
     → Local f → ((v : A) → Early (g v) parts) → ((v : A) → Stuck (g v (0 ∷ []))) → Early (f >>= g) parts
-Early-then f g parts h l k stuck = Early-bind f g (λ _. []) parts h l k (λ v q. begins_all _) stuck
+Early-then h l k stuck = Early-bind h l k (λ v q. begins_all _) stuck
 
 -- where the second always reads on
-pub Early-map : {A B : Type 0} (f : Reader A) (m : A → B) (front : A → List TreeEvent) (parts : B → List TreeEvent)
+pub Early-map : {A B : Type 0} {f : Reader A} (m : A → B) {front : A → List TreeEvent} {parts : B → List TreeEvent}
     → Early f front → Local f → ((v : A) → Begins (parts (m v)) (front v)) → Early (f >>= λ v. give (m v)) parts
 unfolding give
-Early-map f m front parts h l each =
-    Early-bind f (λ v. give (m v)) front parts h l (λ v. Early-give (m v) parts) (λ v q. each v) (λ v. refl)
+Early-map m {parts = parts} h l each =
+    Early-bind h l (λ v. Early-give (m v) parts) (λ v q. each v) (λ v. refl)
 
-pub Early-branch : {A : Type 0} (class : ℕ → Bool) (taken : ℕ → Reader A) (other : Reader A) (parts : A
-    → List TreeEvent) → ((c : ℕ) → Early (taken c) parts) → Early other parts → Early (branch class taken other) parts
+pub Early-branch : {A : Type 0} (class : ℕ → Bool) {taken : ℕ → Reader A} {other : Reader A}
+    {parts : A → List TreeEvent} → ((c : ℕ) → Early (taken c) parts) → Early other parts
+    → Early (branch class taken other) parts
 unfolding branch
-Early-branch {A} class taken other parts h k = record { early = at }
+Early-branch {A} class {taken} {other} {parts} h k = record { early = at }
   where
-    on : (b : Bool) (c : ℕ) (r : List ℕ) → class c ≡ b → (e : Fault) → cond b (taken c r) (other (c ∷ r)) ≡ Err e
-        → e.exact ≡ false → Tells (branch class taken other) parts (c ∷ r) e.events
-    on true c r n e i x = tells_after (branch class taken other) (taken c) parts (c ∷ []) r e.events
-        (λ q j. rw n refl) ((h c).early r e i x)
-    on false c r n e i x = tells_after (branch class taken other) other parts [] (c ∷ r) e.events
-        (λ q j. untaken class taken other q (λ d m. let same : c ≡ d = cc in rw (← same) n))
-        (k.early (c ∷ r) e i x)
-
     at : (t : List ℕ) (e : Fault) → branch class taken other t ≡ Err e → e.exact ≡ false
         → Tells (branch class taken other) parts t e.events
     at [] e i x = absurd (nothing_emitted other parts e.events (k.early [] e i x))
-    at (c ∷ r) e i x = on (class c) c r refl e i x
+    at (c ∷ r) e i x = elim (cases_Bool (class c)) [
+      | inl n ↦ tells_after (branch class taken other) (taken c) parts (c ∷ []) r e.events (λ q j. rw n refl)
+          ((h c).early r e (rw n at i) x)
+      | inr n ↦ tells_after (branch class taken other) other parts [] (c ∷ r) e.events
+          (λ q j. untaken class taken other q (λ d m. let same : c ≡ d = cc in rw (← same) n))
+          (k.early (c ∷ r) e (rw n at i) x)
+    ]
 
-pub Early-ahead : {A : Type 0} (class : ℕ → Bool) (taken other : Reader A) (parts : A → List TreeEvent)
+pub Early-ahead : {A : Type 0} (class : ℕ → Bool) {taken other : Reader A} {parts : A → List TreeEvent}
     → Early taken parts → Early other parts → Early (ahead class taken other) parts
 unfolding ahead
-Early-ahead {A} class taken other parts h k = record { early = at }
+Early-ahead {A} class {taken} {other} {parts} h k = record { early = at }
   where
-    on : (b : Bool) (c : ℕ) (r : List ℕ) → class c ≡ b → (e : Fault) → cond b (taken (c ∷ r)) (other (c ∷ r)) ≡ Err e
-        → e.exact ≡ false → Tells (ahead class taken other) parts (c ∷ r) e.events
-    on true c r n e i x = tells_after (ahead class taken other) taken parts [] (c ∷ r) e.events
-        (λ q j. looks class taken other q true c n j) (h.early (c ∷ r) e i x)
-    on false c r n e i x = tells_after (ahead class taken other) other parts [] (c ∷ r) e.events
-        (λ q j. looks class taken other q false c n j) (k.early (c ∷ r) e i x)
-
     at : (t : List ℕ) (e : Fault) → ahead class taken other t ≡ Err e → e.exact ≡ false
         → Tells (ahead class taken other) parts t e.events
     at [] e i x = absurd (nothing_emitted other parts e.events (k.early [] e i x))
-    at (c ∷ r) e i x = on (class c) c r refl e i x
+    at (c ∷ r) e i x = elim (cases_Bool (class c)) [
+      | inl n ↦ tells_after (ahead class taken other) taken parts [] (c ∷ r) e.events
+          (λ q j. looks class taken other q true c n j) (h.early (c ∷ r) e (rw n at i) x)
+      | inr n ↦ tells_after (ahead class taken other) other parts [] (c ∷ r) e.events
+          (λ q j. looks class taken other q false c n j) (k.early (c ∷ r) e (rw n at i) x)
+    ]
 
 -- ---- step after step
 
@@ -265,17 +262,6 @@ module _ {A : Type 0} (parts : A → List TreeEvent) (step : Reader (Option A)) 
   Shorter n = (t : List ℕ) (e : Fault) → length t < n → many parts step t ≡ Err e → e.exact ≡ false
       → Tells (many parts step) All t e.events
 
-  after_one : (n : ℕ) → Shorter n → (e : Fault) → e.exact ≡ false → (v : A) (q : List ℕ) (a : Answer (List A))
-      → many parts step q ≡ a → length q < n → led_answer (parts v) (and_then a (λ vs. give (v ∷ vs))) ≡ Err e
-      → Tells (go_on parts (many parts step) (Some v)) All q e.events
-  unfolding give
-  after_one n ih e x v q (Ok y) k shorter j = absurd cc
-  after_one n ih e x v q (Err y) k shorter j =
-      let same : after_events (parts v) y ≡ e = cc in
-      subst (λ (e : Fault). Tells (go_on parts (many parts step) (Some v)) All q e.events) same
-      (tells_led_map (parts v) (many parts step) (λ vs. v ∷ vs) All All q y.events (λ vs. ([], sym (append-nil _)))
-      (ih q y shorter k (ap (λ (e : Fault). e.exact) same ∙ x)))
-
   at_step : (n : ℕ) → Shorter n → (t : List ℕ) (e : Fault) → length t < suc n → e.exact ≡ false
       → (a : Answer (Option A)) → step t ≡ a → and_then a (go_on parts (many parts step)) ≡ Err e
       → Tells (step >>= go_on parts (many parts step)) All t e.events
@@ -284,7 +270,8 @@ module _ {A : Type 0} (parts : A → List TreeEvent) (step : Reader (Option A)) 
   at_step n ih t e less x (Ok (Some v, q)) k j =
       let shorter = c.consumes t q v k in
       tells_second step (go_on parts (many parts step)) All t (Some v) q e.events l k
-      (after_one n ih e x v q (many parts step q) refl (omega (arith, less, shorter)) j)
+      (tells_alike (parts v) All All (λ s. alike_map (parts v) (λ vs. v ∷ vs) All All (λ vs. ([], sym (append-nil _)))
+      (many parts step s)) q e j x (λ y i z. ih q y (omega (arith, less, shorter)) i z))
   at_step n ih t e less x (Err y) k j =
       let same : y ≡ e = cc in
       tells_first step (go_on parts (many parts step)) (step_events parts) All t e.events goes stuck_on
@@ -295,8 +282,7 @@ module _ {A : Type 0} (parts : A → List TreeEvent) (step : Reader (Option A)) 
   within zero t e less i x = absurd (omega (arith, less))
   within (suc n) t e less i x =
       tells_after (many parts step) (step >>= go_on parts (many parts step)) All [] t e.events
-      (λ q j. many_is parts step c q)
-      (at_step n (within n) t e less x (step t) refl (sym (many_is parts step c t) ∙ i))
+      (λ q j. many_is parts step c q) (at_step n (within n) t e less x (step t) refl (cc (many_is parts step c t)))
 
   pub Early-many : Early (many parts step) All
   Early-many = record { early = λ t e i x. within (suc (length t)) t e (omega arith) i x }
@@ -309,57 +295,14 @@ module _ {A : Type 0} (parts : A → List TreeEvent) (step : Reader (Option A)) 
   -- one and more
   pub Early-one_and_more : (one : Reader A) → Early one parts → Local one → Early (one_and_more parts one step) All
   Early-one_and_more one first local =
-      Early-bind one (λ v. led (parts v) (many parts step >>= λ vs. give (v ∷ vs))) parts All first local
-      (λ v. Early-led_map (parts v) (many parts step) (λ vs. v ∷ vs) All All (λ vs. ([], sym (append-nil _))) Early-many)
+      Early-bind first local (λ v. Early-led_map (parts v) (λ vs. v ∷ vs) (λ vs. ([], sym (append-nil _))) Early-many)
       put_goes (λ v. stuck_after _ _ (stuck_then _ _ stuck (λ vs. stuck_give _)))
 
 -- fewer events
-begins_fewer : {A : Type 0} (few parts : A → List TreeEvent) → ((v : A) → Begins (parts v) (few v)) → (es : List TreeEvent)
-    (a : Answer A) → Begins (visited few a) es → Begins (visited parts a) es
-begins_fewer few parts each es (Ok x) b = begins_trans _ _ _ (each x.0) b
-begins_fewer few parts each es (Err x) b = b
-
-pub Early-more : {A : Type 0} (f : Reader A) (few parts : A → List TreeEvent) → ((v : A) → Begins (parts v) (few v))
-    → Early f few → Early f parts
-Early-more f few parts each h = record {
-  early = λ t e i x. let m = h.early t e i x in record {
-    before = m.before;
-    next = m.next;
-    after = m.after;
-    text = m.text;
-    emitted = λ r. begins_fewer few parts each e.events (f (m.before ++ m.next ∷ r)) (m.emitted r);
-    more = m.more;
-    stuck = m.stuck;
-  };
-}
-
--- where only some values are read
-begins_in : {A : Type 0} (es : List TreeEvent) (parts whole : A → List TreeEvent) (fs : List TreeEvent) (a : Answer A)
-    → ((v : A) (q : List ℕ) → a ≡ Ok (v, q) → whole v ≡ es ++ parts v) → Begins (visited parts a) fs
-    → Begins (visited whole (led_answer es a)) (es ++ fs)
-begins_in es parts whole fs (Ok x) each b =
-    subst (λ (l : List TreeEvent). Begins l (es ++ fs)) (sym (each x.0 x.1 refl)) (begins_after es (parts x.0) fs b)
-begins_in es parts whole fs (Err x) each b = begins_after es x.events fs b
-
-pub Early-led_in : {A : Type 0} (es : List TreeEvent) (f : Reader A) (parts whole : A → List TreeEvent)
-    → ((t : List ℕ) (v : A) (q : List ℕ) → f t ≡ Ok (v, q) → whole v ≡ es ++ parts v) → Early f parts
-    → Early (led es f) whole
-unfolding led
-Early-led_in {A} es f parts whole each h = record { early = λ t e i x. on t (f t) refl e i x }
+pub Early-more : {A : Type 0} {f : Reader A} {few parts : A → List TreeEvent}
+    → ((v : A) → Begins (parts v) (few v)) → Early f few → Early f parts
+Early-more {A} {f} {few} {parts} each = Early-alike [] few parts (λ s. on (f s))
   where
-    on : (t : List ℕ) (a : Answer A) → f t ≡ a → (e : Fault) → led_answer es a ≡ Err e → e.exact ≡ false
-        → Tells (led es f) whole t e.events
-    on t (Ok y) k e i x = absurd cc
-    on t (Err y) k e i x =
-        let same : after_events es y ≡ e = cc in
-        let m = h.early t y k (ap (λ (e : Fault). e.exact) same ∙ x) in
-        subst (λ (e : Fault). Tells (led es f) whole t e.events) same (record {
-          before = m.before;
-          next = m.next;
-          after = m.after;
-          text = m.text;
-          emitted = λ r. begins_in es parts whole y.events (f (m.before ++ m.next ∷ r)) (each (m.before ++ m.next ∷ r))
-              (m.emitted r);
-          more = m.more;
-          stuck = stuck_led es (f (m.before ++ m.next ∷ (m.more ++ 0 ∷ []))) m.stuck;
-        })
+    on : (a : Answer A) → Alike [] few parts a a
+    on (Ok x) = (x.0, refl, each x.0)
+    on (Err x) = refl

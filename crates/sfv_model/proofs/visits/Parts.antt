@@ -1,13 +1,10 @@
 -- What a reading hands out, by its parts: the steps of the code's proofs for visitors.
 use Rattle.std.proofs.Common.{◌≡◌, ℕ, List, [], ◌++◌, Ok, Err, refl, sym, ap, ◌∙◌, append_assoc}
-use Rattle.std.specs.Prelude.{flat_map}
 use Rattle.std.proofs.lemmas.List.{append-nil}
-use Rattle.std.proofs.lemmas.List.Concat.{flat_map-append}
 use Rattle.sfv_spec.specs.Events.{TreeEvent}
 use Rattle.std.specs.List.{FoldsTo}
 use Rattle.sfv_model.specs.Reader.{Answer, Reader, and_then, ◌>>=◌, bind, led_answer, led, visited}
 use Rattle.sfv_model.specs.Visits.{VisitorFails}
-use Rattle.sfv_model.proofs.sound.Many.{in_front}
 
 led_visited : {B : Type 0} (ds : List TreeEvent) (parts : B → List TreeEvent) (more : B → List TreeEvent) (a : Answer B)
     → ((w : B) (q : List ℕ) → a ≡ Ok (w, q) → parts w ≡ ds ++ more w)
@@ -21,9 +18,7 @@ pub visited_then : {A B : Type 0} (f : Reader A) (g : A → Reader B) (first : A
     → ((w : B) (r : List ℕ) → g v q ≡ Ok (w, r) → parts w ≡ first v ++ more w)
     → visited parts ((f >>= λ v. led (first v) (g v)) t) ≡ first v ++ visited more (g v q)
 unfolding bind led
-visited_then {B = B} f g first parts more t q v e h =
-    ap (λ a. visited parts (and_then a (λ v t. led_answer (first v) (g v t)))) e
-    ∙ led_visited (first v) parts more (g v q) h
+visited_then {B = B} f g first parts more t q v e h = simp (e, led_visited (first v) parts more (g v q) h)
 
 -- the first part of a reading: what is visited goes on
 pub visited_first : {A B : Type 0} (f : Reader A) (g : A → Reader B) (first : A → List TreeEvent) (parts more : B

@@ -1,23 +1,26 @@
 //! The visitor that builds a dictionary.
 
-ghost use Rattle.std.specs.Prelude.{◌≡◌, ⊤, false, None, OnOk, OnErr, IsTrue};
-ghost use Rattle.indexmap.specs.IndexMap.{hasher_of};
+ghost use Rattle.std.specs.Prelude.{◌≡◌, ⊤, ℕ, List, false, None, option_map, OnOk, OnErr, IfOk, IsTrue, MatchOption};
+ghost use Rattle.std.specs.Prelude.{bytes_eq};
+ghost use Rattle.indexmap.specs.IndexMap.{get, hasher_of, insert_entry};
 ghost use Rattle.sfv_tree.specs.Trees.{dictionary_tree};
 ghost use Rattle.sfv_values.specs.BareItems.{input_value};
 ghost use Rattle.sfv_spec.specs.Events as tree;
 ghost use Rattle.sfv_values.specs.CheckedTexts.{text_of};
 ghost use Rattle.sfv_tree.specs.Events.{event_of, is_moved};
-ghost use Rattle.sfv_tree.specs.Builders.{dictionary_step, dictionary_state};
-ghost use Rattle.sfv_tree.specs.Builders.{dictionary_takes_memory};
-ghost use Rattle.sfv_tree.specs.Builders.{DictionaryAddsUnder, DictionaryAdds};
+ghost use Rattle.sfv_spec.specs.Values.{RawMember};
+ghost use Rattle.sfv_tree.specs.declared.hash_seed.HashSeed.{HashSeed};
+ghost use Rattle.sfv_tree.specs.Builders.{dictionary_step, dictionary_state, member_state, HasSeedSoFar};
+ghost use Rattle.sfv_tree.specs.Builders.{dictionary_takes_memory, DictionaryAddsUnder, DictionaryAdds};
 
-use crate::parsed::Dictionary;
+use crate::parsed::{Dictionary, ListEntry};
 use crate::visitor::member::{Member, Step};
 use crate::visitor::{Event, Visitor};
 use sfv_base::error::OutOfMemory;
 use sfv_values::bare::BareItemFromInput;
 use sfv_values::key::Key;
 use sfv_values::key_ref::KeyRef;
+use std::alloc::Global;
 
 /// A visitor that builds a dictionary, beginning with an existing one. A repeated key keeps its first position and
 /// takes its last member (RFC 9651, section 4.2.2). A repeated parameter takes its last value.
@@ -31,6 +34,25 @@ pub struct DictionaryBuilder {
     dictionary: Dictionary,
     // The key of the current member, and the member.
     member: Option<(Key, Member)>,
+}
+
+// Returns the member that the event begins, with its key, or `None`.
+#[inline(always)]
+fn begun(alloc: Global, event: Event<'_>) -> Result<Option<(Key, Member)>, OutOfMemory>
+    ensures state { IfOk result (λ member. (ms : List (List ℕ × RawMember)) → dictionary_step (ms, None)
+        (event_of event.entry) ≡ (ms, option_map (λ m. (m.0, member_state m.1)) member)) }
+    ensures out_of_memory { OnErr result ((ms : List (List ℕ × RawMember))
+        → IsTrue (dictionary_takes_memory (ms, None) (event_of event.entry))) }
+    ensures copied { OnErr result (is_moved event.entry ≡ false) }
+    ensures seed { IfOk result (λ member. (seed : HashSeed) → MatchOption member ⊤ (λ m. HasSeedSoFar seed m.1)) }
+{
+    match event {
+        Event::KeyedEntry(key) => {
+            let key = key.to_owned(alloc)?;
+            Ok(Some((key, Member::Begun)))
+        }
+        _ => Ok(None),
+    }
 }
 
 impl DictionaryBuilder {
@@ -66,6 +88,28 @@ impl DictionaryBuilder {
         Ok(())
     }
 
+    // Replaces the current member. This is a function, because each place that drops a member is costly to prove.
+    #[inline(always)]
+    fn set_member(&mut self, member: Option<(Key, Member)>)
+        ensures member { self.new.member ≡ member }
+        ensures dictionary { self.new.dictionary ≡ self.old.dictionary }
+    {
+        self.member = member;
+    }
+
+    // Inserts a complete member.
+    #[inline(always)]
+    fn insert(&mut self, key: Key, member: ListEntry) -> Result<(), OutOfMemory>
+        ensures member { self.new.member ≡ self.old.member }
+        ensures entries { OnOk result (self.new.dictionary.entries
+            ≡ insert_entry bytes_eq self.old.dictionary.entries key member) }
+        ensures hasher { hasher_of self.new.dictionary ≡ hasher_of self.old.dictionary }
+        ensures absent { OnErr result (get bytes_eq self.old.dictionary key ≡ None) }
+    {
+        self.dictionary.insert(key, member)?;
+        Ok(())
+    }
+
     #[inline(always)]
     fn step(&mut self, event: Event<'_>) -> Result<(), OutOfMemory>
         ensures state { OnOk result
@@ -76,28 +120,16 @@ impl DictionaryBuilder {
         ensures seed { OnOk result (DictionaryAdds self.old self.new) }
     {
         let (alloc, seed) = (*self.dictionary.allocator(), *self.dictionary.hasher());
-        match (self.member.take(), event) {
-            (None, Event::KeyedEntry(key)) => {
-                self.member = Some((key.to_owned(alloc)?, Member::Begun));
-                Ok(())
-            }
-            (None, _) => Ok(()),
-            (Some((key, member)), event) => match member.step(
-                alloc,
-                seed,
-                self.dictionary.len(),
-                event,
-            )? {
-                Step::Within(member) => {
-                    self.member = Some((key, member));
-                    Ok(())
-                }
-                Step::Ended(member) => {
-                    self.dictionary.insert(key, member)?;
-                    Ok(())
-                }
-            },
+        let Some((key, member)) = self.member.take() else {
+            let new = begun(alloc, event)?;
+            self.set_member(new);
+            return Ok(());
+        };
+        match member.step(alloc, seed, self.dictionary.len(), event)? {
+            Step::Within(member) => self.set_member(Some((key, member))),
+            Step::Ended(member) => self.insert(key, member)?,
         }
+        Ok(())
     }
 }
 
@@ -128,6 +160,8 @@ impl<'de> Visitor<'de> for DictionaryBuilder {
     }
 
     fn finish(self) -> Result<Dictionary, OutOfMemory> {
-        Ok(self.dictionary)
+        let DictionaryBuilder { dictionary, member } = self;
+        drop(member);
+        Ok(dictionary)
     }
 }

@@ -6,8 +6,7 @@ ghost use Rattle.sfv_tree.specs.Seeds.{ItemHasSeed};
 ghost use Rattle.sfv_tree.specs.Trees.{item_tree};
 ghost use Rattle.sfv_tree.specs.declared.hash_seed.HashSeed.{HashSeed};
 ghost use Rattle.sfv_tree.specs.Events.{event_of, is_moved};
-ghost use Rattle.sfv_tree.specs.Builders.{item_head, ended, member_step, step_state, takes_memory};
-ghost use Rattle.sfv_tree.specs.Builders.{IsItemUnder};
+ghost use Rattle.sfv_tree.specs.Builders.{item_head, ended, member_step, step_state, takes_memory, IsItemUnder};
 ghost use Rattle.sfv_tree.specs.declared.visitor.ItemFault.TheVariants as faults;
 
 use crate::hash_seed::HashSeed;
@@ -43,6 +42,16 @@ impl ItemBuilder {
         }
     }
 
+    // Replaces the item so far. This is a function, because each place that drops an item is costly to prove.
+    #[inline(always)]
+    fn set_item(&mut self, item: Step)
+        ensures item { self.new.item ≡ item }
+        ensures alloc { self.new.alloc ≡ self.old.alloc }
+        ensures seed { self.new.seed ≡ self.old.seed }
+    {
+        self.item = item;
+    }
+
     #[inline(always)]
     fn step(&mut self, event: Event<'_>) -> Result<(), OutOfMemory>
         ensures state { OnOk result (step_state self.new.item
@@ -52,8 +61,11 @@ impl ItemBuilder {
         ensures seed { OnOk result ((seed : HashSeed) → IsItemUnder seed self.old → IsItemUnder seed self.new) }
     {
         match mem::replace(&mut self.item, Step::Within(Member::ItemHead)) {
-            Step::Within(item) => self.item = item.step(self.alloc, self.seed, 0, event)?,
-            whole => self.item = whole,
+            Step::Within(item) => {
+                let after = item.step(self.alloc, self.seed, 0, event)?;
+                self.set_item(after);
+            }
+            whole => self.set_item(whole),
         }
         Ok(())
     }

@@ -1,12 +1,14 @@
 //! The visitor that builds a list.
 
-ghost use Rattle.std.specs.Prelude.{◌≡◌, ⊤, false, None, OnOk, OnErr, IsTrue};
+ghost use Rattle.std.specs.Prelude.{◌≡◌, ⊤, List, false, None, option_map, OnOk, OnErr, IsTrue, MatchOption};
 ghost use Rattle.sfv_tree.specs.Trees.{list_tree};
 ghost use Rattle.sfv_values.specs.BareItems.{input_value};
 ghost use Rattle.sfv_spec.specs.Events as tree;
 ghost use Rattle.sfv_values.specs.CheckedTexts.{text_of};
 ghost use Rattle.sfv_tree.specs.Events.{event_of, is_moved};
-ghost use Rattle.sfv_tree.specs.Builders.{list_step, list_state, list_takes_memory};
+ghost use Rattle.sfv_spec.specs.Values.{RawMember};
+ghost use Rattle.sfv_tree.specs.declared.hash_seed.HashSeed.{HashSeed};
+ghost use Rattle.sfv_tree.specs.Builders.{list_step, list_state, list_takes_memory, member_state, HasSeedSoFar};
 ghost use Rattle.sfv_tree.specs.Builders.{ListAddsUnder, ListAdds};
 
 use crate::hash_seed::HashSeed;
@@ -31,6 +33,19 @@ pub struct ListBuilder {
     seed: HashSeed,
     // The current member.
     member: Option<Member>,
+}
+
+// Returns the member that the event begins, or `None`.
+#[inline(always)]
+fn begun(event: Event<'_>) -> Option<Member>
+    ensures state { (ms : List RawMember) → list_step (ms, None) (event_of event.entry)
+        ≡ (ms, option_map member_state result) }
+    ensures seed { (seed : HashSeed) → MatchOption result ⊤ (HasSeedSoFar seed) }
+{
+    match event {
+        Event::Entry => Some(Member::Begun),
+        _ => None,
+    }
 }
 
 impl ListBuilder {
@@ -67,6 +82,16 @@ impl ListBuilder {
         Ok(())
     }
 
+    // Replaces the current member. This is a function, because each place that drops a member is costly to prove.
+    #[inline(always)]
+    fn set_member(&mut self, member: Option<Member>)
+        ensures member { self.new.member ≡ member }
+        ensures list { self.new.list ≡ self.old.list }
+        ensures seed { self.new.seed ≡ self.old.seed }
+    {
+        self.member = member;
+    }
+
     #[inline(always)]
     fn step(&mut self, event: Event<'_>) -> Result<(), OutOfMemory>
         ensures state { OnOk result (list_state self.new ≡ list_step (list_state self.old) (event_of event.entry)) }
@@ -74,22 +99,15 @@ impl ListBuilder {
         ensures out_of_memory { OnErr result (IsTrue (list_takes_memory (list_state self.old) (event_of event.entry))) }
         ensures copied { OnErr result (is_moved event.entry ≡ false) }
     {
-        match (self.member.take(), event) {
-            (None, Event::Entry) => {
-                self.member = Some(Member::Begun);
-                Ok(())
-            }
-            (None, _) => Ok(()),
-            (Some(member), event) => {
-                match member.step(*self.list.allocator(), self.seed, self.list.len(), event)? {
-                    Step::Within(member) => {
-                        self.member = Some(member);
-                        Ok(())
-                    }
-                    Step::Ended(member) => Ok(self.list.push(member)?),
-                }
-            }
+        let Some(member) = self.member.take() else {
+            self.set_member(begun(event));
+            return Ok(());
+        };
+        match member.step(*self.list.allocator(), self.seed, self.list.len(), event)? {
+            Step::Within(member) => self.set_member(Some(member)),
+            Step::Ended(member) => self.list.push(member)?,
         }
+        Ok(())
     }
 }
 
@@ -120,6 +138,8 @@ impl<'de> Visitor<'de> for ListBuilder {
     }
 
     fn finish(self) -> Result<List, OutOfMemory> {
-        Ok(self.list)
+        let ListBuilder { list, member, .. } = self;
+        drop(member);
+        Ok(list)
     }
 }

@@ -116,10 +116,78 @@ impl Member {
         }
     }
 
+    // Begins an item: the member, or the next item of its inner list.
+    #[inline(always)]
+    fn begin_item(self) -> Member
+        ensures state { member_state result ≡ member_step (member_state self) tree.begins_item }
+        ensures seed { (seed : HashSeed) → HasSeedSoFar seed self → HasSeedSoFar seed result }
+    {
+        match self {
+            Member::Begun => Member::ItemHead,
+            Member::Items(list) => Member::InnerHead(list),
+            member => member,
+        }
+    }
+
+    // Begins the member as an inner list.
+    #[inline(always)]
+    fn begin_inner_list(self, alloc: Global, seed: HashSeed) -> Member
+        ensures state { member_state result ≡ member_step (member_state self) tree.begins_inner_list }
+        ensures seed { HasSeedSoFar seed self → HasSeedSoFar seed result }
+    {
+        match self {
+            Member::Begun => {
+                let params = Parameters::with_hasher(alloc, seed);
+                Member::Items(InnerList::with_params(Vec::new(alloc), params))
+            }
+            member => member,
+        }
+    }
+
+    // Takes the bare item of the item that has begun.
+    #[inline(always)]
+    fn bare_item(
+        self,
+        alloc: Global,
+        seed: HashSeed,
+        bare_item: BareItemFromInput<'_>,
+    ) -> Result<Member, OutOfMemory>
+        ensures state { IfOk result (λ after. member_state after
+            ≡ member_step (member_state self) (tree.bare_item (input_value bare_item.entry))) }
+        ensures seed { IfOk result (λ after. HasSeedSoFar seed self → HasSeedSoFar seed after) }
+        ensures out_of_memory { OnErr result
+            (IsTrue (takes_memory (member_state self) (tree.bare_item (input_value bare_item.entry)))) }
+        ensures copied { OnErr result (IsTrue (is_borrowed bare_item.entry)) }
+    {
+        match self {
+            Member::ItemHead => {
+                let item = plain_item(alloc, seed, bare_item)?;
+                Ok(Member::ItemParams(item))
+            }
+            Member::InnerHead(list) => {
+                let item = plain_item(alloc, seed, bare_item)?;
+                Ok(Member::InnerParams(list, item))
+            }
+            member => Ok(member),
+        }
+    }
+
+    // Ends the items of the inner list.
+    #[inline(always)]
+    fn end_inner_list(self) -> Member
+        ensures state { member_state result ≡ member_step (member_state self) tree.inner_list_end }
+        ensures seed { (seed : HashSeed) → HasSeedSoFar seed self → HasSeedSoFar seed result }
+    {
+        match self {
+            Member::Items(list) => Member::ListParams(list),
+            member => member,
+        }
+    }
+
     /// Returns the member after an event. An event out of sequence changes nothing. `count` members come before this one.
     #[inline(always)]
     pub(crate) fn step(
-        self,
+        mut self,
         alloc: Global,
         seed: HashSeed,
         count: usize,
@@ -130,31 +198,20 @@ impl Member {
         ensures out_of_memory { OnErr result (IsTrue (takes_memory (member_state self) (event_of event.entry))) }
         ensures copied { OnErr result (is_moved event.entry ≡ false) }
     {
-        match (self, event) {
-            (mut member, Event::Parameter(key, value)) => {
-                member.parameter(alloc, key, value)?;
+        match event {
+            Event::Item => Ok(Step::Within(self.begin_item())),
+            Event::InnerList => Ok(Step::Within(self.begin_inner_list(alloc, seed))),
+            Event::BareItem(bare_item) => {
+                let member = self.bare_item(alloc, seed, bare_item)?;
                 Ok(Step::Within(member))
             }
-            (member, Event::ParametersEnd) => member.end_parameters(count),
-            (Member::Begun, Event::Item) => Ok(Step::Within(Member::ItemHead)),
-            (Member::Begun, Event::InnerList) => {
-                let params = Parameters::with_hasher(alloc, seed);
-                let list = InnerList::with_params(Vec::new(alloc), params);
-                Ok(Step::Within(Member::Items(list)))
+            Event::Parameter(key, value) => {
+                self.parameter(alloc, key, value)?;
+                Ok(Step::Within(self))
             }
-            (Member::ItemHead, Event::BareItem(bare_item)) => {
-                let item = plain_item(alloc, seed, bare_item)?;
-                Ok(Step::Within(Member::ItemParams(item)))
-            }
-            (Member::Items(list), Event::Item) => Ok(Step::Within(Member::InnerHead(list))),
-            (Member::Items(list), Event::InnerListEnd) => {
-                Ok(Step::Within(Member::ListParams(list)))
-            }
-            (Member::InnerHead(list), Event::BareItem(bare_item)) => {
-                let item = plain_item(alloc, seed, bare_item)?;
-                Ok(Step::Within(Member::InnerParams(list, item)))
-            }
-            (member, _) => Ok(Step::Within(member)),
+            Event::ParametersEnd => self.end_parameters(count),
+            Event::InnerListEnd => Ok(Step::Within(self.end_inner_list())),
+            Event::Entry | Event::KeyedEntry(_) => Ok(Step::Within(self)),
         }
     }
 }

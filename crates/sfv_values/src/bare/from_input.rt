@@ -6,8 +6,8 @@ ghost use Rattle.std.specs.Cmp;
 ghost use Rattle.std.specs.Cmp.{on_per, on_equiv};
 ghost use Rattle.sfv_spec.specs.Values as values;
 ghost use Rattle.sfv_spec.specs.Values.{IsBareValue};
-ghost use Rattle.sfv_values.specs.BareItems.{GivesPart, read_text, bare_value, ref_value, input_value};
-ghost use Rattle.sfv_values.specs.BareItems.{is_borrowed, is_borrowed_string};
+ghost use Rattle.sfv_values.specs.BareItems.{GivesPart, read_text, bare_value, ref_value, input_value, is_borrowed};
+ghost use Rattle.sfv_values.specs.BareItems.{is_borrowed_string};
 ghost use Rattle.sfv_values.specs.CheckedTexts.{text_of};
 
 use crate::bare::{

@@ -7,7 +7,8 @@ use Rattle.sfv_c.specs.RowEvents.{items, value, Reads}
 use Rattle.sfv_c.specs.Writing.{IsRowOf}
 use Rattle.sfv_c.proofs.Places.{stops_items}
 use Rattle.sfv_c.proofs.RowEvents.{reads_on, reads_one, reads_shrinks}
-use Rattle.sfv_c.proofs.Stops.{err_and, after_event, stopped_at, stuck_at, stuck_end, out_at_item, holds, fails, not_item, items_more}
+use Rattle.sfv_c.proofs.Stops.{err_and, after_event, stopped_at, stuck_at, stuck_end, out_at_item, holds, fails}
+use Rattle.sfv_c.proofs.Stops.{not_item, items_more}
 use Rattle.sfv_c.proofs.rows_to_calls.items.Goals as goal
 
 -- the events of these calls

@@ -9,8 +9,8 @@ use Rattle.sfv_c.specs.Writing.{IsRowOf}
 use Rattle.sfv_c.proofs.Fields.{field_of}
 use Rattle.sfv_c.proofs.Places.{stops_list}
 use Rattle.sfv_c.proofs.RowEvents.{reads_one, reads_shrinks}
-use Rattle.sfv_c.proofs.Stops.{err_and, after_event, stopped_at, stuck_at, no_row, out_at_member, holds, fails, not_entry}
-use Rattle.sfv_c.proofs.Stops.{list_more, list_whole}
+use Rattle.sfv_c.proofs.Stops.{err_and, after_event, stopped_at, stuck_at, no_row, out_at_member, holds, fails}
+use Rattle.sfv_c.proofs.Stops.{not_entry, list_more, list_whole}
 use Rattle.sfv_c.proofs.rows_to_calls.list_of.Goals as goal
 
 -- the events of these calls

@@ -2,8 +2,7 @@ use Rattle.std.proofs.Common.{map, ◌<◌, List, length, refl, subst}
 use Rattle.sfv.specs.Values.{bare_values}
 use Rattle.sfv.specs.KeyText.{KeyRef}
 use Rattle.sfv.specs.Scripts.{entry_of_calls}
-use Rattle.sfv.specs.Types.{MemberCalls}
-use Rattle.sfv.specs.Types.{dictionary_field}
+use Rattle.sfv.specs.Types.{MemberCalls, dictionary_field}
 use Rattle.sfv.specs.Versions.{IsSerializeError}
 use Rattle.sfv_c.proofs.Fields.{text_err, script_fault, some_dictionary}
 use Rattle.sfv_c.proofs.write.dictionary_text.Goals as goal

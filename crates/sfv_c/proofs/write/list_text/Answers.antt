@@ -1,8 +1,7 @@
 use Rattle.std.proofs.Common.{map, ◌<◌, List, length, refl, subst}
 use Rattle.sfv.specs.Values.{bare_values}
 use Rattle.sfv.specs.Scripts.{member_of_calls}
-use Rattle.sfv.specs.Types.{MemberCalls}
-use Rattle.sfv.specs.Types.{list_field}
+use Rattle.sfv.specs.Types.{MemberCalls, list_field}
 use Rattle.sfv.specs.Versions.{IsSerializeError}
 use Rattle.sfv_c.proofs.Fields.{text_err, script_fault, some_list}
 use Rattle.sfv_c.proofs.write.list_text.Goals as goal

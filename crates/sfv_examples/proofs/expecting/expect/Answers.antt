@@ -1,6 +1,6 @@
-use Rattle.sfv.specs.Types.{item_field}
-use Rattle.sfv.specs.Types.{Rfc9651}
-use Rattle.sfv.proofs.Callers.{made_item, made_visited, made_syntax, made_visitor, made_first, expect_answers, expect_only}
+use Rattle.sfv.specs.Types.{item_field, Rfc9651}
+use Rattle.sfv.proofs.Callers.{made_item, made_visited, made_syntax, made_visitor, made_first, expect_answers}
+use Rattle.sfv.proofs.Callers.{expect_only}
 use Rattle.sfv_examples.proofs.Uses.{expected, expected_first, read_failed}
 use Rattle.sfv_examples.proofs.expecting.expect.Goals as goal
 

@@ -1,8 +1,8 @@
 use Rattle.std.proofs.lemmas.Result.{IfOk-weaker}
-use Rattle.sfv.specs.Types.{item_field}
-use Rattle.sfv.specs.Types.{Rfc9651}
+use Rattle.sfv.specs.Types.{item_field, Rfc9651}
 use Rattle.sfv.specs.HashSeeds.{library_seed}
-use Rattle.sfv.proofs.Callers.{made_item, made_visited, made_syntax, made_visitor, item_seeded, item_built, item_built_fails}
+use Rattle.sfv.proofs.Callers.{made_item, made_visited, made_syntax, made_visitor, item_seeded, item_built}
+use Rattle.sfv.proofs.Callers.{item_built_fails}
 use Rattle.sfv_examples.proofs.Uses.{read_failed}
 use Rattle.sfv_examples.proofs.expecting.item.Goals as goal
 

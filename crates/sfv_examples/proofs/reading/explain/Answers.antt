@@ -3,8 +3,7 @@ use Rattle.std.specs.Prelude.{Some}
 use Rattle.std.specs.List.{repeat}
 use Rattle.sfv.specs.Errors.{index_of, kind_of}
 use Rattle.sfv.specs.Messages.{message_of}
-use Rattle.sfv.specs.Types.{list_field}
-use Rattle.sfv.specs.Types.{Rfc9651}
+use Rattle.sfv.specs.Types.{list_field, Rfc9651}
 use Rattle.sfv.specs.Statements.{IsParsedAs}
 use Rattle.sfv.specs.Trees.{list_tree}
 use Rattle.sfv.proofs.Callers.{located_error}

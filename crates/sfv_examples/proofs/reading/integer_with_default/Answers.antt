@@ -1,7 +1,6 @@
 use Rattle.std.proofs.Common.{None, string_bytes, sym, ap}
 use Rattle.sfv.specs.BareItems.{bare_value}
-use Rattle.sfv.specs.Types.{item_field}
-use Rattle.sfv.specs.Types.{Rfc9651}
+use Rattle.sfv.specs.Types.{item_field, Rfc9651}
 use Rattle.sfv.specs.NumberValues.{integer_of}
 use Rattle.sfv.specs.Statements.{IsParsedAs}
 use Rattle.sfv.specs.Trees.{item_tree}

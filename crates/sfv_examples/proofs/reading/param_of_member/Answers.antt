@@ -1,8 +1,7 @@
 use Rattle.std.proofs.Common.{◌≡◌, ◌∙◌, ap}
 use Rattle.std.specs.Prelude.{Some}
 use Rattle.sfv.specs.Values.{BareValue}
-use Rattle.sfv.specs.Types.{dictionary_field}
-use Rattle.sfv.specs.Types.{Rfc9651}
+use Rattle.sfv.specs.Types.{dictionary_field, Rfc9651}
 use Rattle.sfv.specs.Statements.{IsParsedAs}
 use Rattle.sfv.specs.Trees.{dictionary_tree}
 use Rattle.sfv.specs.BareItems.{bare_value}

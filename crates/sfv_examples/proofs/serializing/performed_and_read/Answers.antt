@@ -1,9 +1,7 @@
 use Rattle.std.proofs.Common.{rules, ◌≡◌}
 use Rattle.std.proofs.lemmas.Result.{IfOk-weaker, IfErr-weaker}
-use Rattle.sfv.specs.Values.{RawField}
-use Rattle.sfv.specs.Types.{list_field}
-use Rattle.sfv.specs.Types.{Rfc9651}
-use Rattle.sfv.specs.Values.{bare_values}
+use Rattle.sfv.specs.Values.{RawField, bare_values}
+use Rattle.sfv.specs.Types.{list_field, Rfc9651}
 use Rattle.sfv.specs.Canonical.{canonical}
 use Rattle.sfv.specs.Trees.{list_tree}
 use Rattle.sfv.specs.Scripts.{described_list}

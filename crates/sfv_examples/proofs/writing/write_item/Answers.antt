@@ -1,6 +1,5 @@
 use Rattle.std.proofs.Common.{refl}
-use Rattle.sfv.specs.Types.{item_field}
-use Rattle.sfv.specs.Types.{Rfc9651}
+use Rattle.sfv.specs.Types.{item_field, Rfc9651}
 use Rattle.sfv.specs.Values.{bare_values}
 use Rattle.sfv.specs.BareItems.{ref_value}
 use Rattle.sfv.specs.CheckedTexts.{text_of as key_text}

@@ -1,4 +1,5 @@
-use Rattle.std.proofs.Common.{rules, ◌≡◌, [], true, ◌++◌, ◌∙◌, string_bytes, ap, append_assoc, subst, arith, Result, Ok, Err}
+use Rattle.std.proofs.Common.{rules, ◌≡◌, [], true, ◌++◌, ◌∙◌, string_bytes, ap, append_assoc, subst, arith, Result, Ok}
+use Rattle.std.proofs.Common.{Err}
 use Rattle.std.specs.Prelude.{OnErr}
 use Rattle.std.proofs.lemmas.Result.{err_from_is_err_and}
 use Rattle.std.specs.Iterator.{Yields}

@@ -1,8 +1,7 @@
 use Rattle.std.proofs.Common.{rules, ◌≡◌}
 use Rattle.std.proofs.lemmas.Result.{IfOk-weaker, IfErr-weaker}
 use Rattle.sfv.specs.Values.{RawItem}
-use Rattle.sfv.specs.Types.{item_field}
-use Rattle.sfv.specs.Types.{Rfc9651}
+use Rattle.sfv.specs.Types.{item_field, Rfc9651}
 use Rattle.sfv.specs.Canonical.{item_text}
 use Rattle.sfv.specs.BareItems.{ref_value}
 use Rattle.sfv.specs.CheckedTexts.{text_of as key_text}

@@ -6,7 +6,8 @@ use Rattle.sfv_values.specs.BareItems.{ref_value}
 use Rattle.sfv_writer.proofs.Separated.{anyway}
 use Rattle.sfv_serializer.specs.Serializers.{is_empty_so_far, KeepsSequence}
 use Rattle.sfv_serializer.specs.Scripts.{param_of_call, item_of_calls}
-use Rattle.sfv_serializer.proofs.Room.{unseparated, opening_lacks, either_lacks, ending_lacks, params_after_lack, params_lack, memory_lacks}
+use Rattle.sfv_serializer.proofs.Room.{unseparated, opening_lacks, either_lacks, ending_lacks, params_after_lack}
+use Rattle.sfv_serializer.proofs.Room.{params_lack, memory_lacks}
 use Rattle.sfv_serializer.proofs.Scripts.{begun_grown, more_grown, kept_grown, taken_away, away_grown, of_error}
 use Rattle.sfv_serializer.proofs.Scripts.{inner_ended}
 use Rattle.sfv_serializer.proofs.Steps.{params_text_more, are_params_more, kept_grows, more_at, more_after}

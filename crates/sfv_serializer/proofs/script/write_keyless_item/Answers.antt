@@ -7,8 +7,8 @@ use Rattle.sfv_writer.specs.Written.{separator_before, param_text}
 use Rattle.sfv_serializer.specs.Serializers.{is_empty_so_far}
 use Rattle.sfv_serializer.proofs.Scripts.{kept_grown, of_error}
 use Rattle.sfv_serializer.proofs.Room.{params_lack, memory_lacks}
-use Rattle.sfv_serializer.proofs.Steps.{put_before, params_text_more, are_params_more}
-use Rattle.sfv_serializer.proofs.Steps.{grows, kept_grows, more_at, more_after}
+use Rattle.sfv_serializer.proofs.Steps.{put_before, params_text_more, are_params_more, grows, kept_grows, more_at}
+use Rattle.sfv_serializer.proofs.Steps.{more_after}
 use Rattle.sfv_serializer.proofs.script.write_keyless_item.Goals as goal
 
 pub returns-in-Err-clause-out_of_memory : goal.returns-in-Err-clause-out_of_memory

@@ -5,7 +5,8 @@ use Rattle.sfv_serializer.specs.ScriptSteps.{supplied_member, member_calls}
 use Rattle.sfv_spec.specs.Values.{AllFit}
 use Rattle.sfv_writer.specs.Versions.{NamesFirstUnfit}
 use Rattle.sfv_spec.specs.Values.{member_values}
-use Rattle.sfv_writer.proofs.Checks.{at_exit, slice_more, slice_stops}
+use Rattle.sfv_writer.proofs.Checks.{at_exit}
+use Rattle.sfv_serializer.proofs.Slices.{slice_more, slice_stops}
 use Rattle.sfv_serializer.proofs.Handed.{list_supplied}
 use Rattle.sfv_serializer.proofs.version_check_of_calls.check_list_calls.Goals as goal
 

@@ -6,8 +6,8 @@ use Rattle.std.specs.Prelude.{flat_map}
 use Rattle.sfv_spec.proofs.Marks.{plain_of}
 use Rattle.sfv_writer.specs.Quoted.{held_of, piece_of}
 use Rattle.sfv_writer.proofs.Appended.{unchanged, stops}
-use Rattle.sfv_writer.proofs.Written.{none_written, whole_written, next_held, run_shortens, plain_utf8}
-use Rattle.sfv_writer.proofs.Written.{plain_itself, run_written, byte_written}
+use Rattle.sfv_writer.proofs.Written.{none_written, whole_written, next_held, run_shortens, plain_utf8, plain_itself}
+use Rattle.sfv_writer.proofs.Written.{run_written, byte_written}
 use Rattle.sfv_writer.proofs.quoted.serialize_pieces.Goals as goal
 
 pub from_utf8_unchecked-requires : goal.from_utf8_unchecked-requires

@@ -1,7 +1,6 @@
 use Rattle.std.proofs.Common.{string_bytes, option_map}
-use Rattle.sfv_spec.specs.Values.{HasMember}
+use Rattle.sfv_spec.specs.Values.{HasMember, bare_values}
 use Rattle.sfv_spec.specs.declared.field_kind.FieldKind.TheVariants.{Dictionary as dictionary_field}
-use Rattle.sfv_spec.specs.Values.{bare_values}
 use Rattle.sfv_tree.specs.Trees.{dictionary_tree}
 use Rattle.sfv_writer.proofs.Checks.{look_fails, memory_fails, named_has_member}
 use Rattle.sfv_writer.proofs.ReadBack.{serialized_for}

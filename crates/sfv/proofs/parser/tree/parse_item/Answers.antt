@@ -5,8 +5,7 @@ use Rattle.sfv_tree.specs.Trees.{item_tree}
 use Rattle.sfv.proofs.trees.Items.{item_rejected, item_syntax_memory, item_trailing, item_read}
 use Rattle.sfv_spec.specs.declared.field_kind.FieldKind.TheVariants.{Item as item_field}
 use Rattle.sfv.specs.declared.parser.Parser.{Parser}
-use Rattle.sfv.specs.parser.Cursor.{MayNeedMemory}
-use Rattle.sfv.specs.parser.Cursor.{kept_input}
+use Rattle.sfv.specs.parser.Cursor.{MayNeedMemory, kept_input}
 use Rattle.sfv.proofs.parser.tree.parse_item.Goals as goal
 
 pub returns-in-Err-Syntax-clause-rejected : goal.returns-in-Err-Syntax-clause-rejected

@@ -7,8 +7,8 @@ use Rattle.sfv_model.proofs.sound.Items.{Consumes-parameter}
 use Rattle.sfv.specs.parser.Cursor.{version, kept, rest}
 use Rattle.sfv.proofs.trees.Errors.{Any, NoMemory, as_fault}
 use Rattle.sfv.proofs.reads.Errors.{left_with, kept_reads}
-use Rattle.sfv.proofs.visits.Parameters.{of_visitor, visited_error, parameter_failed}
-use Rattle.sfv.proofs.trees.Parameters.{collected_none, collected_more, collected_all, as_visited}
+use Rattle.sfv.proofs.visits.Parameters.{of_visitor, visited_all, visited_error, parameter_failed}
+use Rattle.sfv.proofs.trees.Parameters.{collected_none, collected_more}
 use Rattle.sfv.proofs.parser.cursor.Cursor.collect_parameters.Goals as goal
 
 pub loop-parameter-init : goal.loop-parameter-init
@@ -22,7 +22,7 @@ loop-parameter-init c = record {
 pub returns-in_err-parameter-clause-tree : goal.returns-in_err-parameter-clause-tree
 returns-in_err-parameter-clause-tree c =
     rw (left_with c.from_residual.ensures.1) (as_fault (visited_error Any _ _ _ _ _ _ _ c.loop-parameter.invariant.kept
-    (as_visited _ _ _ _ c.loop-parameter.invariant.collected) c.in_err-parameter.ensures.read))
+    c.loop-parameter.invariant.collected.visited c.in_err-parameter.ensures.read))
 
 pub loop-parameter-smaller : goal.loop-parameter-smaller
 loop-parameter-smaller c =
@@ -46,15 +46,15 @@ returns-in_err-insert_parameter-clause-tree c =
     rw (left_with c.from_residual-in_err-insert_parameter.ensures.1) (as_fault (of_visitor Any NoMemory parameters_events
     (kept c.args.self.now) c.parameter.new.self tt tt (λ _. ⊤) _ _ c.in_err-insert_parameter.ensures.failed
     (λ fault failed. parameter_failed Any NoMemory _ _ _ _ _ _ _ _ fault
-    (as_visited _ _ _ _ c.loop-parameter.invariant.collected) read tt)))
+    c.loop-parameter.invariant.collected.visited read tt)))
 
 pub returns-clause-tree : goal.returns-clause-tree
 returns-clause-tree c =
     let e = rw c.in_default.is at c.in_ok-parameter.ensures.read in
     let read = kept_reads parameter_at _ _ _ c.loop-parameter.invariant.kept ∙ e.0 in
     let h = c.loop-parameter.invariant.collected in (
-      h.raw,
-      collected_all _ _ _ _ _ h read,
+      h.visited.raw,
+      (visited_all Any _ _ _ _ tt tt tt h.visited read tt).0,
       ap pairs_tree c.fit_after.ensures.entries ∙ h.built,
       e.1 ∙ c.loop-parameter.invariant.kept,
     )

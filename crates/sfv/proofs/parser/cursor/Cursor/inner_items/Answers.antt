@@ -1,12 +1,11 @@
 use Rattle.std.proofs.Common.{◌≡◌, ◌∙◌, true, false, ap, not, refl, []}
 use Rattle.std.specs.Prelude.{is_some}
-use Rattle.sfv_model.specs.Reader.{first}
+use Rattle.sfv_model.specs.Reader.{first, byte}
 use Rattle.sfv.specs.parser.Cursor.{rest}
 use Rattle.sfv.proofs.visits.Taken.{no_items_visited}
 use Rattle.sfv.proofs.reads.Delimiters.{items_closed, items_first}
 use Rattle.sfv.proofs.visits.Loops.{begun, shorter, first_fails, more, ended, delimiter_fails, one_fails, items_loop}
 use Rattle.sfv.proofs.reads.Errors.{left_with}
-use Rattle.sfv_model.specs.Reader.{byte}
 use Rattle.sfv_spec.proofs.Marks.{right_parenthesis}
 use Rattle.sfv.proofs.visits.AsRead.{begun_reads, more_reads, ended_reads}
 use Rattle.sfv.proofs.visits.Passed.{passes_then, passes_spaces, passes_if, Passing-item_delimiter}

@@ -16,9 +16,8 @@ use Rattle.sfv.proofs.trees.Errors.{Any, NoMemory, as_answer, as_fault, fails_af
 use Rattle.sfv.proofs.reads.Errors.{left_with, kept_reads}
 use Rattle.sfv.proofs.visits.InnerLists.{list_member_visits, item_member_visits}
 use Rattle.sfv.proofs.visits.Parts.{kept_visits}
-use Rattle.sfv.proofs.trees.Parts.{member_list_some, member_item_some}
+use Rattle.sfv.proofs.trees.Parts.{member_list_some, member_item_some, pushed_tree, pushed_seed}
 use Rattle.sfv.proofs.trees.Loops.{seed_kept}
-use Rattle.sfv.proofs.trees.Parts.{pushed_tree, pushed_seed}
 use Rattle.sfv.proofs.parser.cursor.Cursor.push_member.Goals as goal
 
 pub returns-in_err-make_room-clause-tree : goal.returns-in_err-make_room-clause-tree

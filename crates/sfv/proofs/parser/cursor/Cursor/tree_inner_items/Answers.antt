@@ -11,8 +11,8 @@ use Rattle.sfv.proofs.reads.Delimiters.{items_closed, items_first}
 use Rattle.sfv.proofs.reads.Errors.{left_with}
 use Rattle.sfv.proofs.visits.Loops.{shorter, first_fails, delimiter_fails, one_fails, items_loop}
 use Rattle.sfv.proofs.visits.Taken.{no_items_visited}
-use Rattle.sfv.proofs.trees.Loops.{as_so_far, as_one, built_first, built_more, built_all, items_with, item_added}
-use Rattle.sfv.proofs.trees.Loops.{seed_kept, keeps_seed}
+use Rattle.sfv.proofs.trees.Loops.{as_one, built_first, built_more, built_all, items_with, item_added, seed_kept}
+use Rattle.sfv.proofs.trees.Loops.{keeps_seed}
 use Rattle.sfv.proofs.parser.cursor.Cursor.tree_inner_items.Goals as goal
 
 pub returns-then-is_none-clause-tree : goal.returns-then-is_none-clause-tree
@@ -48,15 +48,15 @@ returns-in_err-push_inner_item-clause-tree c =
 
 pub loop-items-init : goal.loop-items-init
 loop-items-init c =
-    let one = c.in_ok-push_inner_item.ensures.tree in
     let same = c.take_if.ensures.kept ∙ c.skip_sp.ensures.kept in
     let seed = c.take_if.new.self.parser.seed in
     record {
       built = built_first items_loop (map ordered_item) items_with item_added c.args.self.now _ c.take_if.new.self
-          c.push_inner_item.new.self one.0 _ _
-          (items_first _ _ _ _ _ (rw (← c.peek.ensures) (c.is_none.ensures ∙ ap not c.if-is_none.false))
-          c.skip_sp.ensures.skipped.1 c.if-take_if.ensures.takes) same
-          (ap (map item_tree) c.new-items.ensures.items) (one.1, one.3) one.2;
+          c.push_inner_item.new.self _ _ (
+            items_first _ _ _ _ _ (rw (← c.peek.ensures) (c.is_none.ensures ∙ ap not c.if-is_none.false))
+                c.skip_sp.ensures.skipped.1 c.if-take_if.ensures.takes,
+            same,
+          ) (ap (map item_tree) c.new-items.ensures.items) c.in_ok-push_inner_item.ensures.tree;
       seed = seed_kept (λ s. All (ItemHasSeed s) c.push_inner_item.new.items.items) c.take_if.new.self
           c.args.self.now same (c.in_ok-push_inner_item.ensures.seed
           (subst (All (ItemHasSeed seed)) (sym c.new-items.ensures.items) (All-nil (ItemHasSeed seed))));
@@ -66,27 +66,26 @@ pub returns-in_err-consume_item_delimiter-clause-tree : goal.returns-in_err-cons
 returns-in_err-consume_item_delimiter-clause-tree c =
     rw (left_with c.from_residual-in_err-consume_item_delimiter.ensures.1) (as_fault (delimiter_fails Any NoMemory items_loop
     c.args.self.now _ c.loop-items.self c.consume_item_delimiter.new.self tt tt _
-    (as_so_far _ _ _ _ _ _ c.loop-items.invariant.built) c.in_err-consume_item_delimiter.ensures))
+    c.loop-items.invariant.built.visited c.in_err-consume_item_delimiter.ensures))
 
 pub loop-items-smaller : goal.loop-items-smaller
 loop-items-smaller c =
     let wanted = rw c.if-branch.true at c.in_ok-consume_item_delimiter.ensures in
-    let one = c.in_ok-push_inner_item-2.ensures.tree in
     shorter Any NoMemory items_loop c.loop-items.self c.consume_item_delimiter.new.self
-    c.push_inner_item-in-loop-items.new.self tt tt wanted (as_one items_loop c.consume_item_delimiter.new.self
-    c.push_inner_item-in-loop-items.new.self one.0 one.1 one.3)
+    c.push_inner_item-in-loop-items.new.self tt tt wanted (as_one items_loop items_with
+    c.consume_item_delimiter.new.self c.push_inner_item-in-loop-items.new.self _ _
+    c.in_ok-push_inner_item-2.ensures.tree)
 
 pub loop-items-preserved : goal.loop-items-preserved
 loop-items-preserved c =
     let wanted = rw c.if-branch.true at c.in_ok-consume_item_delimiter.ensures in
-    let one = c.in_ok-push_inner_item-2.ensures.tree in
     record {
       built = built_more items_loop (map ordered_item) items_with item_added c.args.self.now _ c.loop-items.self
-          c.consume_item_delimiter.new.self c.push_inner_item-in-loop-items.new.self one.0 _ _
-          c.loop-items.invariant.built wanted (one.1, one.3) one.2;
+          c.consume_item_delimiter.new.self c.push_inner_item-in-loop-items.new.self _ _ c.loop-items.invariant.built
+          wanted c.in_ok-push_inner_item-2.ensures.tree;
       seed = keeps_seed (λ s is. All (ItemHasSeed s) is) c.consume_item_delimiter.new.self c.args.self.now
           c.loop-items.items.items c.push_inner_item-in-loop-items.new.items.items
-          (wanted.1 ∙ c.loop-items.invariant.built.same) c.in_ok-push_inner_item-2.ensures.seed
+          (wanted.1 ∙ c.loop-items.invariant.built.visited.same) c.in_ok-push_inner_item-2.ensures.seed
           c.loop-items.invariant.seed;
     }
 
@@ -95,16 +94,11 @@ returns-in_err-push_inner_item-2-clause-tree c =
     let wanted = rw c.if-branch.true at c.in_ok-consume_item_delimiter.ensures in
     rw (left_with c.from_residual-in_err-push_inner_item-2.ensures.1) (as_fault (one_fails Any NoMemory items_loop
     c.args.self.now _ c.loop-items.self c.consume_item_delimiter.new.self c.push_inner_item-in-loop-items.new.self
-    tt tt tt _ (as_so_far _ _ _ _ _ _ c.loop-items.invariant.built) wanted
+    tt tt tt _ c.loop-items.invariant.built.visited wanted
     (as_answer c.in_err-push_inner_item-2.ensures.tree)))
 
 pub returns-clause-tree : goal.returns-clause-tree
 returns-clause-tree c =
     let wanted = rw c.if-branch.false at c.in_ok-consume_item_delimiter.ensures in
-    let h = c.loop-items.invariant.built in (
-      h.front,
-      built_all items_loop (map ordered_item) items_with item_added c.args.self.now _ c.loop-items.self
-          c.consume_item_delimiter.new.self _ h wanted,
-      h.is_built,
-      wanted.1 ∙ h.same,
-    )
+    built_all items_loop (map ordered_item) items_with item_added c.args.self.now _ c.loop-items.self
+    c.consume_item_delimiter.new.self _ c.loop-items.invariant.built wanted
