@@ -25,7 +25,7 @@ rt try --steps 1 --fail-alloc 1000 --cases "$room/cases" </dev/null >"$room/log"
 # `rt try` prints for each case the program's line, and then how the run ended.
 # `needed` and `spared` are the numbers of requests today, and of those that the calls can do without. More of them are a
 # needless request in some call.
-awk -v most="$most" -v needed=466 -v spared=24 '
+awk -v most="$most" -v needed=510 -v spared=25 '
     { lines = lines $0 "\n" }
     / is out of memory$/ { answer = "call " $2 }
     / made nevertheless$/ { answer = "usual" }

@@ -2,7 +2,7 @@
 
 use crate::reading::{Answer, is_answer, read, read_into_dictionary, read_into_list, write_for};
 use crate::{copies, scripts, visiting, writing};
-use sfv::{Dictionary, Error, ErrorKind, FieldKind, Item, List};
+use sfv::{Dictionary, Error, ErrorKind, FieldKind, Item, List, Version};
 use std::alloc::Global;
 
 /// A call, or a few calls that prepare one.
@@ -62,8 +62,9 @@ pub enum Call {
     FirstInnerList,
     /// Performs the calls of a field, for a version or not.
     Run(FieldKind, bool),
-    /// Parses a field with a visitor. The events are the digits of the number; memory runs out after those of the others.
-    Visit(FieldKind, &'static [u8], u64, &'static [u64]),
+    /// Parses a field with a visitor under the version. The events are the digits of the number; memory runs out after
+    /// those of the others.
+    Visit(Version, FieldKind, &'static [u8], u64, &'static [u64]),
 }
 
 /// The text of a byte sequence that is longer than what a serializer requests first.
@@ -184,16 +185,50 @@ pub const CALLS: &[Call] = &[
     Call::Run(FieldKind::Item, true),
     Call::Run(FieldKind::List, true),
     Call::Run(FieldKind::Dictionary, true),
-    Call::Visit(FieldKind::Item, b"\"a\\\\\";k=\"b\\\\\"", 567, &[0, 5]),
+    Call::Read(
+        FieldKind::List,
+        b"@1;a=1.5, (@2;b ?0;c=-3);d, tok;e=@4",
+        Answer::Text("@1;a=1.5, (@2;b ?0;c=-3);d, tok;e=@4"),
+    ),
     Call::Visit(
+        Version::Rfc9651,
+        FieldKind::Item,
+        b"\"a\\\\\";k=\"b\\\\\"",
+        567,
+        &[0, 5],
+    ),
+    Call::Visit(
+        Version::Rfc8941,
+        FieldKind::Item,
+        b":aGk=:;k=\"b\\\\\";l",
+        5667,
+        &[0, 5],
+    ),
+    Call::Visit(
+        Version::Rfc9651,
         FieldKind::List,
         b"(\"a\\\\\" \"b\\\\\";k=:aGk=:), \"c\\\\\"",
         143_573_567_871_357,
         &[143, 143_573, 1_435_735, 1_435_735_678_713],
     ),
     Call::Visit(
+        Version::Rfc8941,
+        FieldKind::List,
+        b"(\"a\\\\\" \"b\\\\\";k=:aGk=:), \"c\\\\\"",
+        143_573_567_871_357,
+        &[143, 143_573, 1_435_735, 1_435_735_678_713],
+    ),
+    Call::Visit(
+        Version::Rfc9651,
         FieldKind::Dictionary,
         b"a=\"b\\\\\", c=:aGk=:;d=%\"%c3%bc\"",
+        235_723_567,
+        &[23, 235_723, 2_357_235],
+    ),
+    Call::Visit(
+        Version::Rfc8941,
+        FieldKind::Dictionary,
+        b"a=\"b\\\\\", c=:aGk=:;d=\"e\\\\\"",
         235_723_567,
         &[23, 235_723, 2_357_235],
     ),
@@ -247,8 +282,8 @@ pub fn perform(alloc: Global, call: Call) -> Result<bool, Error> {
         Call::Value(field, row, old, new) => writing::value(alloc, field, row, old, new),
         Call::FirstInnerList => writing::first_inner_list(alloc),
         Call::Run(field, bound) => scripts::run(alloc, field, bound),
-        Call::Visit(field, input, whole, before) => {
-            visiting::visit(alloc, field, input, whole, before)
+        Call::Visit(version, field, input, whole, before) => {
+            visiting::visit(alloc, version, field, input, whole, before)
         }
     }
 }

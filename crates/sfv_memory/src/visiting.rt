@@ -2,7 +2,7 @@
 
 use crate::refused_if;
 use sfv::visitor::{Event, Visitor};
-use sfv::{Error, ErrorKind, FieldKind, ParseError, Parser};
+use sfv::{Error, ErrorKind, FieldKind, ParseError, Parser, Version};
 use std::alloc::Global;
 
 /// A visitor that appends the digit of each event to a borrowed number.
@@ -48,17 +48,18 @@ impl<'de, 'a> Visitor<'de> for Tracing<'a> {
     }
 }
 
-/// Parses a field with a visitor that never fails. Returns `true` if its trace is then `whole`. If memory runs out, the
-/// trace is one of `before`: all events before a text that is allocated.
+/// Parses a field under the version with a visitor that never fails. Returns `true` if its trace is then `whole`. If
+/// memory runs out, the trace is one of `before`: all events before a text that is allocated.
 pub fn visit(
     alloc: Global,
+    version: Version,
     field: FieldKind,
     input: &[u8],
     whole: u64,
     before: &[u64],
 ) -> Result<bool, Error> {
     let mut trace = 0;
-    let parser = Parser::new(input);
+    let parser = Parser::new(input).with_version(version);
     let visitor = Tracing { trace: &mut trace };
     let visited = match field {
         FieldKind::Item => parser.parse_item_with_visitor(alloc, visitor),
