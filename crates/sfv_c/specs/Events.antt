@@ -1,15 +1,21 @@
 -- Events in rows that point to their texts.
-use Rattle.std.specs.Prelude.{◌≡◌, ℕ, ◌+◌, ◌-◌, ◌^◌, ◌≤◌, ◌⊎◌, min, List, [], ◌∷◌, length, drop, ◌++◌, sum, MatchOption}
-use Rattle.std.specs.Prelude.{Result, Ok, Err, nat_le, ◌&&◌, if◌then◌else◌}
-use Rattle.std.specs.List.{AllZip}
+use Rattle.std.specs.Prelude.{◌≡◌, ℕ, ◌+◌, ◌-◌, ◌^◌, ◌≤◌, min, List, [], ◌∷◌, length, map, drop, ◌++◌, Result, Ok, Err}
+use Rattle.std.specs.Prelude.{nat_le, ◌&&◌, if◌then◌else◌}
+use Rattle.std.specs.List.{AllZip, sum_by}
 use Rattle.std.specs.Borrow.{MutBor}
 use Rattle.std.specs.declared.alloc.Global.{Global}
 use Rattle.std.specs.declared.vec.Vec.{Vec}
-use Rattle.sfv.specs.Values.{BareValue, byte_sequence, string, display_string}
+use Rattle.std.specs.Cow.{cow_str_bytes}
 use Rattle.sfv.specs.Types.{FieldKind, Version, Error}
+use Rattle.sfv.specs.Types.bare_items as bare
 use Rattle.sfv.specs.Grammar.{HasField}
-use Rattle.sfv.specs.Events.{TreeEvent, events, value_in}
-use Rattle.sfv.specs.Parsers.{IsParseError}
+use Rattle.sfv.specs.Events.{TreeEvent, events}
+use Rattle.sfv.specs.EventValues.{event_of}
+use Rattle.sfv.specs.BareItems.{read_text, is_borrowed_string, is_borrowed_text}
+use Rattle.sfv.specs.ProvidedVisitors.{ReadBareItem}
+use Rattle.sfv.specs.Parsers.{IsParseError, AreReadFrom}
+use Rattle.sfv_tree.specs.declared.visitor.Event.{Event}
+use Rattle.sfv_tree.specs.declared.visitor.Event.TheVariants as event
 use Rattle.sfv_c.specs.declared.answer.Answer.{Answer}
 use Rattle.sfv_c.specs.declared.rows.Row.{Row}
 use Rattle.sfv_c.specs.declared.events.Collector.{Collector}
@@ -20,17 +26,19 @@ use Rattle.sfv_c.specs.Rows.{EventNumbers, numbers_of, row_parts, IsRowOf}
 abbrev pub counted : ℕ → ℕ
 counted n = min n (2 ^ 64 - 1)
 
--- The value takes `n` bytes of room. A byte sequence takes its length. A string or a display string takes its length if
--- it is decoded, and nothing if it is borrowed from the input.
-abbrev pub IsRoomOfValue : BareValue → ℕ → Type 0
-IsRoomOfValue (byte_sequence b) n = n ≡ length b
-IsRoomOfValue (string s) n = (n ≡ 0) ⊎ (n ≡ length s)
-IsRoomOfValue (display_string s) n = (n ≡ 0) ⊎ (n ≡ length s)
-IsRoomOfValue v n = n ≡ 0
+-- The bytes of room for a value, as read: the length of a decoded text or byte sequence, and 0 for a text that is
+-- borrowed from the input.
+abbrev pub room_of_read : ReadBareItem → ℕ
+room_of_read (bare.String text) = if is_borrowed_string text then 0 else length (read_text text)
+room_of_read (bare.ByteSequence bytes) = length bytes.items
+room_of_read (bare.DisplayString text) = if is_borrowed_text text then 0 else length (cow_str_bytes text)
+room_of_read read = 0
 
--- the event takes `n` bytes of room
-abbrev pub IsRoomOf : TreeEvent → ℕ → Type 0
-IsRoomOf e n = MatchOption (value_in e) (n ≡ 0) (λ v. IsRoomOfValue v n)
+-- the bytes of room for an event
+abbrev pub room_of : Event → ℕ
+room_of (event.BareItem read) = room_of_read read
+room_of (event.Parameter key read) = room_of_read read
+room_of e = 0
 
 -- the collector of these rows and this room, of which nothing is used
 abbrev pub collector_of : Vec Row Global → MutBor (List ℕ) → Collector
@@ -45,22 +53,24 @@ pub record IsRowKept (before : Collector) (p : EventNumbers) (n : ℕ) (after : 
       → (row_parts row ≡ p) × (length after.room.now + n ≡ length before.room.now)
 
 -- the collector after an event
-abbrev pub TakesRow : Collector → TreeEvent → Collector → Type 0
-TakesRow before e after = (n : ℕ) × IsRoomOf e n × IsRowKept before (numbers_of e) n after
+abbrev pub TakesRow : Collector → Event → Collector → Type 0
+TakesRow before e after = IsRowKept before (numbers_of (event_of e)) (room_of e) after
 
--- There is one row for each event, and the rows take `used` bytes of room, at most the largest 64-bit number. If these
--- bytes fit, the rows are the rows of the events.
-pub record AreCollected (es : List TreeEvent) (room : ℕ) (rows : List Row) (used : ℕ) : Type 0 where
-  pub rooms : List ℕ
-  pub rooms_of : AllZip IsRoomOf es rooms
-  pub used_is : used ≡ counted (sum rooms)
+-- There is one row for each of these events, which were read from the input (`AreReadFrom`). The rows take `used` bytes
+-- of room, at most the largest 64-bit number. If these bytes fit, the rows are the rows of the events.
+pub record AreCollected (version : Version) (es : List TreeEvent) (input : List ℕ) (room : ℕ) (rows : List Row) (used : ℕ)
+    : Type 0 where
+  pub read : List Event
+  pub events_of : map event_of read ≡ es
+  pub read_from : AreReadFrom version read input
+  pub used_is : used ≡ counted (sum_by room_of read)
   pub count : length rows ≡ length es
   pub rows_of : used ≤ room → AllZip IsRowOf rows es
 
 -- the same for the events of the only field that the grammar gives the input
 abbrev pub AreRows : Version → FieldKind → List ℕ → ℕ → List Row → ℕ → Type 0
 AreRows version kind input room rows used =
-    HasField version kind input (λ raw. AreCollected (events kind raw) room rows used)
+    HasField version kind input (λ raw. AreCollected version (events kind raw) input room rows used)
 
 -- the buffer and the result: the rows are written if they and their texts fit, otherwise the buffer is unchanged
 abbrev pub copied : List Row → ℕ → List Row → ℕ → List Row × Answer

@@ -1,10 +1,10 @@
 //! Events as rows, which point to their texts: into the input, or to the decoded text in a borrowed buffer.
 
-ghost use Rattle.std.specs.Prelude.{◌≡◌, ◌≤◌, ◌<◌, ◌^◌, ◌+◌, ℕ, [], ⊤, pos, Some, None, length, OnOk, IfOk, IfErr};
+ghost use Rattle.std.specs.Prelude.{◌≡◌, ◌≤◌, ◌<◌, ◌^◌, ◌+◌, [], ⊤, pos, Some, None, length, OnOk, IfOk, IfErr};
 ghost use Rattle.sfv.specs.BareItems.{input_value};
 ghost use Rattle.sfv.specs.Parsers.{input_of, version_of, IsParseError};
 ghost use Rattle.sfv_c.specs.Rows.{row_parts, value_numbers};
-ghost use Rattle.sfv_c.specs.Events.{counted, collector_of, IsRoomOfValue, IsRowKept, TakesRow, AreRows, copied};
+ghost use Rattle.sfv_c.specs.Events.{counted, collector_of, room_of_read, IsRowKept, TakesRow, AreRows, copied};
 ghost use Rattle.sfv_c.specs.Events.{PutsEvents};
 
 use crate::answer::{Answer, OK, TOO_SMALL};
@@ -160,11 +160,11 @@ impl<'a> Collector<'a> {
         key: &'a [u8],
         item: BareItemFromInput<'a>,
     ) -> Result<(), OutOfMemory>
-        ensures { OnOk result ((n : ℕ) × IsRoomOfValue (input_value item.entry) n × IsRowKept self.old (record {
+        ensures { OnOk result (IsRowKept self.old (record {
           tag = tag;
           key = key.now;
           value = value_numbers (Some (input_value item.entry));
-        }) n self.new) }
+        }) (room_of_read item.entry) self.new) }
     {
         match item {
             GenericBareItem::Integer(value) => self.keep_number(tag, key, 1, value.to_i64()),
@@ -200,7 +200,9 @@ impl<'a> Visitor<'a> for Collector<'a> {
 
     type Error = OutOfMemory;
 
-    ghost takes = { TakesRow };
+    ghost takes = { λ _ _ _. ⊤ };
+
+    ghost takes_read = { TakesRow };
 
     ghost fails = { λ _ _ _. ⊤ };
 
