@@ -22,31 +22,31 @@ use Rattle.sfv_c.proofs.Valid.{valid_field}
 use Rattle.sfv_c.proofs.RowEvents.{reads_valid, reads_rows}
 use Rattle.sfv_c.proofs.Memory.{field_after_two}
 
-pub field_of : (kind : FieldKind) (rows : List Row) (bytes : List ℕ) (raw : RawField kind)
-    → Reads bytes rows (events kind raw) [] → AreRowsOfField kind rows bytes raw
-field_of kind rows bytes raw h = record {
-  value = valid_field kind raw (reads_valid bytes rows (events kind raw) [] h);
-  in_rows = reads_rows bytes rows (events kind raw) h;
+pub field_of : (kind : FieldKind) (rows : List Row) (raw : RawField kind)
+    → Reads rows (events kind raw) [] → AreRowsOfField kind rows raw
+field_of kind rows raw h = record {
+  value = valid_field kind raw (reads_valid rows (events kind raw) [] h);
+  in_rows = reads_rows rows (events kind raw) h;
 }
 
-pub outcome_err : (version : Version) (kind : FieldKind) (rows : List Row) (bytes old : List ℕ) (r : Result Written CallFault)
-    (f : CallFault) → IsErrAnd r (λ x. x ≡ f) → IsWriteFault version kind rows bytes f
-    → IsWriteOutcome version kind rows bytes old old r
-outcome_err version kind rows bytes old (Ok w) f h q = absurd h
-outcome_err version kind rows bytes old (Err x) f h q = (subst (IsWriteFault version kind rows bytes) (sym h) q, refl)
+pub outcome_err : (version : Version) (kind : FieldKind) (rows : List Row) (old : List ℕ) (r : Result Written CallFault)
+    (f : CallFault) → IsErrAnd r (λ x. x ≡ f) → IsWriteFault version kind rows f
+    → IsWriteOutcome version kind rows old old r
+outcome_err version kind rows old (Ok w) f h q = absurd h
+outcome_err version kind rows old (Err x) f h q = (subst (IsWriteFault version kind rows) (sym h) q, refl)
 
 -- an error of a script
-pub text_err : (version : Version) (kind : FieldKind) (rows : List Row) (bytes : List ℕ)
+pub text_err : (version : Version) (kind : FieldKind) (rows : List Row)
     (r : Result (Option (std_string.String Global)) CallFault) (e : SerializeError) → IsErrAnd r (λ x. x ≡ faults.Write e)
-    → IsWriteFault version kind rows bytes (faults.Write e) → IsTextMade version kind rows bytes r
-text_err version kind rows bytes (Ok t) e h q = absurd h
-text_err version kind rows bytes (Err x) e h q = subst (IsWriteFault version kind rows bytes) (sym h) q
+    → IsWriteFault version kind rows (faults.Write e) → IsTextMade version kind rows r
+text_err version kind rows (Ok t) e h q = absurd h
+text_err version kind rows (Err x) e h q = subst (IsWriteFault version kind rows) (sym h) q
 
-pub script_fault : (version : Version) (kind : FieldKind) (rows : List Row) (bytes : List ℕ) (raw : RawField kind)
-    → AreRowsOfField kind rows bytes raw → 1 < length (events kind raw) → (e : SerializeError)
-    → IsSerializeError version (bare_values kind raw) e → IsWriteFault version kind rows bytes (faults.Write e)
-script_fault version kind rows bytes raw h some errors.OutOfMemory s = field_after_two bytes kind rows raw h some
-script_fault version kind rows bytes raw h some (errors.Unsupported unfit) s =
+pub script_fault : (version : Version) (kind : FieldKind) (rows : List Row) (raw : RawField kind)
+    → AreRowsOfField kind rows raw → 1 < length (events kind raw) → (e : SerializeError)
+    → IsSerializeError version (bare_values kind raw) e → IsWriteFault version kind rows (faults.Write e)
+script_fault version kind rows raw h some errors.OutOfMemory s = field_after_two kind rows raw h some
+script_fault version kind rows raw h some (errors.Unsupported unfit) s =
     record { raw = raw; rows_of = h; error = s }
 
 pub some_item : (i : RawItem) → 1 < length (events item_field i)

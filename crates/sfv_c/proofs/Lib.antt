@@ -9,3 +9,4 @@ pub mod RowEvents
 pub mod WrongRows
 pub mod Memory
 pub mod Fields
+pub mod Runs

@@ -74,31 +74,31 @@ first_events kind n es b = record {
       ∙ append_assoc (take n es) (drop n es) b.more);
 }
 
-module _ (bytes : List ℕ) (kind : FieldKind) (rows : List Row) where
-  pub out_after_two : RunsOut bytes (beginning kind) rows
-      → (1 < length rows) × BeginRowsOfField kind (take 2 rows) bytes
+module _ (kind : FieldKind) (rows : List Row) where
+  pub out_after_two : RunsOut (beginning kind) rows
+      → (1 < length rows) × BeginRowsOfField kind (take 2 rows)
   out_after_two s =
       let all = s.es ++ s.last ∷ [] in
       let next = may_come s.place s.last s.allocates in
       let long : 1 < length all =
       omega (arith, some_before kind s.es s.place s.last s.allocates s.leads, length-append s.es (s.last ∷ [])) in (
-        omega (arith, long, reads_length bytes rows all s.rest s.read),
+        omega (arith, long, reads_length rows all s.rest s.read),
         record {
           es = take 2 all;
-          in_rows = reads_first bytes rows all s.rest 2 (omega (arith, long)) s.read;
-          begins = first_events kind 2 all (begin_field kind all next.0 (reads_valid bytes rows all s.rest s.read)
+          in_rows = reads_first rows all s.rest 2 (omega (arith, long)) s.read;
+          begins = first_events kind 2 all (begin_field kind all next.0 (reads_valid rows all s.rest s.read)
               (λ more. ap (stops (beginning kind)) (append_assoc s.es (s.last ∷ []) more)
               ∙ (s.leads (s.last ∷ more) ∙ a_place (parameters s.place) next.0 s.last more next.1)));
         },
       )
 
-  pub field_after_two : (raw : RawField kind) → AreRowsOfField kind rows bytes raw → 1 < length (events kind raw)
-      → (1 < length rows) × BeginRowsOfField kind (take 2 rows) bytes
+  pub field_after_two : (raw : RawField kind) → AreRowsOfField kind rows raw → 1 < length (events kind raw)
+      → (1 < length rows) × BeginRowsOfField kind (take 2 rows)
   field_after_two raw h some = (
-    omega (arith, some, rows_length bytes rows (events kind raw) h.in_rows),
+    omega (arith, some, rows_length rows (events kind raw) h.in_rows),
     record {
       es = take 2 (events kind raw);
-      in_rows = rows_first bytes 2 rows (events kind raw) h.in_rows;
+      in_rows = rows_first 2 rows (events kind raw) h.in_rows;
       begins = first_events kind 2 (events kind raw)
           (record { raw = raw; is_value = h.value; more = []; all = sym (append-nil (events kind raw)) });
     },

@@ -1,8 +1,7 @@
 -- Where the reading of rows stops.
-use Rattle.std.proofs.Common.{◌≡◌, ℕ, List, [], ◌∷◌, ◌++◌, length, map, flat_map, refl, sym, ◌∙◌, ap, subst, arith}
-use Rattle.std.proofs.Common.{append_assoc, Bool, true, false, IsTrue, ◌==◌, Option, Some, None, Result, Ok, Err}
+use Rattle.std.proofs.Common.{◌≡◌, ℕ, List, [], ◌∷◌, ◌++◌, length, map, flat_map, refl, sym, ◌∙◌, ap, subst}
+use Rattle.std.proofs.Common.{append_assoc, Bool, true, false, IsTrue, Option, Some, None, Result, Ok, Err}
 use Rattle.std.specs.Result.{IsErrAnd, IfErr}
-use Rattle.std.proofs.lemmas.Bool.Decides.{nat_tests}
 use Rattle.std.proofs.lemmas.List.{append-nil, map-append}
 use Rattle.std.proofs.lemmas.Grind.{flat_map-append}
 use Rattle.std.proofs.lemmas.List.Elements.{filter-append}
@@ -20,8 +19,8 @@ use Rattle.sfv_c.specs.declared.rows.Row.{Row}
 use Rattle.sfv_c.specs.declared.rows_to_calls.ParseStop.{ParseStop}
 use Rattle.sfv_c.specs.declared.rows_to_calls.ParseStop.TheVariants as stop
 use Rattle.sfv_c.specs.RowEvents.{ParseState, ended, list_members, dictionary_members, member, value, parameters, items}
-use Rattle.sfv_c.specs.RowEvents.{IsValidEvent, stops, after, may_end, Reads, IsStuck, StopsAt, IsStop, takes_memory}
-use Rattle.sfv_c.specs.Writing.{IsRowOf}
+use Rattle.sfv_c.specs.RowEvents.{IsValidEvent, stops, after, may_end, Reads, IsStuck, IsStop, takes_memory}
+use Rattle.sfv_c.specs.Rows.{IsRowOf}
 use Rattle.sfv_c.proofs.Places.{stops_parameters, stops_items}
 use Rattle.sfv_c.proofs.RowEvents.{reads_on}
 
@@ -45,129 +44,113 @@ a_place p q e es h = subst
     (λ (o : Option ParseState). elim o [ None ↦ Some (length (e ∷ es)) | Some next ↦ stops next es ] ≡ stops q es)
     (sym h) refl
 
-pub no_row : (rows : List Row) → length rows ≡ 0 → rows ≡ []
-no_row [] h = refl
-no_row (row ∷ rows) h = absurd (omega (arith, h))
+pub stop_here : (p : ParseState) (rows : List Row) (s : ParseStop) → IsStuck p rows → s ≡ stop.At (length rows)
+    → IsStop p rows s
+stop_here p rows s k c = subst (IsStop p rows) (sym c)
+    (record { es = []; rest = rows; place = p; read = refl; leads = λ more. refl; stuck = k; count = refl })
 
-module _ (bytes : List ℕ) where
-  pub stop_here : (p : ParseState) (rows : List Row) (n : ℕ) → IsStuck bytes p rows → n ≡ length rows → StopsAt bytes p rows n
-  stop_here p rows n k c =
-      record { es = []; rest = rows; place = p; read = refl; leads = λ more. refl; stuck = k; count = c }
+-- a stop further on is one from here
+pub stop_after : (p q : ParseState) (rows : List Row) (es : List TreeEvent) (mid : List Row) → Reads rows es mid
+    → ((more : List TreeEvent) → stops p (es ++ more) ≡ stops q more) → (s : ParseStop) → IsStop q mid s
+    → IsStop p rows s
+stop_after p q rows es mid r l (stop.At n) h = record {
+  es = es ++ h.es;
+  rest = h.rest;
+  place = h.place;
+  read = reads_on rows es mid h.es h.rest r h.read;
+  leads = λ more. ap (stops p) (append_assoc es h.es more) ∙ (l (h.es ++ more) ∙ h.leads more);
+  stuck = h.stuck;
+  count = h.count;
+}
+stop_after p q rows es mid r l stop.Memory h = record {
+  es = es ++ h.es;
+  last = h.last;
+  rest = h.rest;
+  place = h.place;
+  read = subst (λ (x : List TreeEvent). Reads rows x h.rest) (sym (append_assoc es h.es (h.last ∷ [])))
+      (reads_on rows es mid (h.es ++ h.last ∷ []) h.rest r h.read);
+  leads = λ more. ap (stops p) (append_assoc es h.es more) ∙ (l (h.es ++ more) ∙ h.leads more);
+  allocates = h.allocates;
+}
 
-  -- a stop further on is one from here
-  pub stop_after : (p q : ParseState) (rows : List Row) (es : List TreeEvent) (mid : List Row) → Reads bytes rows es mid
-      → ((more : List TreeEvent) → stops p (es ++ more) ≡ stops q more) → (s : ParseStop) → IsStop bytes q mid s
-      → IsStop bytes p rows s
-  stop_after p q rows es mid r l (stop.At n) h = record {
-    es = es ++ h.es;
-    rest = h.rest;
-    place = h.place;
-    read = reads_on bytes rows es mid h.es h.rest r h.read;
-    leads = λ more. ap (stops p) (append_assoc es h.es more) ∙ (l (h.es ++ more) ∙ h.leads more);
-    stuck = h.stuck;
-    count = h.count;
-  }
-  stop_after p q rows es mid r l stop.Memory h = record {
-    es = es ++ h.es;
-    last = h.last;
-    rest = h.rest;
-    place = h.place;
-    read = subst (λ (x : List TreeEvent). Reads bytes rows x h.rest) (sym (append_assoc es h.es (h.last ∷ [])))
-        (reads_on bytes rows es mid (h.es ++ h.last ∷ []) h.rest r h.read);
-    leads = λ more. ap (stops p) (append_assoc es h.es more) ∙ (l (h.es ++ more) ∙ h.leads more);
-    allocates = h.allocates;
-  }
+-- the same after one event more
+pub after_event : (p q next : ParseState) (rows : List Row) (es : List TreeEvent) (left : List Row) (e : TreeEvent)
+    (rest : List Row) → Reads rows es left → ((more : List TreeEvent) → stops p (es ++ more) ≡ stops q more)
+    → Reads left (e ∷ []) rest → after q e ≡ Some next → (s : ParseStop) → IsStop next rest s
+    → IsStop p rows s
+after_event p q next rows es left e rest r l h a s k = stop_after p q rows es left r l s
+    (stop_after q next left (e ∷ []) rest h (λ more. a_place q next e more a) s k)
 
-  -- the same after one event more
-  pub after_event : (p q next : ParseState) (rows : List Row) (es : List TreeEvent) (left : List Row) (e : TreeEvent)
-      (rest : List Row) → Reads bytes rows es left → ((more : List TreeEvent) → stops p (es ++ more) ≡ stops q more)
-      → Reads bytes left (e ∷ []) rest → after q e ≡ Some next → (s : ParseStop) → IsStop bytes next rest s
-      → IsStop bytes p rows s
-  after_event p q next rows es left e rest r l h a s k = stop_after p q rows es left r l s
-      (stop_after q next left (e ∷ []) rest h (λ more. a_place q next e more a) s k)
+-- where no event can come, or there is none
+pub stuck_at : (p : ParseState) (rows : List Row) (row : Row) (rest : List Row) → rows ≡ row ∷ rest
+    → ((e : TreeEvent) → IsValidEvent e → IsRowOf row e → after p e ≡ None) → IsStuck p rows
+stuck_at p rows row rest is h = subst (IsStuck p) (sym is) h
 
-  -- where no event can come, or there is none
-  pub stuck_at : (p : ParseState) (rows : List Row) (row : Row) (rest : List Row) → rows ≡ row ∷ rest
-      → ((e : TreeEvent) → IsValidEvent e → IsRowOf bytes row e → after p e ≡ None) → IsStuck bytes p rows
-  stuck_at p rows row rest is h = subst (IsStuck bytes p) (sym is) h
+pub stuck_end : (p : ParseState) (rows : List Row) → rows ≡ [] → may_end p ≡ false → IsStuck p rows
+stuck_end p rows is h = subst (IsStuck p) (sym is) h
 
-  pub stuck_end : (p : ParseState) (rows : List Row) → length rows ≡ 0 → may_end p ≡ false → IsStuck bytes p rows
-  stuck_end p rows is h = subst (IsStuck bytes p) (sym (no_row rows is)) h
+-- the same after events that were read
+pub stopped_at : (p q : ParseState) (rows : List Row) (es : List TreeEvent) (left : List Row) → Reads rows es left
+    → ((more : List TreeEvent) → stops p (es ++ more) ≡ stops q more) → IsStuck q left
+    → (s : ParseStop) → s ≡ stop.At (length left) → IsStop p rows s
+stopped_at p q rows es left r l k s e = stop_after p q rows es left r l s (stop_here q left s k e)
 
-  -- the same after events that were read
-  pub stopped_at : (p q : ParseState) (rows : List Row) (es : List TreeEvent) (left : List Row) → Reads bytes rows es left
-      → ((more : List TreeEvent) → stops p (es ++ more) ≡ stops q more) → IsStuck bytes q left
-      → StopsAt bytes p rows (length left)
-  stopped_at p q rows es left r l k =
-      stop_after p q rows es left r l (stop.At (length left)) (stop_here q left (length left) k refl)
+-- memory runs out at the last parameter, at the end of an item, and at the end of a member
+pub out_at_parameter : (p : ParseState) (rows : List Row) (ps : RawParameters) (left : List Row) (key : List ℕ)
+    (v : BareValue) (rest : List Row) → Reads rows (map (λ q. parameter q.0 q.1) ps) left
+    → Reads left (parameter key v ∷ []) rest → IsStop (parameters p) rows stop.Memory
+out_at_parameter p rows ps left key v rest h k = record {
+  es = map (λ q. parameter q.0 q.1) ps;
+  last = parameter key v;
+  rest = rest;
+  place = p;
+  read = reads_on rows (map (λ q. parameter q.0 q.1) ps) left (parameter key v ∷ []) rest h k;
+  leads = stops_parameters p ps;
+  allocates = refl;
+}
 
-  -- memory runs out at the last parameter, at the end of an item, and at that of a member
-  pub out_at_parameter : (p : ParseState) (rows : List Row) (ps : RawParameters) (left : List Row) (key : List ℕ)
-      (v : BareValue) (rest : List Row) → Reads bytes rows (map (λ q. parameter q.0 q.1) ps) left
-      → Reads bytes left (parameter key v ∷ []) rest → IsStop bytes (parameters p) rows stop.Memory
-  out_at_parameter p rows ps left key v rest h k = record {
-    es = map (λ q. parameter q.0 q.1) ps;
-    last = parameter key v;
-    rest = rest;
-    place = p;
-    read = reads_on bytes rows (map (λ q. parameter q.0 q.1) ps) left (parameter key v ∷ []) rest h k;
-    leads = stops_parameters p ps;
-    allocates = refl;
-  }
+pub out_at_item : (p : ParseState) (rows : List Row) (i : RawItem) (rest : List Row) → Reads rows (item_events i) rest
+    → IsTrue (takes_memory parameters_end p) → IsStop (value p) rows stop.Memory
+out_at_item p rows i rest h t = record {
+  es = bare_item i.bare ∷ map (λ q. parameter q.0 q.1) i.parameters;
+  last = parameters_end;
+  rest = rest;
+  place = p;
+  read = h;
+  leads = stops_parameters p i.parameters;
+  allocates = t;
+}
 
-  pub out_at_item : (p : ParseState) (rows : List Row) (i : RawItem) (rest : List Row) → Reads bytes rows (item_events i) rest
-      → IsTrue (takes_memory parameters_end p) → IsStop bytes (value p) rows stop.Memory
-  out_at_item p rows i rest h t = record {
-    es = bare_item i.bare ∷ map (λ q. parameter q.0 q.1) i.parameters;
-    last = parameters_end;
-    rest = rest;
-    place = p;
-    read = h;
-    leads = stops_parameters p i.parameters;
-    allocates = t;
-  }
+pub out_at_member : (p : ParseState) (rows : List Row) (m : RawMember) (rest : List Row)
+    → Reads rows (member_events m) rest → IsTrue (takes_memory parameters_end p)
+    → IsStop (member p) rows stop.Memory
+out_at_member p rows (item i) rest h t = record {
+  es = begins_item ∷ bare_item i.bare ∷ map (λ q. parameter q.0 q.1) i.parameters;
+  last = parameters_end;
+  rest = rest;
+  place = p;
+  read = h;
+  leads = stops_parameters p i.parameters;
+  allocates = t;
+}
+out_at_member p rows (inner_list l) rest h t =
+    let is = flat_map inner_item_events l.items in
+    let ps = map (λ q. parameter q.0 q.1) l.parameters in
+    record {
+      es = begins_inner_list ∷ (is ++ inner_list_end ∷ ps);
+      last = parameters_end;
+      rest = rest;
+      place = p;
+      read = subst (λ (x : List TreeEvent). Reads rows (begins_inner_list ∷ x) rest)
+          (sym (append_assoc is (inner_list_end ∷ ps) (parameters_end ∷ []))) h;
+      leads = λ more. ap (stops (items p)) (append_assoc is (inner_list_end ∷ ps) more)
+          ∙ (stops_items p l.items (inner_list_end ∷ (ps ++ more)) ∙ stops_parameters p l.parameters more);
+      allocates = t;
+    }
 
-  pub out_at_member : (p : ParseState) (rows : List Row) (m : RawMember) (rest : List Row)
-      → Reads bytes rows (member_events m) rest → IsTrue (takes_memory parameters_end p)
-      → IsStop bytes (member p) rows stop.Memory
-  out_at_member p rows (item i) rest h t = record {
-    es = begins_item ∷ bare_item i.bare ∷ map (λ q. parameter q.0 q.1) i.parameters;
-    last = parameters_end;
-    rest = rest;
-    place = p;
-    read = h;
-    leads = stops_parameters p i.parameters;
-    allocates = t;
-  }
-  out_at_member p rows (inner_list l) rest h t =
-      let is = flat_map inner_item_events l.items in
-      let ps = map (λ q. parameter q.0 q.1) l.parameters in
-      record {
-        es = begins_inner_list ∷ (is ++ inner_list_end ∷ ps);
-        last = parameters_end;
-        rest = rest;
-        place = p;
-        read = subst (λ (x : List TreeEvent). Reads bytes rows (begins_inner_list ∷ x) rest)
-            (sym (append_assoc is (inner_list_end ∷ ps) (parameters_end ∷ []))) h;
-        leads = λ more. ap (stops (items p)) (append_assoc is (inner_list_end ∷ ps) more)
-            ∙ (stops_items p l.items (inner_list_end ∷ (ps ++ more)) ∙ stops_parameters p l.parameters more);
-        allocates = t;
-      }
-
-  -- nothing may follow an item
-  pub over : (rows : List Row) → (rows ≡ [] → ⊥) → IsStuck bytes ended rows
-  over [] h = absurd (h refl)
-  over (row ∷ rows) h = λ e v i. refl
-
-pub not_empty : (rows : List Row) → false ≡ (length rows == 0) → rows ≡ [] → ⊥
-not_empty [] h e = cc
-not_empty (row ∷ rows) h e = cc
-
-none_left : (n : ℕ) → true ≡ (n == 0) → n ≡ 0
-none_left n h = grind (arith, nat_tests)
-
-pub is_empty : (rows : List Row) → true ≡ (length rows == 0) → rows ≡ []
-is_empty rows h = no_row rows (none_left (length rows) h)
+-- nothing may follow an item
+pub over : (rows : List Row) (row : Row) (rest : List Row) → rows ≡ row ∷ rest → IsStuck ended rows
+over rows row rest h = subst (IsStuck ended) (sym h) (λ e v i. refl)
 
 -- by a test of what holds
 pub holds : (Q : Type 0) (b : Bool) → (IsTrue b → Q) × (Q → IsTrue b) → b ≡ true → Q
@@ -177,10 +160,10 @@ pub fails : (Q : Type 0) (b : Bool) → (IsTrue b → Q) × (Q → IsTrue b) →
 fails Q b h e q = let t = h.1 q in cc
 
 -- the events that may come at a place
-module _ (bytes : List ℕ) (p : ParseState) (row : Row) where
-  pub not_parameter : (IsRowOf bytes row parameters_end → ⊥)
-      → ((key : List ℕ) (v : BareValue) → IsTrue (is_key key) → IsBareValue v → IsRowOf bytes row (parameter key v) → ⊥)
-      → (e : TreeEvent) → IsValidEvent e → IsRowOf bytes row e → after (parameters p) e ≡ None
+module _ (p : ParseState) (row : Row) where
+  pub not_parameter : (IsRowOf row parameters_end → ⊥)
+      → ((key : List ℕ) (v : BareValue) → IsTrue (is_key key) → IsBareValue v → IsRowOf row (parameter key v) → ⊥)
+      → (e : TreeEvent) → IsValidEvent e → IsRowOf row e → after (parameters p) e ≡ None
   not_parameter h g entry b i = refl
   not_parameter h g (keyed_entry key) b i = refl
   not_parameter h g begins_item b i = refl
@@ -190,8 +173,8 @@ module _ (bytes : List ℕ) (p : ParseState) (row : Row) where
   not_parameter h g parameters_end b i = absurd (h i)
   not_parameter h g inner_list_end b i = refl
 
-  pub not_value : ((v : BareValue) → IsBareValue v → IsRowOf bytes row (bare_item v) → ⊥)
-      → (e : TreeEvent) → IsValidEvent e → IsRowOf bytes row e → after (value p) e ≡ None
+  pub not_value : ((v : BareValue) → IsBareValue v → IsRowOf row (bare_item v) → ⊥)
+      → (e : TreeEvent) → IsValidEvent e → IsRowOf row e → after (value p) e ≡ None
   not_value h entry b i = refl
   not_value h (keyed_entry key) b i = refl
   not_value h begins_item b i = refl
@@ -201,9 +184,9 @@ module _ (bytes : List ℕ) (p : ParseState) (row : Row) where
   not_value h parameters_end b i = refl
   not_value h inner_list_end b i = refl
 
-  pub not_item : (IsRowOf bytes row inner_list_end → ⊥)
-      → (IsRowOf bytes row begins_item → ⊥)
-      → (e : TreeEvent) → IsValidEvent e → IsRowOf bytes row e → after (items p) e ≡ None
+  pub not_item : (IsRowOf row inner_list_end → ⊥)
+      → (IsRowOf row begins_item → ⊥)
+      → (e : TreeEvent) → IsValidEvent e → IsRowOf row e → after (items p) e ≡ None
   not_item h g entry b i = refl
   not_item h g (keyed_entry key) b i = refl
   not_item h g begins_item b i = absurd (g i)
@@ -213,9 +196,9 @@ module _ (bytes : List ℕ) (p : ParseState) (row : Row) where
   not_item h g parameters_end b i = refl
   not_item h g inner_list_end b i = absurd (h i)
 
-  pub not_member : (IsRowOf bytes row begins_item → ⊥)
-      → (IsRowOf bytes row begins_inner_list → ⊥)
-      → (e : TreeEvent) → IsValidEvent e → IsRowOf bytes row e → after (member p) e ≡ None
+  pub not_member : (IsRowOf row begins_item → ⊥)
+      → (IsRowOf row begins_inner_list → ⊥)
+      → (e : TreeEvent) → IsValidEvent e → IsRowOf row e → after (member p) e ≡ None
   not_member h g entry b i = refl
   not_member h g (keyed_entry key) b i = refl
   not_member h g begins_item b i = absurd (h i)
@@ -225,9 +208,9 @@ module _ (bytes : List ℕ) (p : ParseState) (row : Row) where
   not_member h g parameters_end b i = refl
   not_member h g inner_list_end b i = refl
 
-module _ (bytes : List ℕ) (row : Row) where
-  pub not_entry : (IsRowOf bytes row entry → ⊥)
-      → (e : TreeEvent) → IsValidEvent e → IsRowOf bytes row e → after list_members e ≡ None
+module _ (row : Row) where
+  pub not_entry : (IsRowOf row entry → ⊥)
+      → (e : TreeEvent) → IsValidEvent e → IsRowOf row e → after list_members e ≡ None
   not_entry h entry b i = absurd (h i)
   not_entry h (keyed_entry key) b i = refl
   not_entry h begins_item b i = refl
@@ -237,8 +220,8 @@ module _ (bytes : List ℕ) (row : Row) where
   not_entry h parameters_end b i = refl
   not_entry h inner_list_end b i = refl
 
-  pub not_keyed : ((key : List ℕ) → IsTrue (is_key key) → IsRowOf bytes row (keyed_entry key) → ⊥)
-      → (e : TreeEvent) → IsValidEvent e → IsRowOf bytes row e → after dictionary_members e ≡ None
+  pub not_keyed : ((key : List ℕ) → IsTrue (is_key key) → IsRowOf row (keyed_entry key) → ⊥)
+      → (e : TreeEvent) → IsValidEvent e → IsRowOf row e → after dictionary_members e ≡ None
   not_keyed h entry b i = refl
   not_keyed h (keyed_entry key) b i = absurd (h key b i)
   not_keyed h begins_item b i = refl
@@ -249,23 +232,23 @@ module _ (bytes : List ℕ) (row : Row) where
   not_keyed h inner_list_end b i = refl
 
 -- one more item or member
-pub items_more : (bytes : List ℕ) (rows left rest after : List Row) (is : List ItemCalls) (i : ItemCalls)
-    → Reads bytes rows (flat_map inner_item_events (map item_of_calls is)) left → Reads bytes left (begins_item ∷ []) rest
-    → Reads bytes rest (item_events (item_of_calls i)) after
-    → Reads bytes rows (flat_map inner_item_events (map item_of_calls (is ++ i ∷ []))) after
-items_more bytes rows left rest after is i h e k =
-    let o = reads_on bytes left (begins_item ∷ []) rest (item_events (item_of_calls i)) after e k in
-    let r = reads_on bytes rows (flat_map inner_item_events (map item_of_calls is)) left
+pub items_more : (rows left rest after : List Row) (is : List ItemCalls) (i : ItemCalls)
+    → Reads rows (flat_map inner_item_events (map item_of_calls is)) left → Reads left (begins_item ∷ []) rest
+    → Reads rest (item_events (item_of_calls i)) after
+    → Reads rows (flat_map inner_item_events (map item_of_calls (is ++ i ∷ []))) after
+items_more rows left rest after is i h e k =
+    let o = reads_on left (begins_item ∷ []) rest (item_events (item_of_calls i)) after e k in
+    let r = reads_on rows (flat_map inner_item_events (map item_of_calls is)) left
     (begins_item ∷ item_events (item_of_calls i)) after h o in
     simp (map-append, flat_map-append, append-nil) r
 
-pub list_more : (bytes : List ℕ) (rows left rest after : List Row) (ms : List MemberCalls) (m : MemberCalls)
-    → Reads bytes rows (flat_map entry_events (map member_of_calls ms)) left → Reads bytes left (entry ∷ []) rest
-    → Reads bytes rest (member_events (member_of_calls m)) after
-    → Reads bytes rows (flat_map entry_events (map member_of_calls (ms ++ m ∷ []))) after
-list_more bytes rows left rest after ms m h e k =
-    let o = reads_on bytes left (entry ∷ []) rest (member_events (member_of_calls m)) after e k in
-    let r = reads_on bytes rows (flat_map entry_events (map member_of_calls ms)) left
+pub list_more : (rows left rest after : List Row) (ms : List MemberCalls) (m : MemberCalls)
+    → Reads rows (flat_map entry_events (map member_of_calls ms)) left → Reads left (entry ∷ []) rest
+    → Reads rest (member_events (member_of_calls m)) after
+    → Reads rows (flat_map entry_events (map member_of_calls (ms ++ m ∷ []))) after
+list_more rows left rest after ms m h e k =
+    let o = reads_on left (entry ∷ []) rest (member_events (member_of_calls m)) after e k in
+    let r = reads_on rows (flat_map entry_events (map member_of_calls ms)) left
     (entry ∷ member_events (member_of_calls m)) after h o in
     simp (map-append, flat_map-append, append-nil) r
 
@@ -274,15 +257,15 @@ pub list_whole : (ms : List MemberCalls) (m : MemberCalls) → described_list ms
     → described_list (ms ++ m ∷ []) ≡ map member_of_calls (ms ++ m ∷ [])
 list_whole ms m e h = simp (map-append, filter-append, e) (rw h refl)
 
-pub dictionary_more : (bytes : List ℕ) (rows left rest after : List Row) (ms : List (KeyRef × MemberCalls)) (key : KeyRef)
-    (m : MemberCalls) → Reads bytes rows (flat_map keyed_events (map entry_of_calls ms)) left
-    → Reads bytes left (keyed_entry (key_text key) ∷ []) rest
-    → Reads bytes rest (member_events (member_of_calls m)) after
-    → Reads bytes rows (flat_map keyed_events (map entry_of_calls (ms ++ (key, m) ∷ []))) after
-dictionary_more bytes rows left rest after ms key m h e k =
-    let o = reads_on bytes left (keyed_entry (key_text key) ∷ []) rest
+pub dictionary_more : (rows left rest after : List Row) (ms : List (KeyRef × MemberCalls)) (key : KeyRef)
+    (m : MemberCalls) → Reads rows (flat_map keyed_events (map entry_of_calls ms)) left
+    → Reads left (keyed_entry (key_text key) ∷ []) rest
+    → Reads rest (member_events (member_of_calls m)) after
+    → Reads rows (flat_map keyed_events (map entry_of_calls (ms ++ (key, m) ∷ []))) after
+dictionary_more rows left rest after ms key m h e k =
+    let o = reads_on left (keyed_entry (key_text key) ∷ []) rest
     (member_events (member_of_calls m)) after e k in
-    let r = reads_on bytes rows (flat_map keyed_events (map entry_of_calls ms)) left
+    let r = reads_on rows (flat_map keyed_events (map entry_of_calls ms)) left
     (keyed_entry (key_text key) ∷ member_events (member_of_calls m)) after h o in
     simp (map-append, flat_map-append, append-nil) r
 

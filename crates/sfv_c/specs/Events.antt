@@ -1,101 +1,101 @@
--- Events that are written into the caller's memory during parsing, as far as they fit.
-use Rattle.std.specs.Prelude.{◌≡◌, ℕ, ◌+◌, ◌-◌, ◌^◌, min, List, length, take, drop, ◌++◌, Result, Ok, Err, nat_lt}
-use Rattle.std.specs.Prelude.{nat_le, ◌&&◌, if◌then◌else◌, slice_set, fold}
+-- Events in rows that point to their texts.
+use Rattle.std.specs.Prelude.{◌≡◌, ℕ, ◌+◌, ◌-◌, ◌^◌, ◌≤◌, min, List, [], ◌∷◌, length, map, drop, ◌++◌, Result, Ok, Err}
+use Rattle.std.specs.Prelude.{nat_le, ◌&&◌, if◌then◌else◌}
+use Rattle.std.specs.List.{AllZip, sum_by}
+use Rattle.std.specs.Borrow.{MutBor}
+use Rattle.std.specs.declared.alloc.Global.{Global}
+use Rattle.std.specs.declared.vec.Vec.{Vec}
+use Rattle.std.specs.Cow.{cow_str_bytes}
 use Rattle.sfv.specs.Types.{FieldKind, Version, Error}
+use Rattle.sfv.specs.Types.bare_items as bare
 use Rattle.sfv.specs.Grammar.{HasField}
 use Rattle.sfv.specs.Events.{TreeEvent, events}
+use Rattle.sfv.specs.EventValues.{event_of}
+use Rattle.sfv.specs.BareItems.{read_text, is_borrowed_string, is_borrowed_text}
+use Rattle.sfv.specs.ProvidedVisitors.{ReadBareItem}
+use Rattle.sfv.specs.Parsers.{IsParseError, AreReadFrom}
+use Rattle.sfv_tree.specs.declared.visitor.Event.{Event}
+use Rattle.sfv_tree.specs.declared.visitor.Event.TheVariants as event
 use Rattle.sfv_c.specs.declared.answer.Answer.{Answer}
 use Rattle.sfv_c.specs.declared.rows.Row.{Row}
-use Rattle.sfv_c.specs.declared.events.RowBuffer.{RowBuffer}
-use Rattle.sfv_c.specs.declared.events.Counts.{Counts}
-use Rattle.sfv_c.specs.declared.events.Visited.{Visited}
-use Rattle.sfv_c.specs.declared.events.Visited.TheVariants as visited
-use Rattle.sfv_c.specs.Answers.{answer, refusal, IsReadingError}
-use Rattle.sfv_c.specs.Rows.{EventNumbers, numbers_of, row_of}
-
--- the caller's memory: its rows and the number needed so far, its bytes and the number needed so far
-pub record Memory : Type 0 where
-  pub rows : List Row
-  pub count : ℕ
-  pub bytes : List ℕ
-  pub used : ℕ
-
-abbrev pub memory_of : RowBuffer → Memory
-memory_of s = record { rows = s.rows.now; count = s.count; bytes = s.bytes.now; used = s.used }
-
--- the memory at the start: nothing is needed yet
-abbrev pub lent_memory : List Row → List ℕ → Memory
-lent_memory rows bytes = record { rows = rows; count = 0; bytes = bytes; used = 0 }
+use Rattle.sfv_c.specs.declared.events.Collector.{Collector}
+use Rattle.sfv_c.specs.Answers.{answer, refusal, bad_argument}
+use Rattle.sfv_c.specs.Rows.{EventNumbers, numbers_of, row_parts, IsRowOf}
 
 -- a saturating sum, at most the largest 64-bit number
 abbrev pub counted : ℕ → ℕ
 counted n = min n (2 ^ 64 - 1)
 
--- the bytes with this text at this place, if it fits
-abbrev pub put_bytes : List ℕ → ℕ → List ℕ → List ℕ
-put_bytes bytes at text =
-    if nat_le (at + length text) (length bytes) then take at bytes ++ (text ++ drop (at + length text) bytes) else bytes
+-- The bytes of room for a value, as read: the length of a decoded text or byte sequence, and 0 for a text that is
+-- borrowed from the input.
+abbrev pub room_of_read : ReadBareItem → ℕ
+room_of_read (bare.String text) = if is_borrowed_string text then 0 else length (read_text text)
+room_of_read (bare.ByteSequence bytes) = length bytes.items
+room_of_read (bare.DisplayString text) = if is_borrowed_text text then 0 else length (cow_str_bytes text)
+room_of_read read = 0
 
--- the memory after a text
-abbrev pub keep_bytes : Memory → List ℕ → Memory
-keep_bytes m text = record {
-  rows = m.rows;
-  count = m.count;
-  bytes = put_bytes m.bytes m.used text;
-  used = counted (m.used + length text);
-}
+-- the bytes of room for an event
+abbrev pub room_of : Event → ℕ
+room_of (event.BareItem read) = room_of_read read
+room_of (event.Parameter key read) = room_of_read read
+room_of e = 0
 
--- the rows with this row at this place, if it fits
-abbrev pub put_row : List Row → ℕ → Row → List Row
-put_row rows at row = if nat_lt at (length rows) then slice_set rows at row else rows
+-- the collector of these rows and this room, of which nothing is used
+abbrev pub collector_of : Vec Row Global → MutBor (List ℕ) → Collector
+collector_of rows room = record { rows = rows; room = room; used = 0 }
 
--- the memory after a row
-abbrev pub keep_row : Memory → Row → Memory
-keep_row m row = record {
-  rows = put_row m.rows m.count row;
-  count = counted (m.count + 1);
-  bytes = m.bytes;
-  used = m.used;
-}
+-- The collector after one more row, which takes `n` bytes of room. If they fit, the row holds these parts.
+pub record IsRowKept (before : Collector) (p : EventNumbers) (n : ℕ) (after : Collector) : Type 0 where
+  pub row : Row
+  pub pushed : after.rows.items ≡ before.rows.items ++ row ∷ []
+  pub used : after.used ≡ counted (before.used + n)
+  pub holds : n ≤ length before.room.now
+      → (row_parts row ≡ p) × (length after.room.now + n ≡ length before.room.now)
 
--- the memory after an event: its key, the bytes of its value, and then its row
-abbrev pub keep_numbers : Memory → EventNumbers → Memory
-keep_numbers m p = keep_row (keep_bytes (keep_bytes m p.key) p.value.bytes) (row_of m.used (counted (m.used + length p.key)) p)
+-- the collector after an event
+abbrev pub TakesRow : Collector → Event → Collector → Type 0
+TakesRow before e after = IsRowKept before (numbers_of (event_of e)) (room_of e) after
 
-abbrev pub keep_event : Memory → TreeEvent → Memory
-keep_event m e = keep_numbers m (numbers_of e)
+-- There is one row for each of these events, which were read from the input (`AreReadFrom`). The rows take `used` bytes
+-- of room, at most the largest 64-bit number. If these bytes fit, the rows are the rows of the events.
+pub record AreCollected (version : Version) (es : List TreeEvent) (input : List ℕ) (room : ℕ) (rows : List Row) (used : ℕ)
+    : Type 0 where
+  pub read : List Event
+  pub events_of : map event_of read ≡ es
+  pub read_from : AreReadFrom version read input
+  pub used_is : used ≡ counted (sum_by room_of read)
+  pub count : length rows ≡ length es
+  pub rows_of : used ≤ room → AllZip IsRowOf rows es
 
--- the memory after the events of the only field that the grammar gives the input, in order
-abbrev pub AreKept : Version → FieldKind → List ℕ → Memory → Memory → Type 0
-AreKept version kind input from to = HasField version kind input (λ raw. to ≡ fold keep_event from (events kind raw))
+-- the same for the events of the only field that the grammar gives the input
+abbrev pub AreRows : Version → FieldKind → List ℕ → ℕ → List Row → ℕ → Type 0
+AreRows version kind input room rows used =
+    HasField version kind input (λ raw. AreCollected version (events kind raw) input room rows used)
 
--- the same, or the input has this error
-abbrev pub IsVisitedAs : Version → FieldKind → List ℕ → RowBuffer → Visited → Type 0
-IsVisitedAs version kind input s (visited.Done t) = AreKept version kind input (memory_of s) (memory_of t)
-IsVisitedAs version kind input s (visited.Failed e) = IsReadingError version kind input e
+-- the buffer and the result: the rows are written if they and their texts fit, otherwise the buffer is unchanged
+abbrev pub copied : List Row → ℕ → List Row → ℕ → List Row × Answer
+copied rows used old room =
+    if nat_le (length rows) (length old) && nat_le used room
+    then (rows ++ drop (length rows) old, answer 0 0 0 used (length rows))
+    else (old, answer 2 0 0 used (length rows))
 
--- this memory needs so many rows and bytes for the events
-pub record AreCounted (version : Version) (kind : FieldKind) (input : List ℕ) (rows : List Row) (bytes : List ℕ)
-    (counts : Counts) : Type 0 where
-  pub last : Memory
-  pub kept : AreKept version kind input (lent_memory rows bytes) last
-  pub events_wanted : counts.events ≡ last.count
-  pub bytes_wanted : counts.bytes ≡ last.used
+-- the buffer unchanged, and the result for an argument without a meaning
+abbrev pub left_alone : List Row → List Row × Answer
+left_alone old = (old, bad_argument)
 
--- the outcome of parsing into this memory: these sizes, or the error
-abbrev pub IsCounting : Version → FieldKind → List ℕ → List Row → List ℕ → Result Counts Error → Type 0
-IsCounting version kind input rows bytes (Ok counts) = AreCounted version kind input rows bytes counts
-IsCounting version kind input rows bytes (Err e) = IsReadingError version kind input e
+-- the outcome of parsing: the rows and the bytes of room that they take, or the error
+abbrev pub IsReading : Version → FieldKind → List ℕ → ℕ → Result (List Row × ℕ) Error → Type 0
+IsReading version kind input room (Ok m) = AreRows version kind input room m.0 m.1
+IsReading version kind input room (Err e) = IsParseError version kind input e
 
--- the result: the needed sizes with status 0 if both buffers are large enough, otherwise with status 2; or the error
-abbrev pub counted_answer : ℕ → ℕ → Result Counts Error → Answer
-counted_answer rows bytes (Ok counts) =
-    answer (if nat_le counts.events rows && nat_le counts.bytes bytes then 0 else 2) 0 0 counts.bytes counts.events
-counted_answer rows bytes (Err e) = refusal e
+-- the buffer and the result after this outcome; an error leaves the buffer unchanged
+abbrev pub put_of : List Row → ℕ → Result (List Row × ℕ) Error → List Row × Answer
+put_of old room (Ok m) = copied m.0 m.1 old room
+put_of old room (Err e) = (old, refusal e)
 
--- The events of the only field are counted, or the input is rejected. The result encodes this.
-pub record IsEvents (version : Version) (kind : FieldKind) (input : List ℕ) (rows : List Row) (bytes : List ℕ)
-    (a : Answer) : Type 0 where
-  pub outcome : Result Counts Error
-  pub counting : IsCounting version kind input rows bytes outcome
-  pub in_numbers : a ≡ counted_answer (length rows) (length bytes) outcome
+-- the buffer and the result after parsing: the rows of the only field, if they and their texts fit; or the error
+pub record PutsEvents (version : Version) (kind : FieldKind) (input : List ℕ) (old : List Row) (room : ℕ)
+    (after : List Row × Answer) : Type 0 where
+  pub outcome : Result (List Row × ℕ) Error
+  pub reading : IsReading version kind input room outcome
+  pub put : after ≡ put_of old room outcome

@@ -2,6 +2,5 @@ pub mod Numbers
 pub mod Answers
 pub mod Rows
 pub mod Events
-pub mod EventsWhole
 pub mod Writing
 pub mod RowEvents

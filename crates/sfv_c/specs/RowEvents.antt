@@ -12,8 +12,8 @@ use Rattle.sfv.specs.StringText.{StringRef}
 use Rattle.sfv.specs.TokenText.{TokenRef}
 use Rattle.sfv.specs.KeyText.{KeyRef}
 use Rattle.sfv.specs.CheckedTexts.{text_of}
-use Rattle.sfv_c.specs.Rows.{ValueNumbers, EventNumbers, value_numbers}
-use Rattle.sfv_c.specs.Writing.{IsRowOf, IsScriptText, AreRowsOfField, IsWriteFault}
+use Rattle.sfv_c.specs.Rows.{ValueNumbers, EventNumbers, value_numbers, IsRowOf}
+use Rattle.sfv_c.specs.Writing.{IsScriptText, AreRowsOfField, IsWriteFault}
 use Rattle.sfv_c.specs.declared.answer.CallFault.{CallFault}
 use Rattle.std.specs.declared.alloc.Global.{Global}
 use Rattle.std.specs.declared.string.String as std_string
@@ -59,10 +59,10 @@ GivesParameter Is r =
     × Is (parameter (text_of call.key) (ref_value call.value)))
 
 -- the rows are those of these valid events, followed by these rows
-abbrev pub Reads : List ℕ → List Row → List TreeEvent → List Row → Type 0
-Reads bytes rows [] rest = rows ≡ rest
-Reads bytes [] (e ∷ es) rest = ⊥
-Reads bytes (row ∷ rows) (e ∷ es) rest = IsValidEvent e × IsRowOf bytes row e × Reads bytes rows es rest
+abbrev pub Reads : List Row → List TreeEvent → List Row → Type 0
+Reads rows [] rest = rows ≡ rest
+Reads [] (e ∷ es) rest = ⊥
+Reads (row ∷ rows) (e ∷ es) rest = IsValidEvent e × IsRowOf row e × Reads rows es rest
 
 -- the events that may come next
 pub data ParseState : Type 0 where
@@ -101,19 +101,19 @@ stops p [] = if may_end p then None else Some 0
 stops p (e ∷ es) = elim (after p e) [ None ↦ Some (length (e ∷ es)) | Some next ↦ stops next es ]
 
 -- the next row has no event that may come here, or no row is left and the field may not end here
-abbrev pub IsStuck : List ℕ → ParseState → List Row → Type 0
-IsStuck bytes p [] = may_end p ≡ false
-IsStuck bytes p (row ∷ rows) = (e : TreeEvent) → IsValidEvent e → IsRowOf bytes row e → after p e ≡ None
+abbrev pub IsStuck : ParseState → List Row → Type 0
+IsStuck p [] = may_end p ≡ false
+IsStuck p (row ∷ rows) = (e : TreeEvent) → IsValidEvent e → IsRowOf row e → after p e ≡ None
 
 -- Reading stops where so many rows are left: the rows before them have events that lead from this place to one where
 -- reading is stuck.
-pub record StopsAt (bytes : List ℕ) (p : ParseState) (rows : List Row) (left : ℕ) : Type 0 where
+pub record StopsAt (p : ParseState) (rows : List Row) (left : ℕ) : Type 0 where
   pub es : List TreeEvent
   pub rest : List Row
   pub place : ParseState
-  pub read : Reads bytes rows es rest
+  pub read : Reads rows es rest
   pub leads : (more : List TreeEvent) → stops p (es ++ more) ≡ stops place more
-  pub stuck : IsStuck bytes place rest
+  pub stuck : IsStuck place rest
   pub count : left ≡ length rest
 
 -- The event allocates in parameters that this place follows: a parameter does, and so does the end of parameters, which
@@ -126,29 +126,29 @@ takes_memory e p = false
 
 -- Memory may run out: there are rows with events that lead from this place into parameters, and then a row with an
 -- event that allocates there.
-pub record RunsOut (bytes : List ℕ) (p : ParseState) (rows : List Row) : Type 0 where
+pub record RunsOut (p : ParseState) (rows : List Row) : Type 0 where
   pub es : List TreeEvent
   pub last : TreeEvent
   pub rest : List Row
   pub place : ParseState
-  pub read : Reads bytes rows (es ++ last ∷ []) rest
+  pub read : Reads rows (es ++ last ∷ []) rest
   pub leads : (more : List TreeEvent) → stops p (es ++ more) ≡ stops (parameters place) more
   pub allocates : IsTrue (takes_memory last place)
 
 -- the reason to stop: so many rows are left, or memory ran out
-abbrev pub IsStop : List ℕ → ParseState → List Row → ParseStop → Type 0
-IsStop bytes p rows (stop.At left) = StopsAt bytes p rows left
-IsStop bytes p rows stop.Memory = RunsOut bytes p rows
+abbrev pub IsStop : ParseState → List Row → ParseStop → Type 0
+IsStop p rows (stop.At left) = StopsAt p rows left
+IsStop p rows stop.Memory = RunsOut p rows
 
 -- the rows are those of a field that the version has, and this is its text
-pub record IsTextOf (version : Version) (kind : FieldKind) (rows : List Row) (bytes : List ℕ) (text : Option (List ℕ))
+pub record IsTextOf (version : Version) (kind : FieldKind) (rows : List Row) (text : Option (List ℕ))
     : Type 0 where
   pub raw : RawField kind
-  pub rows_of : AreRowsOfField kind rows bytes raw
+  pub rows_of : AreRowsOfField kind rows raw
   pub fits : Fits version kind raw
   pub written : IsScriptText version kind raw text
 
 -- the text of the field of these rows, or the reason why there is none
-abbrev pub IsTextMade : Version → FieldKind → List Row → List ℕ → Result (Option (std_string.String Global)) CallFault → Type 0
-IsTextMade version kind rows bytes (Ok text) = IsTextOf version kind rows bytes (option_map string_bytes text)
-IsTextMade version kind rows bytes (Err fault) = IsWriteFault version kind rows bytes fault
+abbrev pub IsTextMade : Version → FieldKind → List Row → Result (Option (std_string.String Global)) CallFault → Type 0
+IsTextMade version kind rows (Ok text) = IsTextOf version kind rows (option_map string_bytes text)
+IsTextMade version kind rows (Err fault) = IsWriteFault version kind rows fault

@@ -1,12 +1,10 @@
 -- Events encoded as numbers.
-use Rattle.std.specs.Prelude.{ℕ, ℤ, pos, List, [], length, Bool, true, false, Option, Some, None}
+use Rattle.std.specs.Prelude.{◌≡◌, ℕ, ℤ, pos, List, [], Bool, true, false, Option, Some, None}
 use Rattle.sfv.specs.Values.{BareValue, integer, decimal, string, token, byte_sequence, boolean, date, display_string}
 use Rattle.sfv.specs.Events.{TreeEvent, entry, keyed_entry, begins_item, begins_inner_list, bare_item, parameter}
 use Rattle.sfv.specs.Events.{parameters_end, inner_list_end, value_in}
 use Rattle.sfv.specs.Kinds.{kind_of_value}
 use Rattle.sfv_c.specs.declared.rows.Row.{Row}
-use Rattle.sfv_c.specs.declared.rows.Value.{Value}
-use Rattle.sfv_c.specs.declared.rows.LentEvent.{LentEvent}
 use Rattle.sfv_c.specs.Numbers.{type_number}
 
 -- the number of an event's tag
@@ -71,21 +69,14 @@ pub record EventNumbers : Type 0 where
 abbrev pub numbers_of : TreeEvent → EventNumbers
 numbers_of e = record { tag = tag_of e; key = key_of e; value = value_numbers (value_in e) }
 
--- the encoded value and event, as borrowed by the code
-abbrev pub lent_value : Value → ValueNumbers
-lent_value v = record { kind = v.kind; number = v.number; bytes = v.bytes.now }
-
-abbrev pub lent_numbers : LentEvent → EventNumbers
-lent_numbers p = record { tag = p.tag; key = p.key.now; value = lent_value p.value }
-
--- the row of these parts, with its key at the one place and the bytes of its value at the other
-abbrev pub row_of : ℕ → ℕ → EventNumbers → Row
-row_of key bytes p = record {
-  tag = p.tag;
-  kind = p.value.kind;
-  key = key;
-  key_length = length p.key;
-  bytes = bytes;
-  bytes_length = length p.value.bytes;
-  number = p.value.number;
+-- the parts that a row holds
+abbrev pub row_parts : Row → EventNumbers
+row_parts row = record {
+  tag = row.tag;
+  key = row.key.now;
+  value = record { kind = row.kind; number = row.number; bytes = row.bytes.now };
 }
+
+-- the row holds the parts of the event
+abbrev pub IsRowOf : Row → TreeEvent → Type 0
+IsRowOf row e = row_parts row ≡ numbers_of e

@@ -17,7 +17,7 @@ pub struct Answer {
     pub kind: u32,
     /// The index of the syntax error in the input, or of the wrong row.
     pub index: usize,
-    /// The length of the text, written or needed.
+    /// The length of the text, or of all decoded texts, written or needed.
     pub length: usize,
     /// The number of events, written or needed.
     pub events: usize,

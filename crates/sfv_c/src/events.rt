@@ -1,173 +1,290 @@
-//! Events that a visitor writes into borrowed buffers, as far as they have room.
+//! Events as rows, which point to their texts: into the input, or to the decoded text in a borrowed buffer.
 
-ghost use Rattle.std.specs.Prelude.{◌≡◌, IfOk, IfErr};
-ghost use Rattle.sfv.specs.Parsers.{input_of, version_of};
-ghost use Rattle.sfv_c.specs.Answers.{IsReadingError};
-ghost use Rattle.sfv_c.specs.Rows.{lent_numbers};
-ghost use Rattle.sfv_c.specs.Events.{memory_of, keep_bytes, keep_row, keep_numbers, keep_event, IsVisitedAs};
-ghost use Rattle.sfv_c.specs.Events.{AreCounted, IsEvents};
+ghost use Rattle.std.specs.Prelude.{◌≡◌, ◌≤◌, ◌<◌, ◌^◌, ◌+◌, [], ⊤, pos, Some, None, length, OnOk, IfOk, IfErr};
+ghost use Rattle.sfv.specs.BareItems.{input_value};
+ghost use Rattle.sfv.specs.Parsers.{input_of, version_of, IsParseError};
+ghost use Rattle.sfv_c.specs.Rows.{row_parts, value_numbers};
+ghost use Rattle.sfv_c.specs.Events.{counted, collector_of, room_of_read, IsRowKept, TakesRow, AreRows, copied};
+ghost use Rattle.sfv_c.specs.Events.{PutsEvents};
 
 use crate::answer::{Answer, OK, TOO_SMALL};
-use crate::reading::{read, syntax_of};
-use crate::rows::{LentEvent, Row, numbers_of};
+use crate::reading::read;
+use crate::rows::{
+    BARE_ITEM, ENTRY, INNER_LIST, INNER_LIST_END, ITEM, KEYED_ENTRY, PARAMETER, PARAMETERS_END, Row,
+};
 use sfv::visitor::{Event, Visitor};
-use sfv::{Error, FieldKind, Parser};
+use sfv::{
+    BareItemFromInput, Error, FieldKind, GenericBareItem, OutOfMemory, ParseError, Parser,
+    StringFromInput,
+};
 use std::alloc::Global;
-use std::convert::Infallible;
+use std::borrow::CowStr;
 
-/// The number of events and bytes of a field.
-#[derive(Clone, Copy, Drop)]
-struct Counts {
-    events: usize,
-    bytes: usize,
-}
-
-/// Borrowed buffers for rows and bytes, and the numbers of both so far.
+/// Rows, the free part of the room for decoded texts, and the length of all decoded texts so far.
 #[derive(Drop)]
-struct RowBuffer<'a> {
-    rows: &'a mut [Row],
-    count: usize,
-    bytes: &'a mut [u8],
+struct Collector<'a> {
+    rows: Vec<Row<'a>>,
+    room: &'a mut [u8],
     used: usize,
 }
 
-impl<'a> RowBuffer<'a> {
-    fn new(rows: &'a mut [Row], bytes: &'a mut [u8]) -> RowBuffer<'a>
-        ensures rows { result.rows.ghost_name ≡ rows.entry.ghost_name }
-        ensures bytes { result.bytes.ghost_name ≡ bytes.entry.ghost_name }
-        ensures rows_now { result.rows.now ≡ rows.old }
-        ensures bytes_now { result.bytes.now ≡ bytes.old }
-        ensures count { result.count ≡ 0 }
-        ensures used { result.used ≡ 0 }
+impl<'a> Collector<'a> {
+    fn new(rows: Vec<Row<'a>>, room: &'a mut [u8]) -> Collector<'a>
+        ensures collector { result ≡ collector_of rows.entry room.entry }
+        ensures small { length room.old < 2 ^ 63 }
     {
-        RowBuffer {
+        // This gives the proof the largest length of a slice.
+        let _size = room.len();
+        Collector {
             rows,
-            count: 0,
-            bytes,
+            room,
             used: 0,
         }
     }
 
-    /// Writes bytes, if they fit.
-    fn keep_bytes(&mut self, text: &[u8])
-        ensures { memory_of self.new ≡ keep_bytes (memory_of self.old) text.now }
+    /// Adds a row.
+    #[inline(always)]
+    fn keep(&mut self, row: Row<'a>) -> Result<(), OutOfMemory>
+        ensures { OnOk result (IsRowKept self.old (row_parts row.entry) 0 self.new) }
     {
-        let end = self.used.saturating_add(text.len());
-        if end <= self.bytes.len() {
-            self.bytes[self.used..end].copy_from_slice(text);
-        }
-        self.used = end;
-    }
-
-    /// Writes a row, if it fits.
-    fn keep_row(&mut self, row: Row)
-        ensures { memory_of self.new ≡ keep_row (memory_of self.old) row }
-    {
-        if self.count < self.rows.len() {
-            self.rows[self.count] = row;
-        }
-        self.count = self.count.saturating_add(1);
-    }
-
-    /// Writes the texts of an event and its row.
-    fn keep(&mut self, parts: LentEvent<'_>)
-        ensures { memory_of self.new ≡ keep_numbers (memory_of self.old) (lent_numbers parts.entry) }
-    {
-        let key = self.used;
-        self.keep_bytes(parts.key);
-        let bytes = self.used;
-        self.keep_bytes(parts.bytes());
-        self.keep_row(parts.row(key, bytes));
-    }
-}
-
-impl<'a, 'de> Visitor<'de> for RowBuffer<'a> {
-    type Out = RowBuffer<'a>;
-
-    type Error = Infallible;
-
-    ghost takes = { λ s e after. memory_of after ≡ keep_event (memory_of s) e };
-
-    ghost fails = { λ _ _ _. ⊥ };
-
-    ghost finishes = { λ s out. memory_of out ≡ memory_of s };
-
-    ghost finish_fails = { λ _ _. ⊥ };
-
-    fn event(&mut self, event: Event<'de>) -> Result<(), Infallible> {
-        self.keep(numbers_of(&event));
+        // This gives the proof the range of the field.
+        let _used = self.used;
+        self.rows.push(row)?;
         Ok(())
     }
 
-    fn finish(self) -> Result<RowBuffer<'a>, Infallible> {
+    /// Copies a decoded text to the room, if it fits, and returns the copy.
+    #[inline(never)]
+    fn hold(&mut self, text: &[u8]) -> &'a [u8]
+        ensures rows { self.new.rows.items ≡ self.old.rows.items }
+        ensures used { self.new.used ≡ counted (self.old.used + length text.now) }
+        ensures held { length text.now ≤ length self.old.room.now → result.now ≡ text.now }
+        ensures left { length text.now ≤ length self.old.room.now
+            → length self.new.room.now + length text.now ≡ length self.old.room.now }
+    {
+        self.used = self.used.saturating_add(text.len());
+        match self.room.split_off_mut(..text.len()) {
+            Some(place) => {
+                place.copy_from_slice(text);
+                place
+            }
+            None => b"",
+        }
+    }
+
+    /// Adds the row of an event without a value.
+    #[inline(always)]
+    fn keep_plain(&mut self, tag: u32, key: &'a [u8]) -> Result<(), OutOfMemory>
+        ensures { OnOk result (IsRowKept self.old (record { tag = tag; key = key.now; value = value_numbers None }) 0 self.new) }
+    {
+        self.keep(Row {
+            tag,
+            kind: 0,
+            key,
+            bytes: b"",
+            number: 0,
+        })
+    }
+
+    /// Adds the row of an event with a number.
+    #[inline(always)]
+    fn keep_number(
+        &mut self,
+        tag: u32,
+        key: &'a [u8],
+        kind: u32,
+        number: i64,
+    ) -> Result<(), OutOfMemory>
+        ensures { OnOk result (IsRowKept self.old (record {
+          tag = tag;
+          key = key.now;
+          value = record { kind = kind; number = number; bytes = [] };
+        }) 0 self.new) }
+    {
+        self.keep(Row {
+            tag,
+            kind,
+            key,
+            bytes: b"",
+            number,
+        })
+    }
+
+    /// Adds the row of an event with a text, which the row points to.
+    #[inline(always)]
+    fn keep_text(
+        &mut self,
+        tag: u32,
+        key: &'a [u8],
+        kind: u32,
+        bytes: &'a [u8],
+    ) -> Result<(), OutOfMemory>
+        ensures { OnOk result (IsRowKept self.old (record {
+          tag = tag;
+          key = key.now;
+          value = record { kind = kind; number = pos 0; bytes = bytes.now };
+        }) 0 self.new) }
+    {
+        self.keep(Row {
+            tag,
+            kind,
+            key,
+            bytes,
+            number: 0,
+        })
+    }
+
+    /// Adds the row of an event with a decoded text, which it copies to the room.
+    #[inline(always)]
+    fn keep_decoded(
+        &mut self,
+        tag: u32,
+        key: &'a [u8],
+        kind: u32,
+        text: &[u8],
+    ) -> Result<(), OutOfMemory>
+        ensures { OnOk result (IsRowKept self.old (record {
+          tag = tag;
+          key = key.now;
+          value = record { kind = kind; number = pos 0; bytes = text.now };
+        }) (length text.now) self.new) }
+    {
+        let bytes = self.hold(text);
+        self.keep_text(tag, key, kind, bytes)
+    }
+
+    /// Adds the row of an event with this value.
+    fn keep_value(
+        &mut self,
+        tag: u32,
+        key: &'a [u8],
+        item: BareItemFromInput<'a>,
+    ) -> Result<(), OutOfMemory>
+        ensures { OnOk result (IsRowKept self.old (record {
+          tag = tag;
+          key = key.now;
+          value = value_numbers (Some (input_value item.entry));
+        }) (room_of_read item.entry) self.new) }
+    {
+        match item {
+            GenericBareItem::Integer(value) => self.keep_number(tag, key, 1, value.to_i64()),
+            GenericBareItem::Decimal(value) => {
+                self.keep_number(tag, key, 2, value.as_integer_scaled_1000().to_i64())
+            }
+            GenericBareItem::String(StringFromInput::Borrowed(text)) => {
+                self.keep_text(tag, key, 3, text.as_str().as_bytes())
+            }
+            GenericBareItem::String(StringFromInput::Owned(text)) => {
+                self.keep_decoded(tag, key, 3, text.as_str().as_bytes())
+            }
+            GenericBareItem::Token(text) => self.keep_text(tag, key, 4, text.as_str().as_bytes()),
+            GenericBareItem::ByteSequence(bytes) => {
+                self.keep_decoded(tag, key, 5, bytes.as_slice())
+            }
+            GenericBareItem::Boolean(value) => self.keep_number(tag, key, 6, i64::from(value)),
+            GenericBareItem::Date(value) => {
+                self.keep_number(tag, key, 7, value.unix_seconds().to_i64())
+            }
+            GenericBareItem::DisplayString(CowStr::Borrowed(text)) => {
+                self.keep_text(tag, key, 8, text.as_bytes())
+            }
+            GenericBareItem::DisplayString(CowStr::Owned(text)) => {
+                self.keep_decoded(tag, key, 8, text.as_str().as_bytes())
+            }
+        }
+    }
+}
+
+impl<'a> Visitor<'a> for Collector<'a> {
+    type Out = Collector<'a>;
+
+    type Error = OutOfMemory;
+
+    ghost takes = { λ _ _ _. ⊤ };
+
+    ghost takes_read = { TakesRow };
+
+    ghost fails = { λ _ _ _. ⊤ };
+
+    ghost finishes = { λ s out. out ≡ s };
+
+    ghost finish_fails = { λ _ _. ⊥ };
+
+    ghost is_memory = { λ _. ⊤ };
+
+    fn event(&mut self, event: Event<'a>) -> Result<(), OutOfMemory> {
+        match event {
+            Event::Entry => self.keep_plain(ENTRY, b""),
+            Event::KeyedEntry(key) => self.keep_plain(KEYED_ENTRY, key.as_str().as_bytes()),
+            Event::Item => self.keep_plain(ITEM, b""),
+            Event::InnerList => self.keep_plain(INNER_LIST, b""),
+            Event::BareItem(item) => self.keep_value(BARE_ITEM, b"", item),
+            Event::Parameter(key, item) => {
+                self.keep_value(PARAMETER, key.as_str().as_bytes(), item)
+            }
+            Event::ParametersEnd => self.keep_plain(PARAMETERS_END, b""),
+            Event::InnerListEnd => self.keep_plain(INNER_LIST_END, b""),
+        }
+    }
+
+    fn finish(self) -> Result<Collector<'a>, OutOfMemory> {
         Ok(self)
     }
 }
 
-/// The result of parsing into borrowed buffers.
-#[derive(Drop)]
-enum Visited<'a> {
-    /// The buffers after the last event.
-    Done(RowBuffer<'a>),
-    /// An error.
-    Failed(Error),
-}
+/// The largest number of rows for which memory is allocated at first.
+// So many rows are a small block, which an allocator returns at once. A larger one takes more instructions.
+const FIRST_ROWS: usize = 20;
 
-/// Parses a field of this type into borrowed buffers.
-fn visit<'a>(
+/// Parses a field of this type, and collects its rows. Allocates memory for `expected` rows at first.
+fn collect_rows<'a>(
     alloc: Global,
     field: FieldKind,
-    parser: Parser<'_>,
-    rows: RowBuffer<'a>,
-) -> Visited<'a>
-    ensures { IsVisitedAs (version_of parser.entry) field (input_of parser.entry) rows.entry result }
-{
-    match read(alloc, field, parser, rows) {
-        Ok(rows) => Visited::Done(rows),
-        Err(error) => Visited::Failed(syntax_of(error)),
-    }
-}
-
-/// Parses a field of this type into borrowed buffers, and counts its events and bytes.
-fn count_events(
-    alloc: Global,
-    field: FieldKind,
-    parser: Parser<'_>,
-    rows: &mut [Row],
-    bytes: &mut [u8],
-) -> Result<Counts, Error>
-    ensures counted { IfOk result (AreCounted (version_of parser.entry) field
-        (input_of parser.entry) rows.old bytes.old) }
-    ensures rejected { IfErr result (IsReadingError (version_of parser.entry) field
+    parser: Parser<'a>,
+    expected: usize,
+    room: &'a mut [u8],
+) -> Result<Collector<'a>, Error>
+    ensures accepted { IfOk result (λ c. AreRows (version_of parser.entry) field (input_of parser.entry)
+        (length room.old) c.rows.items c.used) }
+    ensures rejected { IfErr result (IsParseError (version_of parser.entry) field
         (input_of parser.entry)) }
 {
-    match visit(alloc, field, parser, RowBuffer::new(rows, bytes)) {
-        Visited::Done(rows) => Ok(Counts {
-            events: rows.count,
-            bytes: rows.used,
-        }),
-        Visited::Failed(error) => Err(error),
+    let Ok(rows) = Vec::with_capacity(alloc, expected) else {
+        return Err(Error::from(OutOfMemory));
+    };
+    match read(alloc, field, parser, Collector::new(rows, room)) {
+        Ok(collector) => Ok(collector),
+        Err(ParseError::Syntax(error)) => Err(error),
+        Err(ParseError::Visitor(error)) => Err(Error::from(error)),
     }
 }
 
-/// Parses a field of this type, and writes its events into the buffers as far as they have room.
-pub(crate) fn keep_events(
+/// Copies the rows to the buffer, if all of them and their texts fit.
+fn copy<'a>(collector: &Collector<'a>, rows: &mut [Row<'a>], room: usize) -> Answer
+    ensures { (rows.new, result) ≡ copied collector.now.rows.items collector.now.used rows.old room }
+{
+    let (events, used) = (collector.rows.len(), collector.used);
+    if events > rows.len() || used > room {
+        return Answer::of_sizes(TOO_SMALL, used, events);
+    }
+    rows[..events].copy_from_slice(&collector.rows);
+    Answer::of_sizes(OK, used, events)
+}
+
+/// Parses a field of this type, and writes all of its rows to the buffer, or none.
+pub(crate) fn put_events<'a>(
     alloc: Global,
     field: FieldKind,
-    parser: Parser<'_>,
-    rows: &mut [Row],
-    bytes: &mut [u8],
+    parser: Parser<'a>,
+    rows: &mut [Row<'a>],
+    room: &'a mut [u8],
 ) -> Answer
-    ensures { IsEvents (version_of parser.entry) field (input_of parser.entry)
-        rows.old bytes.old result }
+    ensures { PutsEvents (version_of parser.entry) field (input_of parser.entry)
+        rows.old (length room.old) (rows.new, result) }
 {
-    let (rows_length, bytes_length) = (rows.len(), bytes.len());
-    match count_events(alloc, field, parser, rows, bytes) {
-        Ok(counts) => {
-            let fits = counts.events <= rows_length && counts.bytes <= bytes_length;
-            let status = if fits { OK } else { TOO_SMALL };
-            Answer::of_sizes(status, counts.bytes, counts.events)
-        }
+    let size = room.len();
+    match collect_rows(alloc, field, parser, rows.len().min(FIRST_ROWS), room) {
+        Ok(collector) => copy(&collector, rows, size),
         Err(error) => Answer::of_error(error),
     }
 }

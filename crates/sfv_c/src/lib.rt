@@ -3,18 +3,16 @@
 //! Field types, versions and kinds are numbers here. Any other number is a bad argument, so no call has a precondition.
 #![tactic(auto)]
 
-ghost use Rattle.std.specs.Prelude.{◌≡◌, None};
+ghost use Rattle.std.specs.Prelude.{◌≡◌, None, length};
 ghost use Rattle.sfv_c.specs.Numbers.{named_field, named_version, Names, NamesThree};
 ghost use Rattle.sfv_c.specs.Answers.{bad_argument, IsCanonical, IsCheck, IsMessage};
-ghost use Rattle.sfv_c.specs.Events.{IsEvents};
-ghost use Rattle.sfv_c.specs.EventsWhole.{left_alone, PutsEvents};
+ghost use Rattle.sfv_c.specs.Events.{left_alone, PutsEvents};
 ghost use Rattle.sfv_c.specs.Writing.{IsWrite};
 
 mod answer;
 mod canonical;
 mod check;
 mod events;
-mod events_whole;
 mod message;
 mod numbers;
 mod reading;
@@ -26,8 +24,7 @@ mod write;
 use crate::answer::{Answer, BAD_ARGUMENT};
 use crate::canonical::canonical;
 use crate::check::check;
-use crate::events::keep_events;
-use crate::events_whole::put_events;
+use crate::events::put_events;
 use crate::message::message;
 use crate::numbers::{field_of, version_of};
 use crate::rows::Row;
@@ -97,57 +94,30 @@ pub extern "C" fn sfv_c_check(alloc: Global, field: u32, version: u32, input: &[
     check(alloc, field, Parser::new(input).with_version(version))
 }
 
-/// Parses the input as a field of this type under the version, and writes its events into the buffers as far as they
-/// have room. Builds no map.
+/// Parses the input as a field of this type under the version, and writes a row for each event to `rows`, or no row.
+/// Builds no map.
+///
+/// Keys and most texts point into the input. Byte sequences, and strings and display strings with escapes, are decoded
+/// into `room`, and their rows point there.
 ///
 /// # Errors
 ///
-/// Returns the errors of `sfv_c_check`. Returns status 2, with the sizes that all events need, if a buffer is too
-/// small. After an error the buffers can contain anything.
+/// Returns status 3 with kind and index, as for `Parser::parse`, or status 4 if memory runs out. Returns status 2, with
+/// the number of events and the length of `room` that they need, if a buffer is too small. Returns status 5 for a
+/// number that names no field type or version. `rows` is then unchanged, and `room` can contain anything.
 #[unsafe(no_mangle)]
-pub extern "C" fn sfv_c_events(
+pub extern "C" fn sfv_c_spans<'a>(
     alloc: Global,
     field: u32,
     version: u32,
-    input: &[u8],
-    rows: &mut [Row],
-    bytes: &mut [u8],
-) -> Answer
-    ensures named { Names field version (λ k v. IsEvents v k input.now rows.old bytes.old result) }
-    ensures no_field { named_field field ≡ None → result ≡ bad_argument }
-    ensures no_version { named_version version ≡ None → result ≡ bad_argument }
-{
-    let Some(field) = field_of(field) else {
-        return BAD_ARGUMENT;
-    };
-    let Some(version) = version_of(version) else {
-        return BAD_ARGUMENT;
-    };
-    let parser = Parser::new(input).with_version(version);
-    keep_events(alloc, field, parser, rows, bytes)
-}
-
-/// Parses the input as a field of this type under the version, and writes all of its events into the buffers, or
-/// nothing.
-///
-/// # Errors
-///
-/// Returns status 3 with kind and index, or status 4 if memory runs out, as for `Parser::parse`. Returns status 2, with
-/// the sizes that all events need, if a buffer is too small. Returns status 5 for a number that names no field type or
-/// version. Both buffers are then unchanged.
-#[unsafe(no_mangle)]
-pub extern "C" fn sfv_c_events_whole(
-    alloc: Global,
-    field: u32,
-    version: u32,
-    input: &[u8],
-    rows: &mut [Row],
-    bytes: &mut [u8],
+    input: &'a [u8],
+    rows: &mut [Row<'a>],
+    room: &'a mut [u8],
 ) -> Answer
     ensures named { Names field version
-        (λ k v. PutsEvents v k input.now rows.old bytes.old (rows.new, bytes.new, result)) }
-    ensures no_field { named_field field ≡ None → (rows.new, bytes.new, result) ≡ left_alone rows.old bytes.old }
-    ensures no_version { named_version version ≡ None → (rows.new, bytes.new, result) ≡ left_alone rows.old bytes.old }
+        (λ k v. PutsEvents v k input.now rows.old (length room.old) (rows.new, result)) }
+    ensures no_field { named_field field ≡ None → (rows.new, result) ≡ left_alone rows.old }
+    ensures no_version { named_version version ≡ None → (rows.new, result) ≡ left_alone rows.old }
 {
     let Some(field) = field_of(field) else {
         return BAD_ARGUMENT;
@@ -156,11 +126,11 @@ pub extern "C" fn sfv_c_events_whole(
         return BAD_ARGUMENT;
     };
     let parser = Parser::new(input).with_version(version);
-    put_events(alloc, field, parser, rows, bytes)
+    put_events(alloc, field, parser, rows, room)
 }
 
 /// Writes the canonical text, for the version, of the field of these rows to the start of `out`. The rows are as
-/// `sfv_c_events_whole` writes them. A repeated key is written each time.
+/// `sfv_c_spans` writes them. A repeated key is written each time.
 ///
 /// # Errors
 ///
@@ -170,15 +140,14 @@ pub extern "C" fn sfv_c_events_whole(
 /// length of the text, if `out` is too small. Returns status 1 for a list or dictionary without members. Returns status
 /// 5 for a number that names no field type or version. `out` is then unchanged.
 #[unsafe(no_mangle)]
-pub extern "C" fn sfv_c_write(
+pub extern "C" fn sfv_c_write_spans(
     alloc: Global,
     field: u32,
     version: u32,
-    rows: &[Row],
-    bytes: &[u8],
+    rows: &[Row<'_>],
     out: &mut [u8],
 ) -> Answer
-    ensures named { Names field version (λ k w. IsWrite w k rows.now bytes.now out.old out.new result) }
+    ensures named { Names field version (λ k w. IsWrite w k rows.now out.old out.new result) }
     ensures no_field { named_field field ≡ None → (result ≡ bad_argument) × (out.new ≡ out.old) }
     ensures no_version { named_version version ≡ None → (result ≡ bad_argument) × (out.new ≡ out.old) }
 {
@@ -188,7 +157,15 @@ pub extern "C" fn sfv_c_write(
     let Some(version) = version_of(version) else {
         return BAD_ARGUMENT;
     };
-    write(alloc, field, version, rows, bytes, out)
+    write(alloc, field, version, rows, out)
+}
+
+/// Returns the number of this interface. A change of a number, a struct or a signature raises it.
+#[unsafe(no_mangle)]
+pub extern "C" fn sfv_c_abi() -> u32
+    ensures { result ≡ 1 }
+{
+    1
 }
 
 /// Writes the message of the error kind with this number to the start of `out`.

@@ -2,7 +2,7 @@
 
 ghost use Rattle.std.specs.Prelude.{◌≡◌, IfOk, IfErr};
 ghost use Rattle.sfv.specs.Memory.{NeedsMark};
-ghost use Rattle.sfv.specs.Parsers.{input_of, IsAnswerBy, IsSyntaxErrorBy};
+ghost use Rattle.sfv.specs.Parsers.{input_of, IsAnswerBy, ReceivesAsReadBy, IsSyntaxErrorBy};
 ghost use Rattle.sfv.specs.Types.parse_errors;
 
 use sfv::visitor::Visitor;
@@ -19,6 +19,7 @@ pub(crate) fn read<'de, V: Visitor<'de>>(
 ) -> Result<V::Out, ParseError<V::Error>>
     requires { V.is_ready visitor }
     ensures visited { IfOk result (IsAnswerBy V.Visitor parser.entry field visitor) }
+    ensures as_read { IfOk result (ReceivesAsReadBy V.Visitor parser.entry field visitor) }
     ensures syntax { IfErr result (IsSyntaxErrorBy V.Visitor parser.entry field visitor) }
     ensures memory { IfErr result (NeedsMark (input_of parser.entry)) }
 {

@@ -1,15 +1,18 @@
 //! Rows as the calls that write them.
 
-ghost use Rattle.std.specs.Prelude.{IsTrue, ◌≡◌, ◌++◌, ◌∷◌, [], map, flat_map, IfOk, IfErr};
+ghost use Rattle.std.specs.Prelude.{IsTrue, ◌≡◌, ◌<◌, ◌+◌, ◌++◌, ◌∷◌, [], length, drop, map, flat_map, IfOk, IfErr};
+ghost use Rattle.std.specs.Prelude.{MatchOption};
 ghost use Rattle.sfv.specs.Types.{item_field, list_field, dictionary_field};
 ghost use Rattle.sfv.specs.Events.{begins_inner_list, parameters_events, item_events, inner_item_events, member_events};
 ghost use Rattle.sfv.specs.Events.{inner_list_end};
 ghost use Rattle.sfv.specs.Scripts.{param_of_call, item_of_calls, member_of_calls, entry_of_calls, is_written};
 ghost use Rattle.sfv.specs.Scripts.{described_list, described_dictionary};
-ghost use Rattle.sfv_c.specs.Writing.{IsRowOf, AreRowsOfField};
+ghost use Rattle.sfv_c.specs.Rows.{IsRowOf};
+ghost use Rattle.sfv_c.specs.Writing.{AreRowsOfField};
 ghost use Rattle.sfv_c.specs.RowEvents.{ParseState, beginning, member, value, parameters, items, Reads, IsStop};
+ghost use Rattle.sfv_c.specs.declared.rows_to_calls.ParseStop.TheVariants as stops;
 
-use crate::row_event::{is_plain, keyed_entry_at, parameter_at, value_at};
+use crate::row_event::{is_plain, keyed_entry_in, parameter_in, value_in};
 use crate::rows::{ENTRY, INNER_LIST, INNER_LIST_END, ITEM, PARAMETERS_END, Row};
 use sfv::KeyRef;
 use sfv::script::{ItemCalls, MemberCalls, ParamCall};
@@ -27,8 +30,6 @@ pub(crate) enum ParseStop {
 }
 
 impl<T: Drop> From<AllocFailed<T>> for ParseStop {
-    ghost use Rattle.sfv_c.specs.declared.rows_to_calls.ParseStop.TheVariants as stops;
-
     ghost from_gives = { λ _ stop. stop ≡ stops.Memory };
 
     fn from(_error: AllocFailed<T>) -> ParseStop {
@@ -36,156 +37,166 @@ impl<T: Drop> From<AllocFailed<T>> for ParseStop {
     }
 }
 
-/// Reads parameters and their end, and returns the rows after them.
-fn parameters<'a, 'r>(
+/// Returns the row at this index, if there is one.
+fn row_at<'r, 'a>(rows: &'r [Row<'a>], at: usize) -> Option<&'r Row<'a>>
+    ensures { MatchOption result (drop at rows.now ≡ [])
+        (λ row. (at < length rows.now) × (drop at rows.now ≡ row.now ∷ drop (at + 1) rows.now)) }
+{
+    rows.get(at)
+}
+
+/// Returns the stop at this index.
+fn stop_at(rows: &[Row<'_>], at: usize) -> ParseStop
+    ensures { result ≡ stops.At (length (drop at rows.now)) }
+{
+    ParseStop::At(rows.len().saturating_sub(at))
+}
+
+/// Reads parameters and their end from this index on, and returns the index after them.
+fn parameters<'a>(
     alloc: Global,
-    rows: &'r [Row],
-    bytes: &'a [u8],
-) -> Result<(Vec<ParamCall<'a>>, &'r [Row]), ParseStop>
-    ensures read { IfOk result (λ r. Reads bytes.now rows.now (parameters_events (map param_of_call r.0.items)) r.1.now) }
-    ensures stopped { IfErr result (λ stop. (p : ParseState) → IsStop bytes.now (parameters p) rows.now stop) }
+    rows: &[Row<'a>],
+    from: usize,
+) -> Result<(Vec<ParamCall<'a>>, usize), ParseStop>
+    ensures read { IfOk result (λ r. Reads (drop from rows.now) (parameters_events (map param_of_call r.0.items)) (drop r.1 rows.now)) }
+    ensures stopped { IfErr result (λ stop. (p : ParseState) → IsStop (parameters p) (drop from rows.now) stop) }
 {
     let mut params = Vec::new(alloc);
-    let mut left = rows;
-    while let Some((row, rest)) = left.split_first() {
-        if is_plain(row, bytes, PARAMETERS_END) {
-            return Ok((params, rest));
+    let mut at = from;
+    while let Some(row) = row_at(rows, at) {
+        if is_plain(row, PARAMETERS_END) {
+            return Ok((params, at + 1));
         }
-        let Some(call) = parameter_at(row, bytes) else {
-            return Err(ParseStop::At(left.len()));
+        let Some(call) = parameter_in(row) else {
+            return Err(stop_at(rows, at));
         };
         params.push(call)?;
-        left = rest;
+        at += 1;
     }
-    Err(ParseStop::At(left.len()))
+    Err(stop_at(rows, at))
 }
 
-/// Reads an item, and returns the rows after it.
-// Inlined, since its result has 80 bytes, which a call would copy.
+/// Reads an item from this index on, and returns the index after it.
+// Inlined, since a call would copy its result, which is large.
 #[inline(always)]
-fn item<'a, 'r>(
+fn item<'a>(
     alloc: Global,
-    rows: &'r [Row],
-    bytes: &'a [u8],
-) -> Result<(ItemCalls<'a>, &'r [Row]), ParseStop>
-    ensures read { IfOk result (λ r. Reads bytes.now rows.now (item_events (item_of_calls r.0)) r.1.now) }
-    ensures stopped { IfErr result (λ stop. (p : ParseState) → IsStop bytes.now (value p) rows.now stop) }
+    rows: &[Row<'a>],
+    from: usize,
+) -> Result<(ItemCalls<'a>, usize), ParseStop>
+    ensures read { IfOk result (λ r. Reads (drop from rows.now) (item_events (item_of_calls r.0)) (drop r.1 rows.now)) }
+    ensures stopped { IfErr result (λ stop. (p : ParseState) → IsStop (value p) (drop from rows.now) stop) }
 {
-    let Some((row, rest)) = rows.split_first() else {
-        return Err(ParseStop::At(rows.len()));
+    let Some(row) = row_at(rows, from) else {
+        return Err(stop_at(rows, from));
     };
-    let Some(value) = value_at(row, bytes) else {
-        return Err(ParseStop::At(rows.len()));
+    let Some(value) = value_in(row) else {
+        return Err(stop_at(rows, from));
     };
-    let (params, left) = parameters(alloc, rest, bytes)?;
-    Ok((ItemCalls { value, params }, left))
+    let (params, after) = parameters(alloc, rows, from + 1)?;
+    Ok((ItemCalls { value, params }, after))
 }
 
-/// Reads the items of an inner list and their end, and returns the rows after them.
-fn items<'a, 'r>(
+/// Reads the items of an inner list and their end from this index on, and returns the index after them.
+fn items<'a>(
     alloc: Global,
-    rows: &'r [Row],
-    bytes: &'a [u8],
-) -> Result<(Vec<ItemCalls<'a>>, &'r [Row]), ParseStop>
-    ensures read { IfOk result (λ r. Reads bytes.now rows.now
-        (flat_map inner_item_events (map item_of_calls r.0.items) ++ inner_list_end ∷ []) r.1.now) }
-    ensures stopped { IfErr result (λ stop. (p : ParseState) → IsStop bytes.now (items p) rows.now stop) }
+    rows: &[Row<'a>],
+    from: usize,
+) -> Result<(Vec<ItemCalls<'a>>, usize), ParseStop>
+    ensures read { IfOk result (λ r. Reads (drop from rows.now)
+        (flat_map inner_item_events (map item_of_calls r.0.items) ++ inner_list_end ∷ []) (drop r.1 rows.now)) }
+    ensures stopped { IfErr result (λ stop. (p : ParseState) → IsStop (items p) (drop from rows.now) stop) }
 {
     let mut items = Vec::new(alloc);
-    let mut left = rows;
-    while let Some((row, rest)) = left.split_first() {
-        if is_plain(row, bytes, INNER_LIST_END) {
-            return Ok((items, rest));
+    let mut at = from;
+    while let Some(row) = row_at(rows, at) {
+        if is_plain(row, INNER_LIST_END) {
+            return Ok((items, at + 1));
         }
-        if !is_plain(row, bytes, ITEM) {
-            return Err(ParseStop::At(left.len()));
+        if !is_plain(row, ITEM) {
+            return Err(stop_at(rows, at));
         }
-        let (read, after) = item(alloc, rest, bytes)?;
+        let (read, after) = item(alloc, rows, at + 1)?;
         items.push(read)?;
-        left = after;
+        at = after;
     }
-    Err(ParseStop::At(left.len()))
+    Err(stop_at(rows, at))
 }
 
-/// Reads an inner list after the row that begins it, and returns the rows after it.
-fn inner_list<'a, 'r>(
+/// Reads an inner list from the index after the row that begins it, and returns the index after the list.
+fn inner_list<'a>(
     alloc: Global,
-    rows: &'r [Row],
-    bytes: &'a [u8],
-) -> Result<(MemberCalls<'a>, &'r [Row]), ParseStop>
-    ensures read { IfOk result (λ r. (row : Row) → IsRowOf bytes.now row begins_inner_list
-        → Reads bytes.now (row ∷ rows.now) (member_events (member_of_calls r.0)) r.1.now) }
+    rows: &[Row<'a>],
+    from: usize,
+) -> Result<(MemberCalls<'a>, usize), ParseStop>
+    ensures read { IfOk result (λ r. (row : Row) → IsRowOf row begins_inner_list
+        → Reads (row ∷ drop from rows.now) (member_events (member_of_calls r.0)) (drop r.1 rows.now)) }
     ensures whole { IfOk result (λ r. IsTrue (is_written r.0)) }
-    ensures stopped { IfErr result (λ stop. (p : ParseState) → IsStop bytes.now (items p) rows.now stop) }
+    ensures stopped { IfErr result (λ stop. (p : ParseState) → IsStop (items p) (drop from rows.now) stop) }
 {
-    let (items, left) = items(alloc, rows, bytes)?;
-    let (params, left) = parameters(alloc, left, bytes)?;
+    let (items, middle) = items(alloc, rows, from)?;
+    let (params, after) = parameters(alloc, rows, middle)?;
     let list = MemberCalls::InnerList {
         items,
         params,
         abandon: false,
     };
-    Ok((list, left))
+    Ok((list, after))
 }
 
-/// Reads a member, and returns the rows after it.
-fn member<'a, 'r>(
+/// Reads a member from this index on, and returns the index after it.
+fn member<'a>(
     alloc: Global,
-    rows: &'r [Row],
-    bytes: &'a [u8],
-) -> Result<(MemberCalls<'a>, &'r [Row]), ParseStop>
-    ensures read { IfOk result (λ r. Reads bytes.now rows.now (member_events (member_of_calls r.0)) r.1.now) }
+    rows: &[Row<'a>],
+    from: usize,
+) -> Result<(MemberCalls<'a>, usize), ParseStop>
+    ensures read { IfOk result (λ r. Reads (drop from rows.now) (member_events (member_of_calls r.0)) (drop r.1 rows.now)) }
     ensures whole { IfOk result (λ r. IsTrue (is_written r.0)) }
-    ensures stopped { IfErr result (λ stop. (p : ParseState) → IsStop bytes.now (member p) rows.now stop) }
+    ensures stopped { IfErr result (λ stop. (p : ParseState) → IsStop (member p) (drop from rows.now) stop) }
 {
-    let Some((row, rest)) = rows.split_first() else {
-        return Err(ParseStop::At(rows.len()));
+    let Some(row) = row_at(rows, from) else {
+        return Err(stop_at(rows, from));
     };
-    if is_plain(row, bytes, ITEM) {
-        let (item, left) = item(alloc, rest, bytes)?;
-        return Ok((MemberCalls::Item(item), left));
+    if is_plain(row, ITEM) {
+        let (item, after) = item(alloc, rows, from + 1)?;
+        return Ok((MemberCalls::Item(item), after));
     }
-    if !is_plain(row, bytes, INNER_LIST) {
-        return Err(ParseStop::At(rows.len()));
+    if !is_plain(row, INNER_LIST) {
+        return Err(stop_at(rows, from));
     }
-    inner_list(alloc, rest, bytes)
+    inner_list(alloc, rows, from + 1)
 }
 
 /// Reads an item, and nothing after it.
-pub(crate) fn item_of<'a>(
-    alloc: Global,
-    rows: &[Row],
-    bytes: &'a [u8],
-) -> Result<ItemCalls<'a>, ParseStop>
-    ensures read { IfOk result (λ calls. AreRowsOfField item_field rows.now bytes.now (item_of_calls calls)) }
-    ensures stopped { IfErr result (IsStop bytes.now (beginning item_field) rows.now) }
+pub(crate) fn item_of<'a>(alloc: Global, rows: &[Row<'a>]) -> Result<ItemCalls<'a>, ParseStop>
+    ensures read { IfOk result (λ calls. AreRowsOfField item_field rows.now (item_of_calls calls)) }
+    ensures stopped { IfErr result (IsStop (beginning item_field) rows.now) }
 {
-    let (item, left) = item(alloc, rows, bytes)?;
-    if !left.is_empty() {
-        return Err(ParseStop::At(left.len()));
+    let (item, after) = item(alloc, rows, 0)?;
+    match row_at(rows, after) {
+        Some(_row) => Err(stop_at(rows, after)),
+        None => Ok(item),
     }
-    Ok(item)
 }
 
 /// Reads the members of a list.
 pub(crate) fn list_of<'a>(
     alloc: Global,
-    rows: &[Row],
-    bytes: &'a [u8],
+    rows: &[Row<'a>],
 ) -> Result<Vec<MemberCalls<'a>>, ParseStop>
-    ensures read { IfOk result (λ calls. AreRowsOfField list_field rows.now bytes.now (map member_of_calls calls.items)) }
+    ensures read { IfOk result (λ calls. AreRowsOfField list_field rows.now (map member_of_calls calls.items)) }
     ensures whole { IfOk result (λ calls. described_list calls.items ≡ map member_of_calls calls.items) }
-    ensures stopped { IfErr result (IsStop bytes.now (beginning list_field) rows.now) }
+    ensures stopped { IfErr result (IsStop (beginning list_field) rows.now) }
 {
     let mut members = Vec::new(alloc);
-    let mut left = rows;
-    while let Some((row, rest)) = left.split_first() {
-        if !is_plain(row, bytes, ENTRY) {
-            return Err(ParseStop::At(left.len()));
+    let mut at = 0;
+    while let Some(row) = row_at(rows, at) {
+        if !is_plain(row, ENTRY) {
+            return Err(stop_at(rows, at));
         }
-        let (read, after) = member(alloc, rest, bytes)?;
+        let (read, after) = member(alloc, rows, at + 1)?;
         members.push(read)?;
-        left = after;
+        at = after;
     }
     Ok(members)
 }
@@ -193,22 +204,21 @@ pub(crate) fn list_of<'a>(
 /// Reads the members of a dictionary.
 pub(crate) fn dictionary_of<'a>(
     alloc: Global,
-    rows: &[Row],
-    bytes: &'a [u8],
+    rows: &[Row<'a>],
 ) -> Result<Vec<(KeyRef<'a>, MemberCalls<'a>)>, ParseStop>
-    ensures read { IfOk result (λ calls. AreRowsOfField dictionary_field rows.now bytes.now (map entry_of_calls calls.items)) }
+    ensures read { IfOk result (λ calls. AreRowsOfField dictionary_field rows.now (map entry_of_calls calls.items)) }
     ensures whole { IfOk result (λ calls. described_dictionary calls.items ≡ map entry_of_calls calls.items) }
-    ensures stopped { IfErr result (IsStop bytes.now (beginning dictionary_field) rows.now) }
+    ensures stopped { IfErr result (IsStop (beginning dictionary_field) rows.now) }
 {
     let mut members = Vec::new(alloc);
-    let mut left = rows;
-    while let Some((row, rest)) = left.split_first() {
-        let Some(key) = keyed_entry_at(row, bytes) else {
-            return Err(ParseStop::At(left.len()));
+    let mut at = 0;
+    while let Some(row) = row_at(rows, at) {
+        let Some(key) = keyed_entry_in(row) else {
+            return Err(stop_at(rows, at));
         };
-        let (read, after) = member(alloc, rest, bytes)?;
+        let (read, after) = member(alloc, rows, at + 1)?;
         members.push((key, read))?;
-        left = after;
+        at = after;
     }
     Ok(members)
 }

@@ -1,6 +1,6 @@
 //! Rows that are written as a text.
 
-ghost use Rattle.std.specs.Prelude.{◌≡◌, ℕ, List, length};
+ghost use Rattle.std.specs.Prelude.{◌≡◌, List, length};
 ghost use Rattle.sfv.specs.Types.{FieldKind, item_field, list_field, dictionary_field, Version};
 ghost use Rattle.sfv_c.specs.declared.rows.Row.{Row};
 ghost use Rattle.sfv_c.specs.RowEvents.{beginning, IsTextMade, IsStop};
@@ -15,8 +15,8 @@ use std::alloc::Global;
 
 /// Returns the reason why no field has these rows.
 fn fault_of(count: usize, stop: ParseStop) -> CallFault
-    ensures { (version : Version) (kind : FieldKind) (rows : List Row) (bytes : List ℕ)
-        → count ≡ length rows → IsStop bytes (beginning kind) rows stop → IsWriteFault version kind rows bytes result }
+    ensures { (version : Version) (kind : FieldKind) (rows : List Row)
+        → count ≡ length rows → IsStop (beginning kind) rows stop → IsWriteFault version kind rows result }
 {
     match stop {
         ParseStop::At(left) => CallFault::Rows(count.saturating_sub(left)),
@@ -25,15 +25,10 @@ fn fault_of(count: usize, stop: ParseStop) -> CallFault
 }
 
 /// The text of the item of these rows.
-fn item_text(
-    alloc: Global,
-    writing: Version,
-    rows: &[Row],
-    bytes: &[u8],
-) -> Result<Option<String>, CallFault>
-    ensures { IsTextMade writing item_field rows.now bytes.now result }
+fn item_text(alloc: Global, writing: Version, rows: &[Row<'_>]) -> Result<Option<String>, CallFault>
+    ensures { IsTextMade writing item_field rows.now result }
 {
-    let calls = match item_of(alloc, rows, bytes) {
+    let calls = match item_of(alloc, rows) {
         Ok(calls) => calls,
         Err(stop) => return Err(fault_of(rows.len(), stop)),
     };
@@ -43,15 +38,10 @@ fn item_text(
 }
 
 /// The text of the list of these rows, if it has a member.
-fn list_text(
-    alloc: Global,
-    writing: Version,
-    rows: &[Row],
-    bytes: &[u8],
-) -> Result<Option<String>, CallFault>
-    ensures { IsTextMade writing list_field rows.now bytes.now result }
+fn list_text(alloc: Global, writing: Version, rows: &[Row<'_>]) -> Result<Option<String>, CallFault>
+    ensures { IsTextMade writing list_field rows.now result }
 {
-    let calls = match list_of(alloc, rows, bytes) {
+    let calls = match list_of(alloc, rows) {
         Ok(calls) => calls,
         Err(stop) => return Err(fault_of(rows.len(), stop)),
     };
@@ -64,12 +54,11 @@ fn list_text(
 fn dictionary_text(
     alloc: Global,
     writing: Version,
-    rows: &[Row],
-    bytes: &[u8],
+    rows: &[Row<'_>],
 ) -> Result<Option<String>, CallFault>
-    ensures { IsTextMade writing dictionary_field rows.now bytes.now result }
+    ensures { IsTextMade writing dictionary_field rows.now result }
 {
-    let calls = match dictionary_of(alloc, rows, bytes) {
+    let calls = match dictionary_of(alloc, rows) {
         Ok(calls) => calls,
         Err(stop) => return Err(fault_of(rows.len(), stop)),
     };
@@ -83,15 +72,14 @@ fn text_of(
     alloc: Global,
     field: FieldKind,
     writing: Version,
-    rows: &[Row],
-    bytes: &[u8],
+    rows: &[Row<'_>],
 ) -> Result<Option<String>, CallFault>
-    ensures { IsTextMade writing field rows.now bytes.now result }
+    ensures { IsTextMade writing field rows.now result }
 {
     match field {
-        FieldKind::Item => item_text(alloc, writing, rows, bytes),
-        FieldKind::List => list_text(alloc, writing, rows, bytes),
-        FieldKind::Dictionary => dictionary_text(alloc, writing, rows, bytes),
+        FieldKind::Item => item_text(alloc, writing, rows),
+        FieldKind::List => list_text(alloc, writing, rows),
+        FieldKind::Dictionary => dictionary_text(alloc, writing, rows),
     }
 }
 
@@ -100,13 +88,12 @@ fn put_rows(
     alloc: Global,
     field: FieldKind,
     writing: Version,
-    rows: &[Row],
-    bytes: &[u8],
+    rows: &[Row<'_>],
     out: &mut [u8],
 ) -> Result<Written, CallFault>
-    ensures { IsWriteOutcome writing field rows.now bytes.now out.old out.new result }
+    ensures { IsWriteOutcome writing field rows.now out.old out.new result }
 {
-    let text = text_of(alloc, field, writing, rows, bytes)?;
+    let text = text_of(alloc, field, writing, rows)?;
     Ok(put_text(text, out))
 }
 
@@ -115,13 +102,12 @@ pub(crate) fn write(
     alloc: Global,
     field: FieldKind,
     writing: Version,
-    rows: &[Row],
-    bytes: &[u8],
+    rows: &[Row<'_>],
     out: &mut [u8],
 ) -> Answer
-    ensures { IsWrite writing field rows.now bytes.now out.old out.new result }
+    ensures { IsWrite writing field rows.now out.old out.new result }
 {
-    match put_rows(alloc, field, writing, rows, bytes, out) {
+    match put_rows(alloc, field, writing, rows, out) {
         Ok(written) => Answer::of_written(written),
         Err(fault) => Answer::of_fault(fault),
     }

@@ -8,13 +8,13 @@ use Rattle.sfv_c.proofs.Fields.{text_err, script_fault, some_item}
 use Rattle.sfv_c.proofs.write.item_text.Goals as goal
 
 pub returns-in-Err : goal.returns-in-Err
-returns-in-Err c = c.fault_of.ensures c.args.writing item_field c.args.rows.now c.args.bytes.now refl c.in-Err.ensures.stopped
+returns-in-Err c = c.fault_of.ensures c.args.writing item_field c.args.rows.now refl c.in-Err.ensures.stopped
 
 pub returns-in_err-run_item_for : goal.returns-in_err-run_item_for
 returns-in_err-run_item_for c =
-    text_err c.args.writing item_field c.args.rows.now c.args.bytes.now c.from_residual.result
+    text_err c.args.writing item_field c.args.rows.now c.from_residual.result
     c.in_err-run_item_for.field-0.0 c.from_residual.ensures.1
-    (script_fault c.args.writing item_field c.args.rows.now c.args.bytes.now (item_of_calls c.in-Ok.calls)
+    (script_fault c.args.writing item_field c.args.rows.now (item_of_calls c.in-Ok.calls)
     c.in-Ok.ensures.read (some_item (item_of_calls c.in-Ok.calls)) c.in_err-run_item_for.field-0.0 c.in_err-run_item_for.ensures.unsupported)
 
 pub returns : goal.returns

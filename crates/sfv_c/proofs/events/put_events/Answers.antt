@@ -1,11 +1,10 @@
 use Rattle.std.proofs.Common.{Ok, Err, ap}
 use Rattle.sfv_c.specs.declared.answer.Answer.{Answer}
-use Rattle.sfv_c.specs.EventsWhole.{collected_of}
-use Rattle.sfv_c.proofs.events_whole.put_events.Goals as goal
+use Rattle.sfv_c.proofs.events.put_events.Goals as goal
 
 pub returns-in-Ok : goal.returns-in-Ok
 returns-in-Ok c = record {
-  outcome = Ok (collected_of c.in-Ok.collector);
+  outcome = Ok (c.in-Ok.collector.rows.items, c.in-Ok.collector.used);
   reading = c.in-Ok.ensures.accepted;
   put = c.copy.ensures;
 }
@@ -14,5 +13,5 @@ pub returns-in-Err : goal.returns-in-Err
 returns-in-Err c = record {
   outcome = Err c.in-Err.error;
   reading = c.in-Err.ensures.rejected;
-  put = ap (λ (a : Answer). (c.args.rows.now, c.args.bytes.now, a)) c.of_error.ensures;
+  put = ap (λ (a : Answer). (c.args.rows.now, a)) c.of_error.ensures;
 }
