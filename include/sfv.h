@@ -9,22 +9,22 @@
  *     sfv_lines        joins several lines of one field
  *     sfv_error_text   returns the text of an error
  *
- * Pointers. The library keeps no pointer after a call, and returns no memory to free. Inputs can contain any bytes and
- * need no NUL. A buffer that a call writes must not overlap another argument. A pointer can be NULL if its length is 0.
+ * Pointers. The library keeps no pointer after a call, and returns no memory to free. An input can contain any bytes and
+ * needs no NUL. A buffer that a call writes must not overlap another argument. A pointer can be NULL if its length is 0.
  * NULL with a length above 0, or a length of more than PTRDIFF_MAX bytes, is SFV_BAD_ARGUMENT.
  *
- * Memory. The library calls malloc, realloc and free, and frees all its memory before it returns. Each call says when it
- * allocates. If an allocation fails, the status is SFV_OUT_OF_MEMORY. No call recurses. A call needs at most @STACK@ of
- * stack.
+ * Memory. The library calls malloc, realloc and free, and frees all its memory before it returns. If an allocation fails,
+ * the status is SFV_OUT_OF_MEMORY. No call recurses. A call uses less than 4.5 KB of stack, or 6 KB if the dynamic linker
+ * binds functions lazily. These sizes are measured.
  *
- * Threads. Any number of calls can run at once. The only state is the seed of sfv_canonical, which is chosen once. Do not
- * call from a signal handler, or after fork in a process with threads.
+ * Threads. Any number of calls can run at once. The only state is the seed of sfv_canonical. Do not call from a signal
+ * handler, or after fork in a process with threads.
  *
  * Linking. include/install.sh installs the library: cc program.c $(pkg-config --cflags --libs sfv). Builds are for
  * x86-64-v2 processors (SSE4.2, POPCNT).
  *
- * Proved for all arguments: the statuses and numbers of the exported calls, the rows, and the texts. Only tested: the
- * inline functions below, that SFV_ROWS_FOR rows and input_length bytes of room suffice, and which strings need room.
+ * Proved for all arguments: the answers of the exported calls, the contents of rows, and the texts. Only tested: the
+ * functions of this header, that SFV_ROWS_FOR rows and `input_length` bytes of room suffice, and which strings need room.
  * Nothing checks the caller.
  */
 #ifndef SFV_H
@@ -38,8 +38,7 @@
 extern "C" {
 #endif
 
-/* The version of the library, and the number of its binary interface. A change of a number, a struct or a signature raises
- * SFV_ABI. A program that loads a shared library can compare SFV_ABI with sfv_abi(). */
+/* The version of the library, and of its binary interface. A change of a number, a struct or a signature raises SFV_ABI. */
 #define SFV_VERSION_MAJOR 0
 #define SFV_VERSION_MINOR 16
 #define SFV_VERSION_PATCH 0
@@ -66,7 +65,7 @@ typedef enum sfv_status {
     SFV_TOO_SMALL = 2,     /* a buffer is too small: `length` and `rows` are the needed sizes */
     SFV_REJECTED = 3,      /* the input is no such field: `kind` is an sfv_error_kind, `index` an index of the input */
     SFV_OUT_OF_MEMORY = 4, /* an allocation failed */
-    SFV_BAD_ARGUMENT = 5,  /* a number names no type, version or kind; or a pointer or length is wrong */
+    SFV_BAD_ARGUMENT = 5,  /* a number names no type or version; or a pointer or length is wrong */
     SFV_UNSUPPORTED = 6,   /* the version lacks a value: `kind` is the sfv_value_kind of the first such value */
     SFV_WRONG_ROW = 7      /* no field of this type has these rows: `index` is the first wrong row */
 } sfv_status;
@@ -110,7 +109,7 @@ typedef enum sfv_error_kind {
 typedef struct sfv_answer {
     uint32_t status; /* an sfv_status */
     uint32_t kind;   /* the kind of the error or of the value */
-    size_t index;    /* the index of the syntax error, from 0 to the length of the input, or of the wrong row */
+    size_t index;    /* the index of the syntax error, at most `input_length`, or of the row */
     size_t length;   /* the number of bytes, written or needed */
     size_t rows;     /* the number of rows, written or needed */
 } sfv_answer;
@@ -121,7 +120,7 @@ typedef struct sfv_bytes {
     size_t length;
 } sfv_bytes;
 
-/* The parts of a field, in the order of its text. For example, `a=1;x, b=(c)` has the rows
+/* The parts of a field in order. For example, `a=1;x, b=(c)` has the rows
  *     KEYED_ENTRY a, BEGIN_ITEM, BARE_ITEM 1, PARAMETER x true, END_PARAMETERS,
  *     KEYED_ENTRY b, BEGIN_INNER, BEGIN_ITEM, BARE_ITEM c, END_PARAMETERS, END_INNER, END_PARAMETERS. */
 typedef enum sfv_tag {
@@ -135,7 +134,7 @@ typedef enum sfv_tag {
     SFV_END_INNER = 8       /* the items of an inner list end */
 } sfv_tag;
 
-/* The kinds of value, and the member of sfv_row that holds each. */
+/* The kinds of value, and the member of sfv_row for each. */
 typedef enum sfv_value_kind {
     SFV_NO_VALUE = 0,
     SFV_INTEGER = 1,       /* `number` */
@@ -148,7 +147,7 @@ typedef enum sfv_value_kind {
     SFV_DISPLAY_STRING = 8 /* `bytes`, decoded: UTF-8 */
 } sfv_value_kind;
 
-/* A part of a field. Each member that the part lacks is 0 or empty. No pointer in a row is NULL. */
+/* A part of a field. Each member that it lacks is 0 or empty. No pointer is NULL. */
 typedef struct sfv_row {
     uint32_t tag;  /* an sfv_tag */
     uint32_t kind; /* an sfv_value_kind */
@@ -157,21 +156,21 @@ typedef struct sfv_row {
     int64_t number;
 } sfv_row;
 
-/* Does not compile if a struct has another layout than in the library. */
+/* Does not compile unless the structs have the layout of the library. */
 typedef char sfv_check_layout[sizeof(size_t) == 8 && sizeof(sfv_answer) == 32 && offsetof(sfv_answer, kind) == 4
         && offsetof(sfv_answer, index) == 8 && offsetof(sfv_answer, length) == 16 && offsetof(sfv_answer, rows) == 24
         && sizeof(sfv_row) == 48 && offsetof(sfv_row, kind) == 4 && offsetof(sfv_row, key) == 8
         && offsetof(sfv_row, bytes) == 24 && offsetof(sfv_row, number) == 40 && offsetof(sfv_bytes, length) == 8
     ? 1 : -1];
 
-/* This number of rows suffices for each field of `n` bytes. Its product with sizeof(sfv_row) does not overflow. */
+/* So many rows suffice for `n` bytes. The product with sizeof(sfv_row) does not overflow. */
 #define SFV_MAX_ROWS ((size_t)-1 / sizeof(sfv_row))
 #define SFV_ROWS_FOR(n) ((size_t)(n) > SFV_MAX_ROWS / 2 - 1 ? SFV_MAX_ROWS : (size_t)(n) * 2 + 2)
 
-/* This number of bytes suffices for each text of sfv_error_text, with its NUL. */
+/* The longest text of sfv_error_text, with its NUL. */
 #define SFV_TEXT_SIZE 64
 
-/* The exported functions, for other languages. They reject no pointer and no length: none can be NULL. */
+/* The exported functions, for other languages. They accept no NULL. */
 uint32_t sfv_c_abi(void);
 sfv_answer sfv_c_canonical(uint32_t type, uint32_t reading, uint32_t writing, uint64_t seed, const uint8_t *input,
                            size_t input_length, uint8_t *out, size_t out_length);
@@ -182,10 +181,10 @@ sfv_answer sfv_c_write_spans(uint32_t type, uint32_t version, const sfv_row *row
                              size_t out_length);
 sfv_answer sfv_c_message(uint32_t kind, uint8_t *out, size_t out_length);
 
-/* Returns the random number that the first call chooses. */
+/* Returns the random number that its first call chooses. */
 uint64_t sfv_seed(void);
 
-/* Returns the SFV_ABI of the library. */
+/* Returns the SFV_ABI of the library that the program runs with. */
 SFV_INLINE uint32_t sfv_abi(void) { return sfv_c_abi(); }
 
 SFV_INLINE sfv_answer sfv_make_answer(sfv_status status, size_t index, size_t length) {
@@ -204,8 +203,8 @@ SFV_INLINE int sfv_is_buffer(const void *data, size_t length, size_t size) {
 
 /* Checks that the input is a field.
  *
- * Returns SFV_OK, SFV_REJECTED, SFV_OUT_OF_MEMORY or SFV_BAD_ARGUMENT. Allocates only if the input contains a backslash, a
- * percent sign or a colon, and then @CHECK@. */
+ * Returns SFV_OK, SFV_REJECTED, SFV_OUT_OF_MEMORY or SFV_BAD_ARGUMENT. Allocates only if the input contains a
+ * backslash, a percent sign or a colon: up to 3 bytes per byte of input. */
 SFV_INLINE sfv_answer sfv_check(sfv_type type, sfv_version version, const void *input, size_t input_length) {
     uint8_t none = 0;
     if (!sfv_is_buffer(input, input_length, 1)) return sfv_make_answer(SFV_BAD_ARGUMENT, 0, 0);
@@ -214,14 +213,13 @@ SFV_INLINE sfv_answer sfv_check(sfv_type type, sfv_version version, const void *
 
 /* Parses a field into rows.
  *
- * Keys, tokens, and strings without an escape point into `input`. Byte sequences and texts with an escape are decoded into
- * `room`, and their rows point there. So rows are valid as long as both. `room` can be NULL if no such value is
- * expected. A repeated key has a row each time; its last value counts.
+ * Rows point into `input`. Byte sequences and texts with an escape are decoded into `room`, and their rows point
+ * there. So rows are valid as long as both. A repeated key has a row each time; its last value counts.
  *
  * Returns SFV_OK with the number of rows and the used length of `room`. Returns SFV_TOO_SMALL with the needed sizes;
- * SFV_ROWS_FOR(input_length) rows and `input_length` bytes suffice. Otherwise returns SFV_REJECTED, SFV_OUT_OF_MEMORY or
- * SFV_BAD_ARGUMENT. Unless the status is SFV_OK, `rows` is unchanged, and `room` can contain anything. Allocates
- * @PARSE@. */
+ * SFV_ROWS_FOR(input_length) rows and `input_length` bytes suffice. Otherwise returns SFV_REJECTED, SFV_OUT_OF_MEMORY
+ * or SFV_BAD_ARGUMENT. Unless the status is SFV_OK, `rows` is unchanged, and `room` can contain anything. Allocates up
+ * to 960 bytes, or 144 per row, and 3 bytes per byte of the longest decoded value. */
 SFV_INLINE sfv_answer sfv_parse(sfv_type type, sfv_version version, const void *input, size_t input_length, sfv_row *rows,
                                 size_t rows_length, void *room, size_t room_length) {
     static uint8_t no_room;
@@ -240,8 +238,8 @@ SFV_INLINE int sfv_is(sfv_bytes bytes, const char *text) {
     return bytes.length == length && memcmp(bytes.data, text, length) == 0;
 }
 
-/* Returns the value of the last member with this key, or NULL: its SFV_BARE_ITEM, or the SFV_BEGIN_INNER of an inner list.
- * The rows are those of a whole dictionary. */
+/* Returns the value of the last member with this key, or NULL: its SFV_BARE_ITEM or SFV_BEGIN_INNER. The rows are a
+ * whole dictionary. */
 SFV_INLINE const sfv_row *sfv_member(const sfv_row *rows, size_t rows_length, const char *key) {
     const sfv_row *found = NULL;
     size_t i;
@@ -251,8 +249,8 @@ SFV_INLINE const sfv_row *sfv_member(const sfv_row *rows, size_t rows_length, co
     return found;
 }
 
-/* Returns the last parameter with this key, or NULL. `owner` is an SFV_BARE_ITEM or SFV_BEGIN_INNER of a parsed field, or
- * NULL. */
+/* Returns the last parameter with this key, or NULL. `owner` is an SFV_BARE_ITEM or SFV_BEGIN_INNER of a parsed field,
+ * or NULL. */
 SFV_INLINE const sfv_row *sfv_parameter(const sfv_row *owner, const char *key) {
     const sfv_row *found = NULL;
     if (owner == NULL) return NULL;
@@ -307,14 +305,13 @@ SFV_INLINE sfv_row sfv_parameter_row(const char *key, sfv_row value) {
     return value;
 }
 
-/* Writes the canonical text of the field of these rows to the start of `out`. The rows come from sfv_parse, or from the
- * program. A repeated key is written each time.
+/* Writes the canonical text of the field of these rows to the start of `out`. A repeated key is written each time.
  *
- * Returns SFV_OK with the length of the text, or SFV_NOTHING. Returns SFV_TOO_SMALL with the needed length. Returns
- * SFV_WRONG_ROW with the index of the first row that no field of this type has there; if a row is missing, the index is
- * `rows_length`. Returns SFV_UNSUPPORTED, only for SFV_RFC8941, with the kind of the first value that it lacks. Returns
- * SFV_BAD_ARGUMENT for a row with a NULL pointer, with its index. Returns SFV_OUT_OF_MEMORY, only if the first two rows
- * begin a field. Unless the status is SFV_OK, `out` is unchanged. Allocates @WRITE@. */
+ * Returns SFV_OK or SFV_TOO_SMALL with the length of the text, or SFV_NOTHING. Returns SFV_WRONG_ROW with the index
+ * of the first row that no field of this type has there; if a row is missing, the index is `rows_length`. Returns
+ * SFV_UNSUPPORTED, only for SFV_RFC8941, with the kind of the first value that it lacks. Returns SFV_BAD_ARGUMENT for a
+ * row with a NULL pointer, with its index. Returns SFV_OUT_OF_MEMORY, only if the first two rows begin a field. Unless
+ * the status is SFV_OK, `out` is unchanged. Allocates up to 120 bytes per row and 3 per byte of text. */
 SFV_INLINE sfv_answer sfv_write(sfv_type type, sfv_version version, const sfv_row *rows, size_t rows_length, void *out,
                                 size_t out_length) {
     uint8_t nothing = 0;
@@ -329,12 +326,12 @@ SFV_INLINE sfv_answer sfv_write(sfv_type type, sfv_version version, const sfv_ro
 }
 
 /* Parses a field under the version `reading`, and writes its canonical text for the version `writing` to the start of
- * `out`. A repeated key keeps its first position and takes its last value. Maps hash under `seed`: an attacker who knows it
- * can choose keys that collide.
+ * `out`. A repeated key keeps its first position and takes its last value. Maps hash under `seed`. An attacker with the
+ * seed can make keys collide.
  *
- * Returns SFV_OK with the length of the text, or SFV_NOTHING. Returns SFV_TOO_SMALL with the needed length. Otherwise
- * returns SFV_REJECTED, SFV_UNSUPPORTED, SFV_OUT_OF_MEMORY or SFV_BAD_ARGUMENT. Unless the status is SFV_OK, `out` is
- * unchanged. Allocates @CANONICAL@. */
+ * Returns SFV_OK or SFV_TOO_SMALL with the length of the text, SFV_NOTHING, SFV_REJECTED, SFV_UNSUPPORTED,
+ * SFV_OUT_OF_MEMORY or SFV_BAD_ARGUMENT. Unless the status is SFV_OK, `out` is unchanged. Allocates up to 2 KB and 260
+ * bytes per byte of input. */
 SFV_INLINE sfv_answer sfv_canonical_with_seed(sfv_type type, sfv_version reading, sfv_version writing, uint64_t seed,
                                               const void *input, size_t input_length, void *out, size_t out_length) {
     uint8_t none = 0, nothing = 0;
@@ -353,7 +350,7 @@ SFV_INLINE sfv_answer sfv_canonical(sfv_type type, sfv_version reading, sfv_vers
 
 /* Joins the lines of one field with a comma and a space, for the other calls.
  *
- * Returns SFV_OK with the length. Returns SFV_TOO_SMALL with the needed length, or SFV_BAD_ARGUMENT; `out` is then
+ * Returns SFV_OK or SFV_TOO_SMALL with the length, or SFV_BAD_ARGUMENT. Unless the status is SFV_OK, `out` is
  * unchanged. Allocates nothing. */
 SFV_INLINE sfv_answer sfv_lines(const sfv_bytes *lines, size_t lines_length, void *out, size_t out_length) {
     char *end = (char *)out;
@@ -379,7 +376,7 @@ SFV_INLINE sfv_answer sfv_lines(const sfv_bytes *lines, size_t lines_length, voi
     return sfv_make_answer(SFV_OK, 0, length);
 }
 
-/* Writes a text for people, with a NUL, to `text`, and returns it. */
+/* Writes the text of a status or error to `text`, with a NUL, and returns it. */
 SFV_INLINE const char *sfv_error_text(sfv_answer a, char text[SFV_TEXT_SIZE]) {
     const char *known = "unknown status";
     sfv_answer m;
