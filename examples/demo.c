@@ -1,5 +1,5 @@
-/* Parses a Priority field and a Cache-Status list, prints canonical texts and syntax errors, and writes a dictionary that it
- * parses back. The program in rust/src/main.rs does the same. Both print demo.out. */
+/* Parses a Priority field and a Cache-Status list, and prints canonical texts and syntax errors. Writes a dictionary, and
+ * parses it back. The program in rust/src/main.rs does the same. Both print demo.out. */
 #include <stdio.h>
 #include <string.h>
 

@@ -216,7 +216,7 @@ static int try_accepted(sfv_type type, sfv_version version, const char *input, s
     return write_rows(type, below(2) ? version : SFV_RFC8941, rows, counted.rows) == SFV_OK ? 2 : 1;
 }
 
-/* Returns 0 for a rejected field, 1 for an accepted one, and 2 if its damaged rows are those of another field. */
+/* Returns 0 for a rejected field and 1 for an accepted one. Returns 2 if its damaged rows have a text. */
 static int try_field(sfv_type type, sfv_version version) {
     char *input = last(input_end, field_length);
     sfv_answer checked, counted, written;

@@ -1,5 +1,5 @@
-/* Parses lines `TYPE VERSION HEX CALLS RESULT` like those of crates/sfv_replay/stdin: the field type, the version, the input
- * in hexadecimal (`-` if it is empty), the number of calls of a visitor, and the expected result. */
+/* Parses lines `TYPE VERSION HEX CALLS RESULT`, as in crates/sfv_replay/stdin: the field type, the version, the input in
+ * hexadecimal (`-` if it is empty), the number of calls of a visitor, and the expected result. */
 #ifndef LINES_H
 #define LINES_H
 

@@ -1,5 +1,5 @@
-//! Measures the library and, if it is present, the Rust crate, in turn in one process. Prints a table of ratios: above 1 the
-//! library is slower.
+//! Measures the library and, if it is present, the Rust crate, in turn in one process. Prints a table of ratios: above 1
+//! the library is slower.
 
 mod cases;
 mod keys;

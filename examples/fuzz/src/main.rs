@@ -52,7 +52,8 @@ fn is_written(field: u32, rows: &[Row<'_>], text: &[u8]) -> bool {
     let mut out = vec![0; 4 * text.len() + 40 * rows.len() + 16];
     let answer = sfv_c::write(field, RFC9651, rows, &mut out);
     let line = &out[..answer.length];
-    answer.status == OK && (line == text || line.len() > text.len() && ours(field, RFC9651, 1, line) == Outcome::Text(text.to_vec()))
+    let is_longer = line.len() > text.len() && ours(field, RFC9651, 1, line) == Outcome::Text(text.to_vec());
+    answer.status == OK && (line == text || is_longer)
 }
 
 /// Returns `true` if the other calls agree with the result, and a canonical text with itself.
