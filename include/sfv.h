@@ -1,67 +1,80 @@
-/* sfv.h: Structured Field Values for HTTP (RFC 9651, RFC 8941), for callers in C and C++.
+/* sfv.h: Structured Field Values for HTTP (RFC 9651 and the older RFC 8941), for C and C++.
  *
- * POINTERS. Every pointer is lent for the length of the call alone, and stays its caller's: the library keeps none, frees
- * none and returns none. What a call reads (`input`; of sfv_write `events` and `bytes`) it doesn't write. What a call
- * writes into (`out`, and else `events`, `bytes`) may overlap neither its input nor another buffer of the same call. An
- * input is bytes of any value, and needs no closing NUL; nor is one written. A length is at most PTRDIFF_MAX. Each
- * pointer of a function of this header (sfv_canonical, ..) may be NULL, whatever its length, and is then a buffer of no
- * bytes. The exported functions (sfv_c_canonical, ..) take no NULL, not even with a length of 0, which their compiled
- * code takes for granted.
+ *     sfv_check        checks that an input is a field
+ *     sfv_parse        parses a field into rows, one for each of its parts
+ *     sfv_member       finds a member of a dictionary in the rows
+ *     sfv_parameter    finds a parameter in the rows
+ *     sfv_write        writes a field from rows
+ *     sfv_canonical    parses a field, and writes it in its canonical form
+ *     sfv_lines        joins several lines of one field
+ *     sfv_error_text   returns the text of an error
  *
- * MEMORY. The library asks malloc, realloc and free, by way of the kit's object (see LINKING), and gives back all that it
- * took before it returns. These align a block to each power of two up to 16 that divides its size, as those of glibc and
- * musl do. No call is for a signal handler, nor for the forked child of a process with threads. No call keeps state: any
- * number may run at once, on any threads.
+ * Pointers. The library keeps no pointer after a call, and returns no memory to free. An input can contain any bytes and
+ * needs no NUL. A buffer that a call writes must not overlap another argument. A pointer can be NULL if its length is 0.
+ * NULL with a length above 0, or a length of more than PTRDIFF_MAX bytes, is SFV_BAD_ARGUMENT.
  *
- * STACK, TIME. No call recurses by its input. sfv_canonical builds maps, which hash under the seed that it is given: who
- * knows the seed can search for keys that fall together, which take a hundred times as long at 64 KB. So draw a number
- * once, as the program starts, and tell nobody. The other calls build no map.
+ * Memory. The library calls malloc, realloc and free, and frees all its memory before it returns. If an allocation fails,
+ * the status is SFV_OUT_OF_MEMORY. No call recurses. A call uses less than 4.5 KB of stack, or 6 KB if the dynamic linker
+ * binds functions lazily. These sizes are measured.
  *
- * LINKING. In the folder crates/sfv_c of the library's repository `rt lib` proves the library and makes out/libsfv_c.a,
- * which has code for x86-64-v2 (SSE4.2, POPCNT): on an older processor it doesn't run. With KIT for the folder in which
- * the page lies that `rt doc` prints:
+ * Threads. Any number of calls can run at once. The only state is the seed of sfv_canonical. Do not call from a signal
+ * handler, or after fork in a process with threads.
  *
- *     cc program.c -Iinclude crates/sfv_c/out/libsfv_c.a KIT/c/liblibc_c.a
+ * Linking. include/install.sh installs the library: cc program.c $(pkg-config --cflags --libs sfv). Builds are for
+ * x86-64-v2 processors (SSE4.2, POPCNT).
  *
- * The second archive is the kit's one object over malloc, realloc and free; a program may define its three functions in
- * its place, as examples/memory.c does. Nothing else is undefined but memcpy, memmove and memset. gcc, clang, g++, rustc
- * (examples/rust) and -shared take both archives.
- *
- * WHAT IS PROVED. What each call answers and leaves in its buffers, as said below, for every input, but for what is only
- * tested: what sfv_events leaves in its two buffers (that their sizes are as said is proved, and of sfv_events_whole
- * everything is), and that SFV_EVENTS_FOR and the 64 bytes of a message are enough. Nothing checks what a caller in C
- * does.
+ * Proved for all arguments: the answers of the exported calls, the contents of rows, and the texts. Only tested: the
+ * functions of this header, that SFV_ROWS_FOR rows and `input_length` bytes of room suffice, and which strings need room.
+ * Nothing checks the caller.
  */
 #ifndef SFV_H
 #define SFV_H
 
 #include <stddef.h>
 #include <stdint.h>
+#include <string.h>
 
 #ifdef __cplusplus
 extern "C" {
 #endif
 
+/* The version of the library, and of its binary interface. A change of a number, a struct or a signature raises SFV_ABI. */
+#define SFV_VERSION_MAJOR 0
+#define SFV_VERSION_MINOR 16
+#define SFV_VERSION_PATCH 0
+#define SFV_VERSION "0.16.0"
+#define SFV_ABI 1
+
+#if defined(__cplusplus) || (defined(__STDC_VERSION__) && __STDC_VERSION__ >= 199901L)
+#define SFV_INLINE static inline
+#elif defined(__GNUC__)
+#define SFV_INLINE static __inline__ __attribute__((unused))
+#else
+#define SFV_INLINE static
+#endif
+
+/* The type of a field. */
 typedef enum sfv_type { SFV_ITEM = 1, SFV_LIST = 2, SFV_DICTIONARY = 3 } sfv_type;
 
+/* RFC 8941 has no dates and no display strings. */
 typedef enum sfv_version { SFV_RFC8941 = 8941, SFV_RFC9651 = 9651 } sfv_version;
 
 typedef enum sfv_status {
-    SFV_OK = 0,            /* done */
-    SFV_NOTHING = 1,       /* a list or dictionary without members, of which no text is written */
-    SFV_TOO_SMALL = 2,     /* a buffer is too small: `length` (and `events`) say what is wanted */
-    SFV_REFUSED = 3,       /* the input is no such field: `kind` and `index` */
-    SFV_OUT_OF_MEMORY = 4, /* `kind` is SFV_ERR_OUT_OF_MEMORY */
-    SFV_BAD_ARGUMENT = 5,  /* a type, a version or a kind that isn't one of these; nothing was read or written */
-    SFV_UNSUPPORTED = 6,   /* the version of writing doesn't have a value: `kind` is an sfv_value, that of the first */
-    SFV_ROW = 7            /* the events are those of no such field: `index` is that of the one that can't stand there */
+    SFV_OK = 0,
+    SFV_NOTHING = 1,       /* a list or dictionary without members has no text: do not send the field */
+    SFV_TOO_SMALL = 2,     /* a buffer is too small: `length` and `rows` are the needed sizes */
+    SFV_REJECTED = 3,      /* the input is no such field: `kind` is an sfv_error_kind, `index` an index of the input */
+    SFV_OUT_OF_MEMORY = 4, /* an allocation failed */
+    SFV_BAD_ARGUMENT = 5,  /* a number names no type or version; or a pointer or length is wrong */
+    SFV_UNSUPPORTED = 6,   /* the version lacks a value: `kind` is the sfv_value_kind of the first such value */
+    SFV_WRONG_ROW = 7      /* no field of this type has these rows: `index` is the first wrong row */
 } sfv_status;
 
-/* The kinds of error. sfv_message has the text of each. */
-typedef enum sfv_kind {
+/* The kinds of error. No call returns the kinds 2, 3 and 4. */
+typedef enum sfv_error_kind {
     SFV_ERR_NONE = 0,
     SFV_ERR_OUT_OF_MEMORY = 1,
-    SFV_ERR_OUT_OF_RANGE = 2,              /* 2 to 4 are of no call today */
+    SFV_ERR_OUT_OF_RANGE = 2,
     SFV_ERR_EMPTY = 3,
     SFV_ERR_INVALID_CHARACTER = 4,
     SFV_ERR_TRAILING_CHARACTERS_AFTER_MEMBER = 5,
@@ -90,137 +103,303 @@ typedef enum sfv_kind {
     SFV_ERR_INVALID_DISPLAY_STRING_CHARACTER = 28,
     SFV_ERR_UNTERMINATED_DISPLAY_STRING = 29,
     SFV_ERR_EXPECTED_START_OF_KEY = 30
-} sfv_kind;
+} sfv_error_kind;
 
-/* What a call answers, by value. A field that the status doesn't name is 0. */
+/* The result of a call. Each member that the status does not use is 0. */
 typedef struct sfv_answer {
     uint32_t status; /* an sfv_status */
-    uint32_t kind;   /* of SFV_REFUSED and SFV_OUT_OF_MEMORY an sfv_kind, of SFV_UNSUPPORTED an sfv_value */
-    size_t index;    /* of SFV_REFUSED: the offset of the fault in the input, from 0 to its length; of SFV_ROW: of the row */
-    size_t length;   /* of SFV_OK and SFV_TOO_SMALL: bytes written or wanted */
-    size_t events;   /* of SFV_OK and SFV_TOO_SMALL of sfv_events and sfv_events_whole: events written or wanted */
+    uint32_t kind;   /* the kind of the error or of the value */
+    size_t index;    /* the index of the syntax error, at most `input_length`, or of the row */
+    size_t length;   /* the number of bytes, written or needed */
+    size_t rows;     /* the number of rows, written or needed */
 } sfv_answer;
 
+/* Bytes without a NUL at their end. A string or byte sequence can contain NUL. */
+typedef struct sfv_bytes {
+    const char *data;
+    size_t length;
+} sfv_bytes;
+
+/* The parts of a field in order. For example, `a=1;x, b=(c)` has the rows
+ *     KEYED_ENTRY a, BEGIN_ITEM, BARE_ITEM 1, PARAMETER x true, END_PARAMETERS,
+ *     KEYED_ENTRY b, BEGIN_INNER, BEGIN_ITEM, BARE_ITEM c, END_PARAMETERS, END_INNER, END_PARAMETERS. */
 typedef enum sfv_tag {
-    SFV_ENTRY = 1,          /* a member of a list is next */
-    SFV_KEYED_ENTRY = 2,    /* a member of a dictionary is next, under this key: a repeated key each time */
-    SFV_BEGIN_ITEM = 3,     /* the member, or the part of an inner list, is an item */
-    SFV_BEGIN_INNER = 4,    /* the member is an inner list: its items follow */
-    SFV_BARE_ITEM = 5,      /* the value of the item; a field of type SFV_ITEM begins with it */
-    SFV_PARAMETER = 6,      /* key and value of a parameter: a repeated key each time, and the last one counts */
-    SFV_END_PARAMETERS = 7, /* the parameters of the item, or of the inner list, end */
-    SFV_END_INNER = 8       /* the items of the inner list end: its parameters follow */
+    SFV_ENTRY = 1,          /* a member of a list follows */
+    SFV_KEYED_ENTRY = 2,    /* a member of a dictionary follows; this is its `key` */
+    SFV_BEGIN_ITEM = 3,     /* an item follows */
+    SFV_BEGIN_INNER = 4,    /* an inner list follows: its items, SFV_END_INNER, its parameters */
+    SFV_BARE_ITEM = 5,      /* the value of an item; the rows of an SFV_ITEM begin with it */
+    SFV_PARAMETER = 6,      /* `key` and value of a parameter */
+    SFV_END_PARAMETERS = 7, /* the last row of an item or inner list */
+    SFV_END_INNER = 8       /* the items of an inner list end */
 } sfv_tag;
 
-typedef enum sfv_value {
+/* The kinds of value, and the member of sfv_row for each. */
+typedef enum sfv_value_kind {
     SFV_NO_VALUE = 0,
-    SFV_INTEGER = 1,
-    SFV_DECIMAL = 2, /* `number` in thousandths */
-    SFV_STRING = 3,
-    SFV_TOKEN = 4,
-    SFV_BYTES = 5,
-    SFV_BOOLEAN = 6, /* `number` is 0 or 1 */
-    SFV_DATE = 7,    /* `number` in seconds since 1970 */
-    SFV_DISPLAY = 8  /* UTF-8 */
-} sfv_value;
+    SFV_INTEGER = 1,       /* `number` */
+    SFV_DECIMAL = 2,       /* `number`, in thousandths: 1500 for 1.5 */
+    SFV_STRING = 3,        /* `bytes`, without quotes and escapes */
+    SFV_TOKEN = 4,         /* `bytes` */
+    SFV_BYTE_SEQUENCE = 5, /* `bytes`, decoded */
+    SFV_BOOLEAN = 6,       /* `number`, 0 or 1 */
+    SFV_DATE = 7,          /* `number`, in seconds since 1970 */
+    SFV_DISPLAY_STRING = 8 /* `bytes`, decoded: UTF-8 */
+} sfv_value_kind;
 
-/* An event: 48 bytes on 64-bit machines. Offsets are into the `bytes` that the call was lent. */
-typedef struct sfv_event {
-    uint32_t tag;        /* an sfv_tag */
-    uint32_t kind;       /* an sfv_value: of SFV_BARE_ITEM and SFV_PARAMETER, and else SFV_NO_VALUE */
-    size_t key;          /* of SFV_KEYED_ENTRY and SFV_PARAMETER: where the key begins, of `key_length` bytes */
-    size_t key_length;
-    size_t bytes;        /* where the decoded text of the kinds 3, 4, 5 and 8 begins, of `bytes_length` bytes */
-    size_t bytes_length;
-    int64_t number;      /* of the kinds 1, 2, 6 and 7 */
-} sfv_event;
+/* A part of a field. Each member that it lacks is 0 or empty. No pointer is NULL. */
+typedef struct sfv_row {
+    uint32_t tag;  /* an sfv_tag */
+    uint32_t kind; /* an sfv_value_kind */
+    sfv_bytes key;
+    sfv_bytes bytes;
+    int64_t number;
+} sfv_row;
 
-/* Enough for any field of `n` bytes: so many events, and n bytes. */
-#define SFV_EVENTS_FOR(n) (2 * (n) + 2)
+/* Does not compile unless the structs have the layout of the library. */
+typedef char sfv_check_layout[sizeof(size_t) == 8 && sizeof(sfv_answer) == 32 && offsetof(sfv_answer, kind) == 4
+        && offsetof(sfv_answer, index) == 8 && offsetof(sfv_answer, length) == 16 && offsetof(sfv_answer, rows) == 24
+        && sizeof(sfv_row) == 48 && offsetof(sfv_row, kind) == 4 && offsetof(sfv_row, key) == 8
+        && offsetof(sfv_row, bytes) == 24 && offsetof(sfv_row, number) == 40 && offsetof(sfv_bytes, length) == 8
+    ? 1 : -1];
 
-/* The exported functions. */
+/* So many rows suffice for `n` bytes. The product with sizeof(sfv_row) does not overflow. */
+#define SFV_MAX_ROWS ((size_t)-1 / sizeof(sfv_row))
+#define SFV_ROWS_FOR(n) ((size_t)(n) > SFV_MAX_ROWS / 2 - 1 ? SFV_MAX_ROWS : (size_t)(n) * 2 + 2)
+
+/* The longest text of sfv_error_text, with its NUL. */
+#define SFV_TEXT_SIZE 64
+
+/* The exported functions, for other languages. They accept no NULL. */
+uint32_t sfv_c_abi(void);
 sfv_answer sfv_c_canonical(uint32_t type, uint32_t reading, uint32_t writing, uint64_t seed, const uint8_t *input,
                            size_t input_length, uint8_t *out, size_t out_length);
 sfv_answer sfv_c_check(uint32_t type, uint32_t version, const uint8_t *input, size_t input_length);
-sfv_answer sfv_c_events(uint32_t type, uint32_t version, const uint8_t *input, size_t input_length, sfv_event *events,
-                        size_t events_length, uint8_t *bytes, size_t bytes_length);
-sfv_answer sfv_c_events_whole(uint32_t type, uint32_t version, const uint8_t *input, size_t input_length,
-                              sfv_event *events, size_t events_length, uint8_t *bytes, size_t bytes_length);
-sfv_answer sfv_c_write(uint32_t type, uint32_t version, const sfv_event *events, size_t events_length,
-                       const uint8_t *bytes, size_t bytes_length, uint8_t *out, size_t out_length);
+sfv_answer sfv_c_spans(uint32_t type, uint32_t version, const uint8_t *input, size_t input_length, sfv_row *rows,
+                       size_t rows_length, uint8_t *room, size_t room_length);
+sfv_answer sfv_c_write_spans(uint32_t type, uint32_t version, const sfv_row *rows, size_t rows_length, uint8_t *out,
+                             size_t out_length);
 sfv_answer sfv_c_message(uint32_t kind, uint8_t *out, size_t out_length);
 
-/* Reads `input` as a field under the version `reading` and puts its canonical text for the version `writing` at the
- * beginning of `out`: of a repeated key the last value at the first place. Maps are built under the seed `seed`, on which
- * no text depends.
- * SFV_OK: `length` bytes were written, which `writing` reads back as the same value; what follows them in `out` is as it
- * was. On every other status `out` is as it was. SFV_TOO_SMALL: `length` is wanted. SFV_UNSUPPORTED: only of SFV_RFC8941,
- * and `kind` is SFV_DATE or SFV_DISPLAY. May also answer SFV_NOTHING, SFV_REFUSED, SFV_OUT_OF_MEMORY, SFV_BAD_ARGUMENT. */
-static inline sfv_answer sfv_canonical(sfv_type type, sfv_version reading, sfv_version writing, uint64_t seed,
-                                       const void *input, size_t input_length, void *out, size_t out_length) {
+/* Returns the random number that its first call chooses. */
+uint64_t sfv_seed(void);
+
+/* Returns the SFV_ABI of the library that the program runs with. */
+SFV_INLINE uint32_t sfv_abi(void) { return sfv_c_abi(); }
+
+SFV_INLINE sfv_answer sfv_make_answer(sfv_status status, size_t index, size_t length) {
+    sfv_answer a;
+    a.status = (uint32_t)status;
+    a.kind = 0;
+    a.index = index;
+    a.length = length;
+    a.rows = 0;
+    return a;
+}
+
+SFV_INLINE int sfv_is_buffer(const void *data, size_t length, size_t size) {
+    return (data != NULL || length == 0) && length <= (size_t)-1 / 2 / size;
+}
+
+/* Checks that the input is a field.
+ *
+ * Returns SFV_OK, SFV_REJECTED, SFV_OUT_OF_MEMORY or SFV_BAD_ARGUMENT. Allocates only if the input contains a
+ * backslash, a percent sign or a colon: up to 3 bytes per byte of input. */
+SFV_INLINE sfv_answer sfv_check(sfv_type type, sfv_version version, const void *input, size_t input_length) {
+    uint8_t none = 0;
+    if (!sfv_is_buffer(input, input_length, 1)) return sfv_make_answer(SFV_BAD_ARGUMENT, 0, 0);
+    return sfv_c_check((uint32_t)type, (uint32_t)version, input ? (const uint8_t *)input : &none, input_length);
+}
+
+/* Parses a field into rows.
+ *
+ * Rows point into `input`. Byte sequences and texts with an escape are decoded into `room`, and their rows point
+ * there. So rows are valid as long as both. A repeated key has a row each time; its last value counts.
+ *
+ * Returns SFV_OK with the number of rows and the used length of `room`. Returns SFV_TOO_SMALL with the needed sizes;
+ * SFV_ROWS_FOR(input_length) rows and `input_length` bytes suffice. Otherwise returns SFV_REJECTED, SFV_OUT_OF_MEMORY
+ * or SFV_BAD_ARGUMENT. Unless the status is SFV_OK, `rows` is unchanged, and `room` can contain anything. Allocates up
+ * to 960 bytes, or 144 per row, and 3 bytes per byte of the longest decoded value. */
+SFV_INLINE sfv_answer sfv_parse(sfv_type type, sfv_version version, const void *input, size_t input_length, sfv_row *rows,
+                                size_t rows_length, void *room, size_t room_length) {
+    static uint8_t no_room;
+    uint8_t none = 0;
+    sfv_row no_row;
+    if (!sfv_is_buffer(input, input_length, 1) || !sfv_is_buffer(rows, rows_length, sizeof *rows)
+        || !sfv_is_buffer(room, room_length, 1))
+        return sfv_make_answer(SFV_BAD_ARGUMENT, 0, 0);
+    return sfv_c_spans((uint32_t)type, (uint32_t)version, input ? (const uint8_t *)input : &none, input_length,
+                       rows ? rows : &no_row, rows_length, room ? (uint8_t *)room : &no_room, room_length);
+}
+
+/* Returns 1 if the bytes are this text, otherwise 0. */
+SFV_INLINE int sfv_is(sfv_bytes bytes, const char *text) {
+    size_t length = strlen(text);
+    return bytes.length == length && memcmp(bytes.data, text, length) == 0;
+}
+
+/* Returns the value of the last member with this key, or NULL: its SFV_BARE_ITEM or SFV_BEGIN_INNER. The rows are a
+ * whole dictionary. */
+SFV_INLINE const sfv_row *sfv_member(const sfv_row *rows, size_t rows_length, const char *key) {
+    const sfv_row *found = NULL;
+    size_t i;
+    for (i = 0; i + 2 < rows_length; i++)
+        if (rows[i].tag == SFV_KEYED_ENTRY && sfv_is(rows[i].key, key))
+            found = &rows[rows[i + 1].tag == SFV_BEGIN_INNER ? i + 1 : i + 2];
+    return found;
+}
+
+/* Returns the last parameter with this key, or NULL. `owner` is an SFV_BARE_ITEM or SFV_BEGIN_INNER of a parsed field,
+ * or NULL. */
+SFV_INLINE const sfv_row *sfv_parameter(const sfv_row *owner, const char *key) {
+    const sfv_row *found = NULL;
+    if (owner == NULL) return NULL;
+    if (owner->tag == SFV_BEGIN_INNER)
+        while (owner->tag != SFV_END_INNER) owner++;
+    for (owner++; owner->tag == SFV_PARAMETER; owner++)
+        if (sfv_is(owner->key, key)) found = owner;
+    return found;
+}
+
+/* Returns a row without key and value. */
+SFV_INLINE sfv_row sfv_tag_row(sfv_tag tag) {
+    sfv_row row;
+    row.tag = (uint32_t)tag;
+    row.kind = SFV_NO_VALUE;
+    row.key.data = row.bytes.data = "";
+    row.key.length = row.bytes.length = 0;
+    row.number = 0;
+    return row;
+}
+
+/* Returns an SFV_KEYED_ENTRY. */
+SFV_INLINE sfv_row sfv_key_row(const char *key) {
+    sfv_row row = sfv_tag_row(SFV_KEYED_ENTRY);
+    row.key.data = key;
+    row.key.length = strlen(key);
+    return row;
+}
+
+/* Returns an SFV_BARE_ITEM with a number. */
+SFV_INLINE sfv_row sfv_number_row(sfv_value_kind kind, int64_t number) {
+    sfv_row row = sfv_tag_row(SFV_BARE_ITEM);
+    row.kind = (uint32_t)kind;
+    row.number = number;
+    return row;
+}
+
+/* Returns an SFV_BARE_ITEM with bytes, which the row points to. */
+SFV_INLINE sfv_row sfv_bytes_row(sfv_value_kind kind, const void *data, size_t length) {
+    sfv_row row = sfv_tag_row(SFV_BARE_ITEM);
+    row.kind = (uint32_t)kind;
+    if (data != NULL) row.bytes.data = (const char *)data;
+    row.bytes.length = length;
+    return row;
+}
+
+/* Returns an SFV_PARAMETER with the value of an SFV_BARE_ITEM. */
+SFV_INLINE sfv_row sfv_parameter_row(const char *key, sfv_row value) {
+    value.tag = SFV_PARAMETER;
+    value.key.data = key;
+    value.key.length = strlen(key);
+    return value;
+}
+
+/* Writes the canonical text of the field of these rows to the start of `out`. A repeated key is written each time.
+ *
+ * Returns SFV_OK or SFV_TOO_SMALL with the length of the text, or SFV_NOTHING. Returns SFV_WRONG_ROW with the index
+ * of the first row that no field of this type has there; if a row is missing, the index is `rows_length`. Returns
+ * SFV_UNSUPPORTED, only for SFV_RFC8941, with the kind of the first value that it lacks. Returns SFV_BAD_ARGUMENT for a
+ * row with a NULL pointer, with its index. Returns SFV_OUT_OF_MEMORY, only if the first two rows begin a field. Unless
+ * the status is SFV_OK, `out` is unchanged. Allocates up to 120 bytes per row and 3 per byte of text. */
+SFV_INLINE sfv_answer sfv_write(sfv_type type, sfv_version version, const sfv_row *rows, size_t rows_length, void *out,
+                                size_t out_length) {
+    uint8_t nothing = 0;
+    sfv_row no_row = sfv_tag_row(SFV_ENTRY);
+    size_t i;
+    if (!sfv_is_buffer(rows, rows_length, sizeof *rows) || !sfv_is_buffer(out, out_length, 1))
+        return sfv_make_answer(SFV_BAD_ARGUMENT, 0, 0);
+    for (i = 0; i < rows_length; i++)
+        if (rows[i].key.data == NULL || rows[i].bytes.data == NULL) return sfv_make_answer(SFV_BAD_ARGUMENT, i, 0);
+    return sfv_c_write_spans((uint32_t)type, (uint32_t)version, rows ? rows : &no_row, rows_length,
+                             out ? (uint8_t *)out : &nothing, out_length);
+}
+
+/* Parses a field under the version `reading`, and writes its canonical text for the version `writing` to the start of
+ * `out`. A repeated key keeps its first position and takes its last value. Maps hash under `seed`. An attacker with the
+ * seed can make keys collide.
+ *
+ * Returns SFV_OK or SFV_TOO_SMALL with the length of the text, SFV_NOTHING, SFV_REJECTED, SFV_UNSUPPORTED,
+ * SFV_OUT_OF_MEMORY or SFV_BAD_ARGUMENT. Unless the status is SFV_OK, `out` is unchanged. Allocates up to 2 KB and 260
+ * bytes per byte of input. */
+SFV_INLINE sfv_answer sfv_canonical_with_seed(sfv_type type, sfv_version reading, sfv_version writing, uint64_t seed,
+                                              const void *input, size_t input_length, void *out, size_t out_length) {
     uint8_t none = 0, nothing = 0;
+    if (!sfv_is_buffer(input, input_length, 1) || !sfv_is_buffer(out, out_length, 1))
+        return sfv_make_answer(SFV_BAD_ARGUMENT, 0, 0);
     return sfv_c_canonical((uint32_t)type, (uint32_t)reading, (uint32_t)writing, seed,
-                           input ? (const uint8_t *)input : &none, input ? input_length : 0,
-                           out ? (uint8_t *)out : &nothing, out ? out_length : 0);
+                           input ? (const uint8_t *)input : &none, input_length, out ? (uint8_t *)out : &nothing,
+                           out_length);
 }
 
-/* Tells whether `input` is a field: SFV_OK, SFV_REFUSED, SFV_OUT_OF_MEMORY or SFV_BAD_ARGUMENT. Memory is asked for only
- * where a backslash, a percent sign or a colon stands in the input. */
-static inline sfv_answer sfv_check(sfv_type type, sfv_version version, const void *input, size_t input_length) {
-    uint8_t none = 0;
-    return sfv_c_check((uint32_t)type, (uint32_t)version, input ? (const uint8_t *)input : &none,
-                       input ? input_length : 0);
+/* The same with sfv_seed(). */
+SFV_INLINE sfv_answer sfv_canonical(sfv_type type, sfv_version reading, sfv_version writing, const void *input,
+                                    size_t input_length, void *out, size_t out_length) {
+    return sfv_canonical_with_seed(type, reading, writing, sfv_seed(), input, input_length, out, out_length);
 }
 
-/* Reads `input` as a field and writes its parts into `events`, and their keys and texts into `bytes`, in order.
- * SFV_OK: `events` rows and `length` bytes were written, and what follows them is as it was. SFV_TOO_SMALL: so many are
- * wanted, and the beginning of either buffer holds what fitted. On SFV_REFUSED and SFV_OUT_OF_MEMORY both buffers hold
- * anything. SFV_EVENTS_FOR(input_length) events and input_length bytes are always enough. Memory as for sfv_check. */
-static inline sfv_answer sfv_events(sfv_type type, sfv_version version, const void *input, size_t input_length,
-                                    sfv_event *events, size_t events_length, void *bytes, size_t bytes_length) {
-    uint8_t none = 0, nothing = 0;
-    sfv_event no_event;
-    return sfv_c_events((uint32_t)type, (uint32_t)version, input ? (const uint8_t *)input : &none,
-                        input ? input_length : 0, events ? events : &no_event, events ? events_length : 0,
-                        bytes ? (uint8_t *)bytes : &nothing, bytes ? bytes_length : 0);
+/* Joins the lines of one field with a comma and a space, for the other calls.
+ *
+ * Returns SFV_OK or SFV_TOO_SMALL with the length, or SFV_BAD_ARGUMENT. Unless the status is SFV_OK, `out` is
+ * unchanged. Allocates nothing. */
+SFV_INLINE sfv_answer sfv_lines(const sfv_bytes *lines, size_t lines_length, void *out, size_t out_length) {
+    char *end = (char *)out;
+    size_t length = 0, i;
+    if (!sfv_is_buffer(lines, lines_length, sizeof *lines) || !sfv_is_buffer(out, out_length, 1))
+        return sfv_make_answer(SFV_BAD_ARGUMENT, 0, 0);
+    for (i = 0; i < lines_length; i++) {
+        size_t rest = (size_t)-1 - length, size = lines[i].length;
+        if (!sfv_is_buffer(lines[i].data, size, 1)) return sfv_make_answer(SFV_BAD_ARGUMENT, i, 0);
+        if (i > 0) size += 2;
+        length += size < rest ? size : rest;
+    }
+    if (length > out_length) return sfv_make_answer(SFV_TOO_SMALL, 0, length);
+    if (length == 0) return sfv_make_answer(SFV_OK, 0, 0);
+    for (i = 0; i < lines_length; i++) {
+        if (i > 0) {
+            *end++ = ',';
+            *end++ = ' ';
+        }
+        if (lines[i].length > 0) memcpy(end, lines[i].data, lines[i].length);
+        end += lines[i].length;
+    }
+    return sfv_make_answer(SFV_OK, 0, length);
 }
 
-/* The same, whole or not at all: on every status but SFV_OK both buffers are as they were. It asks for memory for all
- * events and bytes besides. */
-static inline sfv_answer sfv_events_whole(sfv_type type, sfv_version version, const void *input, size_t input_length,
-                                          sfv_event *events, size_t events_length, void *bytes, size_t bytes_length) {
-    uint8_t none = 0, nothing = 0;
-    sfv_event no_event;
-    return sfv_c_events_whole((uint32_t)type, (uint32_t)version, input ? (const uint8_t *)input : &none,
-                              input ? input_length : 0, events ? events : &no_event, events ? events_length : 0,
-                              bytes ? (uint8_t *)bytes : &nothing, bytes ? bytes_length : 0);
-}
-
-/* Writes a field from its parts: `events` rows, with their keys and texts in `bytes`, as sfv_events and sfv_events_whole
- * write them, or a program of its own. Puts the field's canonical text for `version` at the beginning of `out`, a repeated
- * key each time; `version` reads it back, and there the last value counts. A row's key and text may stand anywhere in
- * `bytes`, and may overlap those of another row; where a row has none, its length is 0 and its offset at most
- * `bytes_length`; where its tag or kind names no `kind` or `number`, that is 0. A field without members has no row.
- * SFV_OK: `length` bytes were written, and what follows them in `out` is as it was. On every other status `out` is as it
- * was. SFV_TOO_SMALL: `length` is wanted. SFV_ROW: no field of this type has these rows. Those before `index` begin the
- * rows of one, but the row at `index` is none, or can't follow them, or is missing (then `index` is `events_length`);
- * whichever rows a field has, they are taken. SFV_UNSUPPORTED: only of SFV_RFC8941, and `kind` is SFV_DATE or SFV_DISPLAY.
- * SFV_OUT_OF_MEMORY: only where the first two rows begin those of a field. May also answer SFV_NOTHING, SFV_BAD_ARGUMENT.
- * No map is built. */
-static inline sfv_answer sfv_write(sfv_type type, sfv_version version, const sfv_event *events, size_t events_length,
-                                   const void *bytes, size_t bytes_length, void *out, size_t out_length) {
-    uint8_t none = 0, nothing = 0;
-    sfv_event no_event = {0, 0, 0, 0, 0, 0, 0};
-    return sfv_c_write((uint32_t)type, (uint32_t)version, events ? events : &no_event, events ? events_length : 0,
-                       bytes ? (const uint8_t *)bytes : &none, bytes ? bytes_length : 0,
-                       out ? (uint8_t *)out : &nothing, out ? out_length : 0);
-}
-
-/* Puts the text of an sfv_kind into `out`, without a NUL: SFV_OK, SFV_TOO_SMALL or SFV_BAD_ARGUMENT. 64 bytes hold
- * each. */
-static inline sfv_answer sfv_message(sfv_kind kind, void *out, size_t out_length) {
-    uint8_t none = 0;
-    return sfv_c_message((uint32_t)kind, out ? (uint8_t *)out : &none, out ? out_length : 0);
+/* Writes the text of a status or error to `text`, with a NUL, and returns it. */
+SFV_INLINE const char *sfv_error_text(sfv_answer a, char text[SFV_TEXT_SIZE]) {
+    const char *known = "unknown status";
+    sfv_answer m;
+    switch (a.status) {
+    case SFV_OK: known = "ok"; break;
+    case SFV_NOTHING: known = "no members"; break;
+    case SFV_TOO_SMALL: known = "buffer too small"; break;
+    case SFV_REJECTED:
+        m = sfv_c_message(a.kind, (uint8_t *)text, SFV_TEXT_SIZE - 1);
+        if (m.status == SFV_OK) {
+            text[m.length] = 0;
+            return text;
+        }
+        known = "no such field";
+        break;
+    case SFV_OUT_OF_MEMORY: known = "out of memory"; break;
+    case SFV_BAD_ARGUMENT: known = "bad argument"; break;
+    case SFV_UNSUPPORTED: known = a.kind == SFV_DATE ? "RFC 8941 has no dates" : "RFC 8941 has no display strings"; break;
+    case SFV_WRONG_ROW: known = "no field has these rows"; break;
+    default: break;
+    }
+    memcpy(text, known, strlen(known) + 1);
+    return text;
 }
 
 #ifdef __cplusplus

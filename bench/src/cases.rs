@@ -1,4 +1,4 @@
-//! The fields that are measured.
+//! The measured fields.
 
 use crate::keys;
 use sfv_c::{DICTIONARY, ITEM, LIST};
@@ -18,11 +18,11 @@ pub fn accepted(name: &'static str, kind: u32, field: impl Into<Vec<u8>>) -> Cas
     Case { name, kind, field: field.into(), accepted: true, seed: SEED }
 }
 
-fn refused(name: &'static str, kind: u32, field: impl Into<Vec<u8>>) -> Case {
+fn rejected(name: &'static str, kind: u32, field: impl Into<Vec<u8>>) -> Case {
     Case { accepted: false, ..accepted(name, kind, field) }
 }
 
-/// So many parts, with a separator between each two.
+/// This number of parts, with a separator between neighbours.
 fn joined(count: usize, separator: &str, part: impl Fn(usize) -> String) -> String {
     (0..count).map(part).collect::<Vec<_>>().join(separator)
 }
@@ -71,19 +71,19 @@ fn long() -> Vec<Case> {
     ]
 }
 
-fn refusals() -> Vec<Case> {
+fn rejections() -> Vec<Case> {
     vec![
-        refused("rejected at the first byte: list", LIST, "}"),
-        refused("rejected at the first byte: dictionary", DICTIONARY, "}"),
-        refused("rejected at the first byte: item", ITEM, "}"),
-        refused("rejected at the end: `u=1, i=`", DICTIONARY, "u=1, i="),
-        refused("rejected at the end: `42 x`", ITEM, "42 x"),
-        refused("string of 100 KB that isn't closed", ITEM, format!("\"{}", "a".repeat(102_400))),
+        rejected("rejected at the first byte: list", LIST, "}"),
+        rejected("rejected at the first byte: dictionary", DICTIONARY, "}"),
+        rejected("rejected at the first byte: item", ITEM, "}"),
+        rejected("rejected at the end: `u=1, i=`", DICTIONARY, "u=1, i="),
+        rejected("rejected at the end: `42 x`", ITEM, "42 x"),
+        rejected("string of 100 KB without its end", ITEM, format!("\"{}", "a".repeat(102_400))),
     ]
 }
 
-/// Dictionaries of 64 KB whose keys are chosen for the library's maps under one seed, read under that seed and under
-/// another one, which they aren't chosen for.
+/// A dictionary of 64 KB whose keys collide in the library's maps under one seed, parsed under that seed and under another
+/// one.
 fn hostile() -> Vec<Case> {
     let field = keys::chosen(9_362, SEED);
     let other = Case { seed: SEED + 1, ..accepted("the same keys under another seed", DICTIONARY, field.clone()) };
@@ -91,5 +91,5 @@ fn hostile() -> Vec<Case> {
 }
 
 pub fn all() -> Vec<Case> {
-    headers().into_iter().chain(long()).chain(refusals()).chain(hostile()).collect()
+    headers().into_iter().chain(long()).chain(rejections()).chain(hostile()).collect()
 }

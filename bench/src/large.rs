@@ -1,4 +1,4 @@
-//! Fields of 1 MB. Each is parsed to a tree and written once, by a process of its own, which has its memory for itself.
+//! Fields of 1 MB. Each is parsed to a tree and written once, by its own process.
 
 use crate::cases::{accepted, Case};
 use crate::{processor_time, Task};
@@ -26,7 +26,7 @@ fn dictionary(name: &'static str, value: &str) -> Case {
     accepted(name, DICTIONARY, field)
 }
 
-/// A name, what makes the field, and its member, item or value.
+/// A name, the function that makes the field, and its member, item or value.
 type Row = (&'static str, fn(&'static str, &str) -> Case, &'static str);
 
 const ROWS: [Row; 11] = [
@@ -43,7 +43,7 @@ const ROWS: [Row; 11] = [
     ("dictionary of `k0=(c;d);e`, ..", dictionary, "=(c;d);e"),
 ];
 
-/// The largest memory that this process has had, in kilobytes.
+/// The peak memory of this process, in kilobytes.
 fn peak() -> u64 {
     let status = std::fs::read_to_string("/proc/self/status").unwrap_or_default();
     let peak = status.lines().find_map(|line| line.strip_prefix("VmHWM:"));
@@ -57,7 +57,8 @@ pub fn run_one(side: &str, place: usize) {
     let start = processor_time();
     match side {
         "ours" => {
-            crate::Ours::writing(&case).run(&case, Task::Canonical);
+            let mut ours = crate::Ours::writing(&case);
+            ours.run(&case, Task::Canonical);
         }
         #[cfg(feature = "theirs")]
         "theirs" => crate::theirs::Theirs::parsing().run(&case, Task::Canonical),
@@ -82,7 +83,7 @@ fn least(side: &str, place: usize) -> (f64, f64) {
 }
 
 pub fn print() {
-    println!("\nFields of 1 MB, each parsed to a tree and written by a process of its own, least of {ROUNDS} runs.\n");
+    println!("\nFields of 1 MB, each parsed to a tree and written by its own process, least of {ROUNDS} runs.\n");
     println!("| field of 1 MB | time | ms | peak memory | MB |\n|---|--:|--:|--:|--:|");
     for (place, (name, ..)) in ROWS.iter().enumerate() {
         let (time, memory) = least("ours", place);

@@ -1,5 +1,5 @@
-//! Measures the library, and the Rust crate beside it where that is there, in turn in one run, and prints a table of
-//! ratios: above 1 the library is slower.
+//! Measures the library and, if it is present, the Rust crate, in turn in one process. Prints a table of ratios: above 1
+//! the library is slower.
 
 mod cases;
 mod keys;
@@ -8,56 +8,61 @@ mod large;
 mod theirs;
 
 use cases::Case;
-use sfv_c::{Answer, Event, NOTHING, OK, RFC9651};
+use sfv_c::{Answer, Row, NOTHING, OK, RFC9651};
 use std::hint::black_box;
 
-/// What is measured of a field.
+/// A measured task.
 #[derive(Clone, Copy)]
 pub enum Task {
-    /// Reading into a tree, and writing its canonical text.
+    /// Parsing into a tree, and writing its canonical text.
     Canonical,
-    /// Reading with every part ignored.
+    /// Parsing with every part ignored.
     Check,
-    /// Reading into a list of parts.
-    Events,
+    /// Parsing into a list of parts.
+    Parse,
     /// Writing the canonical text of a list of parts.
     Write,
 }
 
-const TASKS: [Task; 4] = [Task::Canonical, Task::Check, Task::Events, Task::Write];
+const TASKS: [Task; 4] = [Task::Canonical, Task::Check, Task::Parse, Task::Write];
 
-/// The library's side, with the buffers that its calls want.
-struct Ours {
+/// The library's side, with the buffers that its calls need.
+struct Ours<'a> {
     out: Vec<u8>,
-    rows: Vec<Event>,
-    bytes: Vec<u8>,
-    /// What the field was read as, into the rows and the bytes.
-    read: Answer,
+    /// The rows of the field, which point into it and into the room.
+    rows: Vec<Row<'a>>,
+    room: Vec<u8>,
+    parsed: Answer,
 }
 
-impl Ours {
+impl<'a> Ours<'a> {
     /// Only with a buffer for the text.
-    fn writing(case: &Case) -> Ours {
-        Ours { out: vec![0; 4 * case.field.len() + 16], rows: Vec::new(), bytes: Vec::new(), read: Answer::default() }
+    fn writing(case: &Case) -> Ours<'a> {
+        Ours { out: vec![0; 4 * case.field.len() + 16], rows: Vec::new(), room: Vec::new(), parsed: Answer::default() }
     }
 
-    fn new(case: &Case) -> Ours {
-        let out = vec![0; 4 * case.field.len() + 16];
-        let mut rows = vec![Event::default(); 2 * case.field.len() + 2];
-        let mut bytes = out.clone();
-        let read = sfv_c::events(case.kind, RFC9651, &case.field, &mut rows, &mut bytes);
-        Ours { out, rows, bytes, read }
+    fn new(case: &'a Case) -> Ours<'a> {
+        let mut ours = Ours::writing(case);
+        ours.rows = vec![Row::default(); sfv_c::rows_for(case.field.len())];
+        ours.room = vec![0; case.field.len()];
+        ours.parsed = ours.parse(case, &case.field);
+        ours
     }
 
-    fn run(&mut self, case: &Case, task: Task) -> Answer {
+    fn parse(&mut self, case: &Case, field: &'a [u8]) -> Answer {
+        // SAFETY: The room is neither moved nor read while the rows are used. Each call writes the rows again.
+        let room = unsafe { std::slice::from_raw_parts_mut(self.room.as_mut_ptr(), self.room.len()) };
+        sfv_c::parse(case.kind, RFC9651, field, &mut self.rows, room)
+    }
+
+    fn run(&mut self, case: &'a Case, task: Task) -> Answer {
         let field = black_box(&case.field[..]);
         match task {
             Task::Canonical => sfv_c::canonical(case.kind, RFC9651, RFC9651, case.seed, field, &mut self.out),
             Task::Check => sfv_c::check(case.kind, RFC9651, field),
-            Task::Events => sfv_c::events(case.kind, RFC9651, field, &mut self.rows, &mut self.bytes),
+            Task::Parse => self.parse(case, field),
             Task::Write => {
-                let (rows, bytes) = (&self.rows[..self.read.events], &self.bytes[..self.read.length]);
-                sfv_c::write(case.kind, RFC9651, black_box(rows), bytes, &mut self.out)
+                sfv_c::write(case.kind, RFC9651, black_box(&self.rows[..self.parsed.rows]), &mut self.out)
             }
         }
     }
@@ -74,7 +79,7 @@ extern "C" {
     fn clock_gettime(clock: i32, time: *mut Time) -> i32;
 }
 
-/// How many nanoseconds of a processor this process has had, whatever else ran meanwhile.
+/// The processor time of this process, in nanoseconds.
 fn processor_time() -> f64 {
     const PROCESS: i32 = 2;
     let mut time = Time { seconds: 0, nanoseconds: 0 };
@@ -82,7 +87,7 @@ fn processor_time() -> f64 {
     time.seconds as f64 * 1e9 + time.nanoseconds as f64
 }
 
-/// How many nanoseconds a run takes, in a batch of so many.
+/// The nanoseconds of a run, in a batch of this size.
 fn time(batch: u32, mut run: impl FnMut()) -> f64 {
     let start = processor_time();
     for _ in 0..batch {
@@ -91,7 +96,7 @@ fn time(batch: u32, mut run: impl FnMut()) -> f64 {
     (processor_time() - start) / f64::from(batch)
 }
 
-/// The least time of either, of so many rounds in which each has its turn.
+/// The least time of each side, in this number of rounds.
 fn measure(case: &Case, task: Task, rounds: u32) -> (f64, Option<f64>) {
     let mut ours = Ours::new(case);
     #[cfg(feature = "theirs")]
@@ -114,14 +119,14 @@ fn measure(case: &Case, task: Task, rounds: u32) -> (f64, Option<f64>) {
     (our_time, cfg!(feature = "theirs").then_some(their_time))
 }
 
-/// The model of the processor, as the system names it.
+/// The model of the processor.
 fn processor() -> String {
     let info = std::fs::read_to_string("/proc/cpuinfo").unwrap_or_default();
     let model = info.lines().find_map(|line| line.strip_prefix("model name")?.split_once(": "));
     model.map_or("unknown".to_string(), |(_, name)| name.to_string())
 }
 
-/// The cells of a task; where the field is refused, there is nothing to write.
+/// The cells of a task. A rejected field has no text to write.
 fn cells(case: &Case, task: Task, rounds: u32) -> String {
     if matches!(task, Task::Write) && !case.accepted {
         return "|".to_string();
@@ -140,7 +145,7 @@ fn main() {
         return large::run_one(side, place.parse().expect("a number"));
     }
     let rounds = args.first().map_or(40, |arg| arg.parse().expect("a number of rounds"));
-    let with = if cfg!(feature = "theirs") { "beside the Rust crate" } else { "alone: the Rust crate isn't there" };
+    let with = if cfg!(feature = "theirs") { "and the Rust crate" } else { "alone, without the Rust crate" };
     println!("The library {with}, on {}, least of {rounds} rounds.\n", processor());
     println!("| field | bytes | tree and text | ns | ignored | ns | list of parts | ns | written | ns |");
     println!("|---|--:|--:|--:|--:|--:|--:|--:|--:|--:|");

@@ -15,7 +15,7 @@ use std::convert::Infallible;
 use std::hint::black_box;
 use std::slice::Iter;
 
-/// A part of a field, as it is visited.
+/// A part of a field that the visitor receives.
 enum Part<'de> {
     Entry,
     KeyedEntry(&'de KeyRef),
@@ -27,7 +27,7 @@ enum Part<'de> {
     InnerListEnd,
 }
 
-/// Visits by pushing parts.
+/// A visitor that pushes parts.
 struct Push<'p, 'de>(&'p mut Vec<Part<'de>>);
 
 impl<'p, 'de> ParameterVisitor<'de> for Push<'p, 'de> {
@@ -138,7 +138,7 @@ fn events<'de>(kind: u32, parser: Parser<'de>, parts: &mut Vec<Part<'de>>) -> bo
     }
 }
 
-/// The bare item that is next.
+/// The next bare item.
 fn bare_item<'p, 'de>(parts: &mut Iter<'p, Part<'de>>) -> &'p BareItemFromInput<'de> {
     match parts.next() {
         Some(Part::BareItem(value)) => value,
@@ -195,7 +195,7 @@ fn write(kind: u32, parts: &[Part<'_>]) -> Option<String> {
     }
 }
 
-/// The Rust crate's side, with room for as many parts as the library is lent.
+/// The Rust crate's side, with room for as many parts as the library has.
 pub struct Theirs<'de> {
     parts: Vec<Part<'de>>,
 }
@@ -219,7 +219,7 @@ impl<'de> Theirs<'de> {
             Task::Check => {
                 black_box(check(case.kind, parser));
             }
-            Task::Events => {
+            Task::Parse => {
                 self.parts.clear();
                 black_box(events(case.kind, parser, &mut self.parts));
                 black_box(&self.parts);

@@ -1,6 +1,6 @@
-//! Random fields: most are grown by the grammar, and then some of their bytes are changed.
+//! Random fields. Most follow the grammar, and then some of their bytes are changed.
 
-/// Numbers that look random (xorshift64*), the same ones of the same seed.
+/// Pseudo-random numbers (xorshift64*). A seed has the same numbers each time.
 pub struct Random(u64);
 
 impl Random {
@@ -24,7 +24,7 @@ impl Random {
     }
 }
 
-/// Pieces of fields, whole and broken ones.
+/// Pieces of fields, valid and malformed.
 const PIECES: &[&str] = &[
     "a", "b", "*", "a1", "key-_.*", "A", "0", "7", "-", "-0", "007", "1.5", "1.50", "123456789012345", "999999999999.999",
     "1234567890123456", ".", "\"", "\"a\"", "\"\\\"\"", "\"\\\\ \"", "\\", "%\"", "%\"a%c3%bc\"", "%\"%ff\"", "%2", "%", ":",
@@ -85,7 +85,7 @@ fn push_members(random: &mut Random, text: &mut String, keyed: bool) {
     }
 }
 
-/// Changes a byte, takes some out, or puts a piece in.
+/// Changes a byte, removes some, or inserts a piece.
 fn change(random: &mut Random, text: &mut Vec<u8>) {
     let at = random.below(text.len() + 1);
     match random.below(4) {
@@ -102,7 +102,7 @@ fn change(random: &mut Random, text: &mut Vec<u8>) {
     }
 }
 
-/// A field of this type, or what is left of one.
+/// A field of this type, or a damaged one.
 pub fn field(random: &mut Random, kind: u32) -> Vec<u8> {
     let mut text = String::new();
     if random.below(4) == 0 {

@@ -1,0 +1,26 @@
+/* The seed of sfv_canonical. getrandom(2) chooses it at the first call. If getrandom fails, the seed comes from the random
+ * bytes that the kernel passes to each program. */
+#define _GNU_SOURCE
+#include <stdint.h>
+#include <string.h>
+#include <sys/auxv.h>
+#include <sys/random.h>
+
+uint64_t sfv_seed(void);
+
+/* The seed, or 0 before the first call. */
+static uint64_t chosen;
+
+uint64_t sfv_seed(void) {
+    uint64_t seed = __atomic_load_n(&chosen, __ATOMIC_RELAXED), none = 0;
+    const void *start;
+    if (seed != 0) return seed;
+    if (getrandom(&seed, sizeof seed, GRND_NONBLOCK) != (ssize_t)sizeof seed) {
+        start = (const void *)getauxval(AT_RANDOM);
+        if (start != NULL) memcpy(&seed, start, sizeof seed);
+    }
+    seed |= 1;
+    /* If another thread was first, its seed counts. */
+    if (!__atomic_compare_exchange_n(&chosen, &none, seed, 0, __ATOMIC_RELAXED, __ATOMIC_RELAXED)) return none;
+    return seed;
+}
