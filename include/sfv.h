@@ -24,8 +24,8 @@
  * x86-64-v2 processors (SSE4.2, POPCNT).
  *
  * Proved for all arguments: the answers of the exported calls, the contents of rows, and the texts. Only tested: the
- * functions of this header, that SFV_ROWS_FOR rows and `input_length` bytes of room suffice, and which strings need room.
- * Nothing checks the caller.
+ * functions of this header, and that SFV_ROWS_FOR rows and `input_length` bytes of room suffice. Nothing checks the
+ * caller.
  */
 #ifndef SFV_H
 #define SFV_H
