@@ -1,0 +1,318 @@
+"""Structured Field Values for HTTP (RFC 9651 and the older RFC 8941), over the proved library libsfv.
+
+>>> parse_dictionary(b'u=1, i;q=0.5')
+{'u': (1, {}), 'i': (True, {'q': Decimal('0.5')})}
+>>> serialize({'u': 1, 'i': (True, {'q': Decimal('0.5')})})
+'u=1, i;q=0.5'
+>>> parse_item(b'?2')
+Traceback (most recent call last):
+sfv.ParseError: expected boolean ('0' or '1') at index 1
+"""
+
+from __future__ import annotations
+
+import ctypes
+import re
+import struct
+from ctypes import c_char_p, c_int64, c_size_t, c_uint32, c_void_p
+from dataclasses import dataclass
+from datetime import datetime, timedelta, timezone
+from decimal import ROUND_HALF_EVEN, Context, Decimal, InvalidOperation
+from enum import Enum, IntEnum
+from itertools import takewhile
+from typing import Any, Callable, Dict, Iterator, List, NamedTuple, Pattern, Tuple, Union
+
+__all__ = ["Date", "DisplayString", "ErrorKind", "ParseError", "Token"]
+__all__ += ["parse_dictionary", "parse_item", "parse_list", "serialize"]
+
+# The numbers of include/sfv.h.
+_Type = IntEnum("_Type", "ITEM LIST DICTIONARY")
+_Status = IntEnum("_Status", "OK NOTHING TOO_SMALL REJECTED OUT_OF_MEMORY BAD_ARGUMENT UNSUPPORTED WRONG_ROW", start=0)
+_Tag = IntEnum("_Tag", "ENTRY KEYED_ENTRY BEGIN_ITEM BEGIN_INNER BARE_ITEM PARAMETER END_PARAMETERS END_INNER")
+_Kind = IntEnum("_Kind", "NONE INTEGER DECIMAL STRING TOKEN BYTE_SEQUENCE BOOLEAN DATE DISPLAY_STRING", start=0)
+ErrorKind = Enum(
+    "ErrorKind",
+    """NONE OUT_OF_MEMORY OUT_OF_RANGE EMPTY INVALID_CHARACTER TRAILING_CHARACTERS_AFTER_MEMBER TRAILING_COMMA
+    TRAILING_CHARACTERS_AFTER_PARSED_VALUE EXPECTED_INNER_LIST_DELIMITER UNTERMINATED_INNER_LIST
+    EXPECTED_START_OF_BARE_ITEM EXPECTED_BOOLEAN INVALID_STRING_CHARACTER UNTERMINATED_STRING
+    UNTERMINATED_ESCAPE_SEQUENCE INVALID_ESCAPE_SEQUENCE UNTERMINATED_BYTE_SEQUENCE INVALID_BYTE_SEQUENCE EXPECTED_DIGIT
+    TOO_MANY_DIGITS TOO_MANY_DIGITS_BEFORE_DECIMAL_POINT TOO_MANY_DIGITS_AFTER_DECIMAL_POINT TRAILING_DECIMAL_POINT
+    RFC8941_DATE NON_INTEGER_DATE RFC8941_DISPLAY_STRING EXPECTED_QUOTE INVALID_UTF8_IN_DISPLAY_STRING
+    INVALID_DISPLAY_STRING_CHARACTER UNTERMINATED_DISPLAY_STRING EXPECTED_START_OF_KEY""",
+    start=0,
+)
+
+
+class ParseError(ValueError):
+    """The input is no such field: the kind of the syntax error, its index in the input, and its message."""
+
+    def __init__(self, kind: ErrorKind, index: int, message: str) -> None:
+        super().__init__(kind, index, message)
+        self.kind, self.index, self.message = kind, index, message
+
+    def __str__(self) -> str:
+        return f"{self.message} at index {self.index}"
+
+
+class _Text(str):
+    def __repr__(self) -> str:
+        return f"{type(self).__name__}({super().__repr__()})"
+
+
+class Token(_Text):
+    """A token. It equals the string with the same text; `isinstance` distinguishes them."""
+
+
+class DisplayString(_Text):
+    """A display string: any Unicode text. It equals the string with the same text."""
+
+
+@dataclass(frozen=True)
+class Date:
+    """A date in seconds since 1970. A date in the years 1 to 9999 parses to `datetime`, and any other to `Date`."""
+
+    seconds: int
+
+
+BareItem = Union[int, Decimal, str, Token, bytes, bool, datetime, Date, DisplayString]
+Parameters = Dict[str, BareItem]
+Item = Tuple[BareItem, Parameters]
+InnerList = Tuple[List[Item], Parameters]
+Member = Union[Item, InnerList]
+
+
+def parse_item(field: bytes, version: int = 9651) -> Item:
+    """Parses an item: its value and its parameters (RFC 9651, section 4.2). Raises `ParseError`."""
+    return _item(_parse(_Type.ITEM, field, version))
+
+
+def parse_list(field: bytes, version: int = 9651) -> List[Member]:
+    """Parses a list, empty for empty input. An inner list is a pair of its items and its parameters.
+
+    Join the lines of a field by `b", "`. Raises `ParseError`.
+    """
+    rows = _parse(_Type.LIST, field, version)
+    return [_member(rows) for _ in rows]
+
+
+def parse_dictionary(field: bytes, version: int = 9651) -> Dict[str, Member]:
+    """Parses a dictionary. A repeated key keeps its first position and takes its last value. Raises `ParseError`."""
+    rows = _parse(_Type.DICTIONARY, field, version)
+    return {row.key: _member(rows) for row in rows}
+
+
+def serialize(value: Any, version: int = 9651) -> str:
+    """Returns the canonical text of a dictionary (`dict`), a list (`list`) or an item (RFC 9651, section 4.1).
+
+    A value without parameters can be alone, not in a pair. The text is empty for a dictionary or list without members: do
+    not send the field. Raises `ValueError` if no field can hold the value, or if the version lacks it.
+    """
+    if not isinstance(value, (dict, list)):
+        return _write(_Type.ITEM, list(_item_rows(value)), version)
+    if isinstance(value, list):
+        entries = [(_row(_Tag.ENTRY), member) for member in value]
+    else:
+        entries = [(_row(_Tag.KEYED_ENTRY, _matching(_KEY, key)), member) for key, member in value.items()]
+    rows = [row for entry, member in entries for row in (entry, *_member_rows(member))]
+    return _write(_Type.LIST if isinstance(value, list) else _Type.DICTIONARY, rows, version)
+
+
+class _Part(NamedTuple):
+    tag: int
+    key: str
+    value: Any
+
+
+def _member(rows: Iterator[_Part]) -> Member:
+    if next(rows).tag == _Tag.BEGIN_ITEM:
+        return _item(rows)
+    items = [_item(rows) for _ in takewhile(lambda row: row.tag == _Tag.BEGIN_ITEM, rows)]
+    return items, _parameters(rows)
+
+
+def _item(rows: Iterator[_Part]) -> Item:
+    return next(rows).value, _parameters(rows)
+
+
+def _parameters(rows: Iterator[_Part]) -> Parameters:
+    return {row.key: row.value for row in takewhile(lambda row: row.tag == _Tag.PARAMETER, rows)}
+
+
+def _date(seconds: int) -> Union[datetime, Date]:
+    try:
+        return _EPOCH + timedelta(seconds=seconds)
+    except OverflowError:
+        return Date(seconds)
+
+
+_EPOCH = datetime(1970, 1, 1, tzinfo=timezone.utc)
+_LARGEST = 999_999_999_999_999
+# Holds each decimal of a field, so it rounds only to thousandths. The caller's context has no effect.
+_DECIMALS = Context(prec=18, rounding=ROUND_HALF_EVEN, traps=[InvalidOperation])
+_KEY = re.compile(r"[a-z*][a-z0-9_.*-]*")
+_TOKEN = re.compile(r"[A-Za-z*][A-Za-z0-9!#$%&'*+.^_`|~:/-]*")
+_STRING = re.compile(r"[ -~]*")
+_DECODERS: Dict[int, Callable[[bytes, int], Any]] = {
+    _Kind.NONE: lambda data, number: None,
+    _Kind.INTEGER: lambda data, number: number,
+    _Kind.DECIMAL: lambda data, number: _DECIMALS.divide(number, 1000),
+    _Kind.STRING: lambda data, number: data.decode("ascii"),
+    _Kind.TOKEN: lambda data, number: Token(data, "ascii"),
+    _Kind.BYTE_SEQUENCE: lambda data, number: data,
+    _Kind.BOOLEAN: lambda data, number: number == 1,
+    _Kind.DATE: lambda data, number: _date(number),
+    _Kind.DISPLAY_STRING: lambda data, number: DisplayString(data, "utf-8"),
+}
+
+
+def _member_rows(member: Any) -> Iterator[_Row]:
+    value, parameters = _pair(member)
+    if isinstance(value, list):
+        yield _row(_Tag.BEGIN_INNER)
+        for item in value:
+            yield _row(_Tag.BEGIN_ITEM)
+            yield from _item_rows(item)
+        yield _row(_Tag.END_INNER)
+        yield from _parameter_rows(parameters)
+    else:
+        yield _row(_Tag.BEGIN_ITEM)
+        yield from _item_rows(member)
+
+
+def _item_rows(item: Any) -> Iterator[_Row]:
+    value, parameters = _pair(item)
+    yield _row(_Tag.BARE_ITEM, b"", _encoded(value))
+    yield from _parameter_rows(parameters)
+
+
+def _parameter_rows(parameters: Dict[str, Any]) -> Iterator[_Row]:
+    for key, value in parameters.items():
+        yield _row(_Tag.PARAMETER, _matching(_KEY, key), _encoded(value))
+    yield _row(_Tag.END_PARAMETERS)
+
+
+def _pair(member: Any) -> Tuple[Any, Dict[str, Any]]:
+    """Returns the value and the parameters of a member. Only a tuple has parameters."""
+    value, parameters = member if isinstance(member, tuple) and len(member) == 2 else (member, {})
+    if not isinstance(parameters, dict):
+        raise ValueError(f"no dict of parameters: {parameters!r}")
+    return value, parameters
+
+
+def _encoded(value: Any) -> Tuple[_Kind, bytes, int]:
+    """Returns the kind, bytes and number of a value. A `bool` is an `int`, and a token or display string is a `str`."""
+    if isinstance(value, bool):
+        return _Kind.BOOLEAN, b"", int(value)
+    if isinstance(value, int):
+        return _Kind.INTEGER, b"", _in_range(value)
+    if isinstance(value, Decimal):
+        return _Kind.DECIMAL, b"", _thousandths(value)
+    if isinstance(value, DisplayString):
+        return _Kind.DISPLAY_STRING, value.encode("utf-8"), 0
+    if isinstance(value, str):
+        is_token = isinstance(value, Token)
+        return (_Kind.TOKEN if is_token else _Kind.STRING), _matching(_TOKEN if is_token else _STRING, value), 0
+    if isinstance(value, bytes):
+        return _Kind.BYTE_SEQUENCE, value, 0
+    if isinstance(value, (datetime, Date)):
+        return _Kind.DATE, b"", _in_range(value.seconds if isinstance(value, Date) else _seconds(value))
+    raise ValueError(f"no field can hold a {type(value).__name__}: {value!r}")
+
+
+def _matching(pattern: Pattern[str], text: Any) -> bytes:
+    if not isinstance(text, str) or not pattern.fullmatch(text):
+        raise ValueError(f"no field can hold {text!r} here")
+    return text.encode("ascii")
+
+
+def _in_range(number: int) -> int:
+    if not -_LARGEST <= number <= _LARGEST:
+        raise ValueError(f"more than 15 digits: {number}")
+    return number
+
+
+def _thousandths(value: Decimal) -> int:
+    """Rounds to three digits after the point, half to even."""
+    try:
+        return _in_range(int(value.quantize(Decimal("0.001"), context=_DECIMALS).scaleb(3, _DECIMALS)))
+    except (InvalidOperation, OverflowError, ValueError) as error:
+        raise ValueError(f"no decimal of at most 12 digits before the point: {value}") from error
+
+
+def _seconds(value: datetime) -> int:
+    if value.utcoffset() is None:
+        raise ValueError(f"a datetime without a time zone: {value!r}")
+    seconds, fraction = divmod(value - _EPOCH, timedelta(seconds=1))
+    if fraction:
+        raise ValueError(f"a date is a whole number of seconds: {value!r}")
+    return seconds
+
+
+class _Answer(ctypes.Structure):
+    _fields_ = [("status", c_uint32), ("kind", c_uint32), ("index", c_size_t), ("length", c_size_t), ("rows", c_size_t)]
+
+
+class _Row(ctypes.Structure):
+    _fields_ = [("tag", c_uint32), ("kind", c_uint32), ("key", c_char_p), ("key_length", c_size_t)]
+    _fields_ += [("data", c_char_p), ("length", c_size_t), ("number", c_int64)]
+
+
+_ROW = struct.Struct("IIPNPNq")  # the members of _Row
+_library = ctypes.CDLL("libsfv.so.1")
+if _library.sfv_c_abi() != 1 or _ROW.size != ctypes.sizeof(_Row):
+    raise ImportError("libsfv has another binary interface")
+_spans, _write_spans, _message = _library.sfv_c_spans, _library.sfv_c_write_spans, _library.sfv_c_message
+_spans.restype = _write_spans.restype = _message.restype = _Answer
+_BUFFER = [c_void_p, c_size_t]
+_spans.argtypes = [c_uint32, c_uint32, c_char_p, c_size_t, *_BUFFER, *_BUFFER]
+_write_spans.argtypes = [c_uint32, c_uint32, *_BUFFER, *_BUFFER]
+_message.argtypes = [c_uint32, *_BUFFER]
+
+
+def _row(tag: _Tag, key: bytes = b"", encoded: Tuple[_Kind, bytes, int] = (_Kind.NONE, b"", 0)) -> _Row:
+    kind, data, number = encoded
+    return _Row(tag, kind, key, len(key), data, len(data), number)
+
+
+def _parse(kind: _Type, field: bytes, version: int) -> Iterator[_Part]:
+    if not isinstance(field, bytes):
+        raise TypeError(f"a field is bytes, not {type(field).__name__}")
+    # Most fields have at most 256 parts. Others are parsed twice.
+    answer = _Answer(_Status.TOO_SMALL, length=len(field), rows=min(256, 2 * len(field) + 2))
+    while answer.status == _Status.TOO_SMALL:
+        # The rows point into `field` and `room`.
+        count, room = answer.rows, ctypes.create_string_buffer(answer.length + 1)
+        rows = ctypes.create_string_buffer(count * _ROW.size)
+        answer = _spans(kind, _known(version), field, len(field), rows, count, room, len(room))
+    _raise_error(answer)
+    for tag, value_kind, key, key_length, data, length, number in _ROW.iter_unpack(memoryview(rows)[: answer.rows * _ROW.size]):
+        value = _DECODERS[value_kind](ctypes.string_at(data, length), number)
+        yield _Part(tag, ctypes.string_at(key, key_length).decode("ascii"), value)
+
+
+def _write(kind: _Type, rows: List[_Row], version: int) -> str:
+    array, out = (_Row * len(rows))(*rows), ctypes.create_string_buffer(1024)
+    answer = _write_spans(kind, _known(version), array, len(rows), out, len(out))
+    if answer.status == _Status.TOO_SMALL:
+        out = ctypes.create_string_buffer(answer.length)
+        answer = _write_spans(kind, version, array, len(rows), out, len(out))
+    _raise_error(answer)
+    return out.raw[: answer.length].decode("ascii")
+
+
+def _known(version: int) -> int:
+    if version not in (8941, 9651):
+        raise ValueError(f"a version is 8941 or 9651, not {version!r}")
+    return version
+
+
+def _raise_error(answer: _Answer) -> None:
+    if answer.status == _Status.REJECTED:
+        text = ctypes.create_string_buffer(64)
+        length = _message(answer.kind, text, len(text)).length
+        raise ParseError(ErrorKind(answer.kind), answer.index, text.raw[:length].decode("ascii"))
+    if answer.status == _Status.UNSUPPORTED:
+        raise ValueError(f"RFC 8941 has no {'dates' if answer.kind == _Kind.DATE else 'display strings'}")
+    if answer.status == _Status.OUT_OF_MEMORY:
+        raise MemoryError
+    assert answer.status in (_Status.OK, _Status.NOTHING), _Status(answer.status)

@@ -1,0 +1,24 @@
+//! Structured Field Values for HTTP (RFC 9651 and the older RFC 8941), over the proved library libsfv.
+//!
+//! ```
+//! use sfv_proved::{parse, Kind, Value, Version, Writer};
+//!
+//! let field = parse(Kind::Dictionary, b"u=1, i;q=0.5")?;
+//! assert_eq!(field.get("u").and_then(|member| member.value), Some(Value::Integer(1)));
+//! for member in field.members() {
+//!     println!("{:?} {:?} {:?}", member.key, member.value, member.parameter("q"));
+//! }
+//! let text = Writer::new(Kind::List).item(Value::Token("gzip")).parameter("q", Value::Decimal(500)).text(Version::Rfc9651)?;
+//! assert_eq!(text.as_deref(), Some("gzip;q=0.5"));
+//! # Ok::<(), sfv_proved::Error>(())
+//! ```
+#![deny(unsafe_code)] // Each module except `ffi` forbids it.
+
+mod error;
+#[allow(unsafe_code)]
+mod ffi;
+mod field;
+
+pub use error::{Error, ErrorKind};
+pub use ffi::{Kind, Version};
+pub use field::{parse, parse_version, Field, Member, Members, Value, Writer};
