@@ -108,7 +108,7 @@ def serialize(value: Any, version: int = 9651) -> str:
     not send the field. Raises `ValueError` if no field can hold the value, or if the version lacks it.
     """
     if not isinstance(value, (dict, list)):
-        return _write(_Type.ITEM, list(_item_rows(value)), version)
+        return _write(_Type.ITEM, _item_rows(value), version)
     if isinstance(value, list):
         entries = [(_row(_Tag.ENTRY), member) for member in value]
     else:
@@ -165,30 +165,22 @@ _DECODERS: Dict[int, Callable[[bytes, int], Any]] = {
 }
 
 
-def _member_rows(member: Any) -> Iterator[_Row]:
+def _member_rows(member: Any) -> List[_Row]:
     value, parameters = _pair(member)
-    if isinstance(value, list):
-        yield _row(_Tag.BEGIN_INNER)
-        for item in value:
-            yield _row(_Tag.BEGIN_ITEM)
-            yield from _item_rows(item)
-        yield _row(_Tag.END_INNER)
-        yield from _parameter_rows(parameters)
-    else:
-        yield _row(_Tag.BEGIN_ITEM)
-        yield from _item_rows(member)
+    if not isinstance(value, list):
+        return [_row(_Tag.BEGIN_ITEM), *_item_rows(member)]
+    items = [row for item in value for row in (_row(_Tag.BEGIN_ITEM), *_item_rows(item))]
+    return [_row(_Tag.BEGIN_INNER), *items, _row(_Tag.END_INNER), *_parameter_rows(parameters)]
 
 
-def _item_rows(item: Any) -> Iterator[_Row]:
+def _item_rows(item: Any) -> List[_Row]:
     value, parameters = _pair(item)
-    yield _row(_Tag.BARE_ITEM, b"", _encoded(value))
-    yield from _parameter_rows(parameters)
+    return [_row(_Tag.BARE_ITEM, b"", _encoded(value)), *_parameter_rows(parameters)]
 
 
-def _parameter_rows(parameters: Dict[str, Any]) -> Iterator[_Row]:
-    for key, value in parameters.items():
-        yield _row(_Tag.PARAMETER, _matching(_KEY, key), _encoded(value))
-    yield _row(_Tag.END_PARAMETERS)
+def _parameter_rows(parameters: Dict[str, Any]) -> List[_Row]:
+    rows = [_row(_Tag.PARAMETER, _matching(_KEY, key), _encoded(value)) for key, value in parameters.items()]
+    return [*rows, _row(_Tag.END_PARAMETERS)]
 
 
 def _pair(member: Any) -> Tuple[Any, Dict[str, Any]]:
@@ -280,12 +272,12 @@ def _parse(kind: _Type, field: bytes, version: int) -> Iterator[_Part]:
     # Most fields have at most 256 parts. Others are parsed twice.
     answer = _Answer(_Status.TOO_SMALL, length=len(field), rows=min(256, 2 * len(field) + 2))
     while answer.status == _Status.TOO_SMALL:
-        # The rows point into `field` and `room`.
-        count, room = answer.rows, ctypes.create_string_buffer(answer.length + 1)
-        rows = ctypes.create_string_buffer(count * _ROW.size)
-        answer = _spans(kind, _known(version), field, len(field), rows, count, room, len(room))
+        # The rows point into `field` and `room`, which live until the last part.
+        rows, room = ctypes.create_string_buffer(answer.rows * _ROW.size), ctypes.create_string_buffer(answer.length + 1)
+        answer = _spans(kind, _known(version), field, len(field), rows, answer.rows, room, len(room))
     _raise_error(answer)
-    for tag, value_kind, key, key_length, data, length, number in _ROW.iter_unpack(memoryview(rows)[: answer.rows * _ROW.size]):
+    written = memoryview(rows)[: answer.rows * _ROW.size]
+    for tag, value_kind, key, key_length, data, length, number in _ROW.iter_unpack(written):
         value = _DECODERS[value_kind](ctypes.string_at(data, length), number)
         yield _Part(tag, ctypes.string_at(key, key_length).decode("ascii"), value)
 

@@ -1,0 +1,198 @@
+"""Tests of the module over the installed library. They read the replay and the header of the repository."""
+
+import doctest
+import pickle
+import re
+import unittest
+from concurrent.futures import ThreadPoolExecutor
+from datetime import datetime, timedelta, timezone
+from decimal import Decimal, localcontext
+from pathlib import Path
+
+import sfv
+from sfv import Date, DisplayString, ErrorKind, ParseError, Token, parse_dictionary, parse_item, parse_list, serialize
+
+TOP = Path(__file__).resolve().parents[2]
+PARSERS = {"item": parse_item, "list": parse_list, "dict": parse_dictionary}
+LARGEST = 999_999_999_999_999
+UTC = timezone.utc
+
+
+def replayed(line):
+    """Returns the result of a line of the replay, in the form of the line."""
+    kind, version, hexadecimal, *_ = line.split(" ")
+    field = b"" if hexadecimal == "-" else bytes.fromhex(hexadecimal)
+    try:
+        value = PARSERS[kind](field, version=int(version))
+    except ParseError as error:
+        assert (str(error), type(error.kind)) == (f"{error.message} at index {error.index}", ErrorKind)
+        return f"err {error}"
+    text = serialize(value)
+    assert PARSERS[kind](text.encode()) == value
+    return f"ok {text.encode().hex() or 'none'}"
+
+
+class Replay(unittest.TestCase):
+    def test_each_line(self):
+        lines = (TOP / "crates/sfv_replay/stdin").read_text().splitlines()
+        self.assertEqual(len(lines), 2857)
+        for line in lines:
+            self.assertEqual(replayed(line), line.split(" ", 4)[4], line)
+
+    def test_numbers_are_those_of_the_header(self):
+        header = (TOP / "include/sfv.h").read_text()
+        kinds = {name: int(number) for name, number in re.findall(r"SFV_ERR_(\w+) = (\d+)", header)}
+        self.assertEqual(kinds, {kind.name: kind.value for kind in ErrorKind})
+        for enum in (sfv._Type, sfv._Status, sfv._Tag, sfv._Kind):
+            for member in enum:
+                name = "NO_VALUE" if member is sfv._Kind.NONE else member.name
+                self.assertRegex(header, rf"\bSFV_{name} = {member.value}\b")
+
+    def test_examples(self):
+        self.assertEqual(doctest.testmod(sfv, optionflags=doctest.IGNORE_EXCEPTION_DETAIL).failed, 0)
+
+
+class Parsing(unittest.TestCase):
+    def check_item(self, field, value):
+        parsed = parse_item(field)
+        self.assertEqual(parsed, (value, {}))
+        self.assertIs(type(parsed[0]), type(value))
+        self.assertEqual(serialize(value), field.decode())
+
+    def test_values(self):
+        self.check_item(b"42", 42)
+        self.check_item(b"-999999999999999", -LARGEST)
+        self.check_item(b"1.5", Decimal("1.5"))
+        self.check_item(b"-999999999999.999", Decimal("-999999999999.999"))
+        self.check_item(rb'"a \"b\" \\"', 'a "b" \\')
+        self.check_item(b"*a/b:c", Token("*a/b:c"))
+        self.check_item(b":AAEC/w==:", b"\0\1\2\xff")
+        self.check_item(b"?1", True)
+        self.check_item(b"@1659578233", datetime(2022, 8, 4, 1, 57, 13, tzinfo=UTC))
+        self.check_item(b'%"f%c3%bc %e2%82%ac%00"', DisplayString("fü €\0"))
+
+    def test_types(self):
+        self.assertEqual(repr(parse_item(b'a;b="c";d=%"e"')), "(Token('a'), {'b': 'c', 'd': DisplayString('e')})")
+        self.assertNotIsInstance(parse_item(b'"a"')[0], Token)
+        # The type distinguishes equal values.
+        self.assertIs(parse_item(b"?1")[0], True)
+        self.assertEqual(repr(parse_item(b"1.0")[0]), "Decimal('1')")
+
+    def test_structure(self):
+        self.assertEqual(parse_list(b'a;x, (1 2;y);z, "s"'), [("a", {"x": True}), ([(1, {}), (2, {"y": True})], {"z": True}), ("s", {})])
+        self.assertEqual(parse_dictionary(b"a, b=();c=1"), {"a": (True, {}), "b": ([], {"c": 1})})
+
+    def test_repeated_keys(self):
+        parsed = parse_dictionary(b"a=1;x;y=2;x=3, b=2, a=4;z")
+        self.assertEqual(list(parsed.items()), [("a", (4, {"z": True})), ("b", (2, {}))])
+        self.assertEqual(list(parse_item(b"1;x;y=2;x=3")[1].items()), [("x", 3), ("y", 2)])
+
+    def test_dates_outside_of_datetime(self):
+        first, last = datetime(1, 1, 1, tzinfo=UTC), datetime(9999, 12, 31, 23, 59, 59, tzinfo=UTC)
+        self.check_item(b"@-62135596800", first)
+        self.check_item(b"@253402300799", last)
+        self.check_item(b"@-62135596801", Date(-62135596801))
+        self.check_item(b"@253402300800", Date(253402300800))
+        self.check_item(b"@-999999999999999", Date(-LARGEST))
+        self.assertEqual(serialize(Date(0)), "@0")
+
+    def test_the_context_of_decimals(self):
+        with localcontext() as context:
+            context.prec = 3
+            self.check_item(b"123456789012.345", Decimal("123456789012.345"))
+
+    def test_empty_input(self):
+        self.assertEqual((parse_list(b""), parse_dictionary(b"  ")), ([], {}))
+        with self.assertRaises(ParseError) as caught:
+            parse_item(b"")
+        self.assertEqual((caught.exception.kind, caught.exception.index), (ErrorKind.EXPECTED_START_OF_BARE_ITEM, 0))
+
+    def test_nul_bytes(self):
+        for field, index in ((b"\0", 0), (b"1\0", 1), (b'"a\0b"', 2), (b"a;b\0", 3)):
+            with self.assertRaises(ParseError) as caught:
+                parse_item(field)
+            self.assertEqual(caught.exception.index, index)
+        self.check_item(b":YQBi:", b"a\0b")
+
+    def test_large_fields(self):
+        tokens = ", ".join(f"token{n};q=1" for n in range(70_000))
+        self.assertGreater(len(tokens), 1_000_000)
+        self.assertEqual(serialize(parse_list(tokens.encode())), tokens)
+        self.check_item(b":" + b"QUJD" * 250_000 + b":", b"ABC" * 250_000)
+        self.check_item(b'"' + b"\\\\" * 500_000 + b'"', "\\" * 500_000)
+
+    def test_errors(self):
+        with self.assertRaises(ParseError) as caught:
+            parse_dictionary(b"u=1, i=?2")
+        error = pickle.loads(pickle.dumps(caught.exception))
+        self.assertEqual((error.kind, error.index, error.message), (ErrorKind.EXPECTED_BOOLEAN, 8, "expected boolean ('0' or '1')"))
+        self.assertIsInstance(error, ValueError)
+
+    def test_versions(self):
+        with self.assertRaises(ParseError) as caught:
+            parse_list(b"1, @1", version=8941)
+        self.assertEqual((caught.exception.kind, caught.exception.index), (ErrorKind.RFC8941_DATE, 3))
+        self.assertEqual(serialize([1], version=8941), "1")
+        for value in (Date(1), DisplayString("a"), datetime(2020, 1, 1, tzinfo=UTC)):
+            self.assertRaises(ValueError, serialize, [value], version=8941)
+        self.assertRaises(ValueError, parse_list, b"1", version=1)
+        self.assertRaises(ValueError, serialize, [1], version=8941 + 2**32)
+
+    def test_fields_are_bytes(self):
+        for field in ("1", None, 1, bytearray(b"1")):
+            self.assertRaises(TypeError, parse_item, field)
+
+    def test_threads(self):
+        lines = [f"a{n};n={n}, ({n} b);q=:AAAA:".encode() * 1 for n in range(2000)]
+        expected = [parse_list(line) for line in lines]
+        with ThreadPoolExecutor(8) as pool:
+            self.assertEqual(list(pool.map(parse_list, lines)), expected)
+            self.assertEqual(list(pool.map(serialize, expected)), [line.decode() for line in lines])
+
+
+class Serializing(unittest.TestCase):
+    def test_shapes(self):
+        self.assertEqual(serialize({"a": 1, "b": (True, {"q": Token("x")}), "c": [1, ("s", {"p": False})]}), 'a=1, b;q=x, c=(1 "s";p=?0)')
+        self.assertEqual(serialize([Token("a"), ([], {"x": 1}), [b""]]), "a, ();x=1, (::)")
+        self.assertEqual((serialize([]), serialize({})), ("", ""))
+
+    def test_decimals_are_rounded(self):
+        for value, text in (("0.0005", "0.0"), ("0.0015", "0.002"), ("-1.2345", "-1.234"), ("2", "2.0"), ("1e2", "100.0"), ("1e-99", "0.0")):
+            self.assertEqual(serialize(Decimal(value)), text)
+        self.assertEqual(serialize(Decimal("999999999999.9994")), "999999999999.999")
+
+    def test_dates(self):
+        self.assertEqual(serialize(datetime(1970, 1, 1, 2, tzinfo=timezone(timedelta(hours=1)))), "@3600")
+        self.assertEqual(serialize(datetime(9999, 12, 31, 23, tzinfo=timezone(timedelta(hours=-5)))), "@253402315200")
+
+    def check_no_field_holds(self, value):
+        for shape in (value, [value], {"a": value}, (1, {"a": value}), [[value]], ([(value, {})], {})):
+            with self.assertRaises(ValueError, msg=repr(shape)) as caught:
+                serialize(shape)
+            self.assertNotIsInstance(caught.exception, ParseError)
+
+    def test_values_that_no_field_holds(self):
+        for value in (LARGEST + 1, -LARGEST - 1, 10**40, 1.5, None, "é", "a\n", "a\0", Token(""), Token("a b"), Token("1a"), Token("a\n")):
+            self.check_no_field_holds(value)
+        for text in ("1e12", "-1e12", "999999999999.9995", "NaN", "sNaN", "Infinity", "1e999999", "1e99999999"):
+            self.check_no_field_holds(Decimal(text))
+        for value in (DisplayString("\ud800"), datetime(2020, 1, 1), datetime(2020, 1, 1, 0, 0, 0, 1, UTC), Date(LARGEST + 1)):
+            self.check_no_field_holds(value)
+        for value in (object(), {1}, bytearray(b"a"), (1,), (1, {}, 2), (1, None), datetime(2020, 1, 1).date()):
+            self.check_no_field_holds(value)
+
+    def test_keys_that_no_field_holds(self):
+        for key in ("", "A", "1", "a b", "é", "a\0", "a\n", 1, None, b"a"):
+            for value in ({key: 1}, (1, {key: 1}), [([], {key: 1})]):
+                self.assertRaises(ValueError, serialize, value)
+
+    def test_inner_lists_only_in_members(self):
+        for value in (([], {}), [[[1]]], (1, {"a": [1]}), [([([1], {})], {})]):
+            self.assertRaises(ValueError, serialize, value)
+
+    def test_many_rows(self):
+        self.assertEqual(len(serialize([1] * 100_000)), 299_998)
+
+
+if __name__ == "__main__":
+    unittest.main()
