@@ -3,7 +3,7 @@
 //     sfv::field field = sfv::parse(sfv::type::dictionary, "u=1, i");
 //     std::int64_t urgency = field.get<std::int64_t>("u").value_or(3);
 //     for (sfv::row row : field) std::cout << row.key() << '\n';
-//     std::string text = sfv::writer(sfv::type::list).item(sfv::token{"gzip"}).parameter("q", sfv::decimal{500}).text();
+//     std::string text = sfv::writer(sfv::type::list).item(sfv::token{"br"}).parameter("q", sfv::decimal{500}).text();
 //
 // A call without an error_code throws sfv::error. Every call throws std::bad_alloc if memory runs out.
 #ifndef SFV_HPP
@@ -44,7 +44,6 @@ class error_code {
   public:
     error_code() = default;
     explicit error_code(const sfv_answer &answer) : answer_(answer) {}
-
     explicit operator bool() const { return status() != SFV_OK && status() != SFV_NOTHING; }
     sfv_status status() const { return static_cast<sfv_status>(answer_.status); }
     // The kind of the syntax error, and its index in the input.
@@ -73,7 +72,6 @@ inline error_code checked(const sfv_answer &answer) {
     if (answer.status == SFV_OUT_OF_MEMORY) throw std::bad_alloc();
     return error_code(answer);
 }
-
 inline sfv_row row_of(std::int64_t number) { return sfv_number_row(SFV_INTEGER, number); }
 inline sfv_row row_of(decimal d) { return sfv_number_row(SFV_DECIMAL, d.thousandths); }
 inline sfv_row row_of(std::string_view text) { return sfv_bytes_row(SFV_STRING, text.data(), text.size()); }
@@ -85,7 +83,6 @@ inline sfv_row row_of(display_string d) { return sfv_bytes_row(SFV_DISPLAY_STRIN
 inline sfv_row row_of(const value &v) {
     return std::visit([](auto known) { return row_of(known); }, v);
 }
-
 // Returns the text that `write` writes to a buffer.
 template <class Write> std::string written(std::size_t guess, Write write) {
     std::string out(guess, '\0');
@@ -99,6 +96,14 @@ template <class Write> std::string written(std::size_t guess, Write write) {
     return out;
 }
 }  // namespace detail
+
+// Parses a field and returns its canonical text. A repeated key keeps its first position and takes its last value.
+inline std::string canonical(type t, std::string_view input, version reading = version::rfc9651,
+                             version writing = version::rfc9651) {
+    return detail::written(input.size(), [=](char *out, std::size_t n) {
+        return sfv_canonical(detail::raw(t), detail::raw(reading), detail::raw(writing), input.data(), input.size(), out, n);
+    });
+}
 
 // A part of a field, valid as long as the field and its input. The header sfv.h lists the tags and their order.
 class row {
@@ -123,7 +128,6 @@ class row {
         default: return std::nullopt;
         }
     }
-
     // The value, if it is a T.
     template <class T> std::optional<T> get() const { return get_from<T>(*this); }
 
@@ -131,13 +135,13 @@ class row {
     std::optional<row> parameter(std::string_view key) const {
         std::optional<row> found;
         const sfv_row *at = raw_;
+        if (tag() != SFV_BARE_ITEM && tag() != SFV_BEGIN_INNER) return found;
         if (tag() == SFV_BEGIN_INNER)
             while (at->tag != SFV_END_INNER) at++;
         for (at++; at->tag == SFV_PARAMETER; at++)
             if (detail::view(at->key) == key) found = row(at);
         return found;
     }
-
     // The last parameter with this key, if its value is a T.
     template <class T> std::optional<T> get(std::string_view key) const { return get_from<T>(parameter(key)); }
 
@@ -152,8 +156,8 @@ class row {
     const sfv_row *raw_;
 };
 
-// A parsed field: a range over its rows. They point to the input and to decoded texts that the field owns. A repeated key has
-// a row each time. A look-up finds its last value. `text` writes the last value at the first position.
+// A parsed field: a range over its rows. They point to the input, and to decoded texts that the field owns. A repeated
+// key has a row each time. A look-up finds its last value, and `text` writes that at the first position.
 class field {
   public:
     class iterator {
@@ -186,17 +190,15 @@ class field {
         }
         return found;
     }
-
     // The last member with this key, if its value is a T.
     template <class T> std::optional<T> get(std::string_view key) const { return row::get_from<T>(member(key)); }
 
     // The canonical text, empty for a list or dictionary without members: do not send the field.
-    std::string text(version writing = version::rfc9651) const;
+    std::string text(version writing = version::rfc9651) const { return canonical(type_, input_, version_, writing); }
 
   private:
     friend std::optional<field> parse(type, std::string_view, error_code &, version);
     field(type t, version v, std::string_view input) : type_(t), version_(v), input_(input) {}
-
     sfv_answer fill(std::size_t rows, std::size_t room) {
         rows_.resize(rows);
         room_.reset(new char[room]);
@@ -235,25 +237,13 @@ inline field parse(type t, std::string_view input, version v = version::rfc9651)
 template <class S, class... Rest, std::enable_if_t<std::is_same_v<S, std::string>, int> = 0>
 void parse(type, S &&, Rest &&...) = delete;
 
-// Parses a field and returns its canonical text. A repeated key keeps its first position and takes its last value.
-inline std::string canonical(type t, std::string_view input, version reading = version::rfc9651,
-                             version writing = version::rfc9651) {
-    sfv_version from = detail::raw(reading), to = detail::raw(writing);
-    return detail::written(input.size(), [=](char *out, std::size_t length) {
-        return sfv_canonical(detail::raw(t), from, to, input.data(), input.size(), out, length);
-    });
-}
-
-inline std::string field::text(version writing) const { return canonical(type_, input_, version_, writing); }
-
-// Writes a field part by part, and copies each text. `text` throws the error of a wrong order of calls, or of a value that no
-// field can hold.
+// Writes a field part by part, and copies each text. `text` throws the error of a wrong order of calls, or of a value
+// that no field can hold.
 class writer {
   public:
     explicit writer(type t) : type_(t) {}
     writer(writer &&) = default;
     writer &operator=(writer &&) = default;
-
     // Begins a member of a dictionary. Its item or inner list follows.
     writer &key(std::string_view key) { return close().push(sfv_tag_row(SFV_KEYED_ENTRY), key); }
     writer &item(const value &v) { return begin(SFV_BEGIN_ITEM).push(detail::row_of(v)); }
@@ -286,13 +276,11 @@ class writer {
         rows_.push_back(row);
         return *this;
     }
-
     writer &begin(sfv_tag tag) {
         close();
         if (type_ == type::list && !is_inner_) push(sfv_tag_row(SFV_ENTRY));
         return type_ == type::item ? *this : push(sfv_tag_row(tag));
     }
-
     writer &close() { return is_open_ ? push(sfv_tag_row(SFV_END_PARAMETERS)) : *this; }
 
     sfv_bytes keep(std::string_view text) {

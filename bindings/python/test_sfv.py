@@ -143,7 +143,7 @@ class Parsing(unittest.TestCase):
             self.assertRaises(TypeError, parse_item, field)
 
     def test_threads(self):
-        lines = [f"a{n};n={n}, ({n} b);q=:AAAA:".encode() * 1 for n in range(2000)]
+        lines = [f"a{n};n={n}, ({n} b);q=:AAAA:".encode() for n in range(2000)]
         expected = [parse_list(line) for line in lines]
         with ThreadPoolExecutor(8) as pool:
             self.assertEqual(list(pool.map(parse_list, lines)), expected)
@@ -176,7 +176,7 @@ class Serializing(unittest.TestCase):
             self.check_no_field_holds(value)
         for text in ("1e12", "-1e12", "999999999999.9995", "NaN", "sNaN", "Infinity", "1e999999", "1e99999999"):
             self.check_no_field_holds(Decimal(text))
-        for value in (DisplayString("\ud800"), datetime(2020, 1, 1), datetime(2020, 1, 1, 0, 0, 0, 1, UTC), Date(LARGEST + 1)):
+        for value in (DisplayString("\ud800"), datetime(2020, 1, 1), datetime(2020, 1, 1, 0, 0, 0, 1, UTC), Date(LARGEST + 1), Date(1.5)):
             self.check_no_field_holds(value)
         for value in (object(), {1}, bytearray(b"a"), (1,), (1, {}, 2), (1, None), datetime(2020, 1, 1).date()):
             self.check_no_field_holds(value)

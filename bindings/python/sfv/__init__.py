@@ -27,6 +27,7 @@ __all__ += ["parse_dictionary", "parse_item", "parse_list", "serialize"]
 
 # The numbers of include/sfv.h.
 _Type = IntEnum("_Type", "ITEM LIST DICTIONARY")
+_Version = IntEnum("_Version", {"RFC8941": 8941, "RFC9651": 9651})
 _Status = IntEnum("_Status", "OK NOTHING TOO_SMALL REJECTED OUT_OF_MEMORY BAD_ARGUMENT UNSUPPORTED WRONG_ROW", start=0)
 _Tag = IntEnum("_Tag", "ENTRY KEYED_ENTRY BEGIN_ITEM BEGIN_INNER BARE_ITEM PARAMETER END_PARAMETERS END_INNER")
 _Kind = IntEnum("_Kind", "NONE INTEGER DECIMAL STRING TOKEN BYTE_SEQUENCE BOOLEAN DATE DISPLAY_STRING", start=0)
@@ -87,10 +88,7 @@ def parse_item(field: bytes, version: int = 9651) -> Item:
 
 
 def parse_list(field: bytes, version: int = 9651) -> List[Member]:
-    """Parses a list, empty for empty input. An inner list is a pair of its items and its parameters.
-
-    Join the lines of a field by `b", "`. Raises `ParseError`.
-    """
+    """Parses a list. An inner list is a pair of its items and its parameters. Raises `ParseError`."""
     rows = _parse(_Type.LIST, field, version)
     return [_member(rows) for _ in rows]
 
@@ -104,8 +102,8 @@ def parse_dictionary(field: bytes, version: int = 9651) -> Dict[str, Member]:
 def serialize(value: Any, version: int = 9651) -> str:
     """Returns the canonical text of a dictionary (`dict`), a list (`list`) or an item (RFC 9651, section 4.1).
 
-    A value without parameters can be alone, not in a pair. The text is empty for a dictionary or list without members: do
-    not send the field. Raises `ValueError` if no field can hold the value, or if the version lacks it.
+    A value without parameters can be alone, not in a pair. A dictionary or list without members has an empty text: do not
+    send the field. Raises `ValueError` if no field can hold the value, or if the version lacks it.
     """
     if not isinstance(value, (dict, list)):
         return _write(_Type.ITEM, _item_rows(value), version)
@@ -126,8 +124,7 @@ class _Part(NamedTuple):
 def _member(rows: Iterator[_Part]) -> Member:
     if next(rows).tag == _Tag.BEGIN_ITEM:
         return _item(rows)
-    items = [_item(rows) for _ in takewhile(lambda row: row.tag == _Tag.BEGIN_ITEM, rows)]
-    return items, _parameters(rows)
+    return [_item(rows) for _ in takewhile(lambda row: row.tag == _Tag.BEGIN_ITEM, rows)], _parameters(rows)
 
 
 def _item(rows: Iterator[_Part]) -> Item:
@@ -218,8 +215,8 @@ def _matching(pattern: Pattern[str], text: Any) -> bytes:
 
 
 def _in_range(number: int) -> int:
-    if not -_LARGEST <= number <= _LARGEST:
-        raise ValueError(f"more than 15 digits: {number}")
+    if not isinstance(number, int) or not -_LARGEST <= number <= _LARGEST:
+        raise ValueError(f"no integer of at most 15 digits: {number!r}")
     return number
 
 
@@ -232,12 +229,9 @@ def _thousandths(value: Decimal) -> int:
 
 
 def _seconds(value: datetime) -> int:
-    if value.utcoffset() is None:
-        raise ValueError(f"a datetime without a time zone: {value!r}")
-    seconds, fraction = divmod(value - _EPOCH, timedelta(seconds=1))
-    if fraction:
-        raise ValueError(f"a date is a whole number of seconds: {value!r}")
-    return seconds
+    if value.utcoffset() is None or (value - _EPOCH).microseconds:
+        raise ValueError(f"a date needs a time zone and whole seconds: {value!r}")
+    return (value - _EPOCH) // timedelta(seconds=1)
 
 
 class _Answer(ctypes.Structure):
@@ -256,7 +250,7 @@ if _library.sfv_c_abi() != 1 or _ROW.size != ctypes.sizeof(_Row):
 _spans, _write_spans, _message = _library.sfv_c_spans, _library.sfv_c_write_spans, _library.sfv_c_message
 _spans.restype = _write_spans.restype = _message.restype = _Answer
 _BUFFER = [c_void_p, c_size_t]
-_spans.argtypes = [c_uint32, c_uint32, c_char_p, c_size_t, *_BUFFER, *_BUFFER]
+_spans.argtypes = [c_uint32, c_uint32, *_BUFFER, *_BUFFER, *_BUFFER]
 _write_spans.argtypes = [c_uint32, c_uint32, *_BUFFER, *_BUFFER]
 _message.argtypes = [c_uint32, *_BUFFER]
 
@@ -269,33 +263,29 @@ def _row(tag: _Tag, key: bytes = b"", encoded: Tuple[_Kind, bytes, int] = (_Kind
 def _parse(kind: _Type, field: bytes, version: int) -> Iterator[_Part]:
     if not isinstance(field, bytes):
         raise TypeError(f"a field is bytes, not {type(field).__name__}")
+    size = len(field)
     # Most fields have at most 256 parts. Others are parsed twice.
-    answer = _Answer(_Status.TOO_SMALL, length=len(field), rows=min(256, 2 * len(field) + 2))
+    answer = _Answer(_Status.TOO_SMALL, length=size, rows=min(256, 2 * size + 2))
     while answer.status == _Status.TOO_SMALL:
-        # The rows point into `field` and `room`, which live until the last part.
-        rows, room = ctypes.create_string_buffer(answer.rows * _ROW.size), ctypes.create_string_buffer(answer.length + 1)
-        answer = _spans(kind, _known(version), field, len(field), rows, answer.rows, room, len(room))
+        # The rows point into one buffer: the field, and after it the room for decoded texts.
+        buffer = ctypes.create_string_buffer(field, size + answer.length + 1)
+        rows, start = ctypes.create_string_buffer(answer.rows * _ROW.size), ctypes.addressof(buffer)
+        answer = _spans(kind, _Version(version), start, size, rows, answer.rows, start + size, answer.length)
     _raise_error(answer)
-    written = memoryview(rows)[: answer.rows * _ROW.size]
+    texts, written = buffer.raw, memoryview(rows)[: answer.rows * _ROW.size]
     for tag, value_kind, key, key_length, data, length, number in _ROW.iter_unpack(written):
-        value = _DECODERS[value_kind](ctypes.string_at(data, length), number)
-        yield _Part(tag, ctypes.string_at(key, key_length).decode("ascii"), value)
+        key, data = key - start, data - start
+        name = texts[key : key + key_length].decode("ascii")
+        yield _Part(tag, name, _DECODERS[value_kind](texts[data : data + length], number))
 
 
 def _write(kind: _Type, rows: List[_Row], version: int) -> str:
-    array, out = (_Row * len(rows))(*rows), ctypes.create_string_buffer(1024)
-    answer = _write_spans(kind, _known(version), array, len(rows), out, len(out))
-    if answer.status == _Status.TOO_SMALL:
+    array, answer = (_Row * len(rows))(*rows), _Answer(_Status.TOO_SMALL, length=1024)
+    while answer.status == _Status.TOO_SMALL:
         out = ctypes.create_string_buffer(answer.length)
-        answer = _write_spans(kind, version, array, len(rows), out, len(out))
+        answer = _write_spans(kind, _Version(version), array, len(rows), out, len(out))
     _raise_error(answer)
     return out.raw[: answer.length].decode("ascii")
-
-
-def _known(version: int) -> int:
-    if version not in (8941, 9651):
-        raise ValueError(f"a version is 8941 or 9651, not {version!r}")
-    return version
 
 
 def _raise_error(answer: _Answer) -> None:
