@@ -18,13 +18,14 @@ macro_rules! error_kinds {
 }
 
 error_kinds! {
-    Empty = 3 InvalidCharacter = 4 TrailingCharactersAfterMember = 5 TrailingComma = 6 TrailingCharactersAfterParsedValue = 7
-    ExpectedInnerListDelimiter = 8 UnterminatedInnerList = 9 ExpectedStartOfBareItem = 10 ExpectedBoolean = 11
-    InvalidStringCharacter = 12 UnterminatedString = 13 UnterminatedEscapeSequence = 14 InvalidEscapeSequence = 15
-    UnterminatedByteSequence = 16 InvalidByteSequence = 17 ExpectedDigit = 18 TooManyDigits = 19
-    TooManyDigitsBeforeDecimalPoint = 20 TooManyDigitsAfterDecimalPoint = 21 TrailingDecimalPoint = 22 Rfc8941Date = 23
-    NonIntegerDate = 24 Rfc8941DisplayString = 25 ExpectedQuote = 26 InvalidUtf8InDisplayString = 27
-    InvalidDisplayStringCharacter = 28 UnterminatedDisplayString = 29 ExpectedStartOfKey = 30
+    Empty = 3 InvalidCharacter = 4 TrailingCharactersAfterMember = 5 TrailingComma = 6
+    TrailingCharactersAfterParsedValue = 7 ExpectedInnerListDelimiter = 8 UnterminatedInnerList = 9
+    ExpectedStartOfBareItem = 10 ExpectedBoolean = 11 InvalidStringCharacter = 12 UnterminatedString = 13
+    UnterminatedEscapeSequence = 14 InvalidEscapeSequence = 15 UnterminatedByteSequence = 16 InvalidByteSequence = 17
+    ExpectedDigit = 18 TooManyDigits = 19 TooManyDigitsBeforeDecimalPoint = 20 TooManyDigitsAfterDecimalPoint = 21
+    TrailingDecimalPoint = 22 Rfc8941Date = 23 NonIntegerDate = 24 Rfc8941DisplayString = 25 ExpectedQuote = 26
+    InvalidUtf8InDisplayString = 27 InvalidDisplayStringCharacter = 28 UnterminatedDisplayString = 29
+    ExpectedStartOfKey = 30
 }
 
 /// The error of a call.

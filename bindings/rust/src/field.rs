@@ -2,7 +2,7 @@
 
 use std::slice::Iter;
 
-use crate::ffi::{self, Bytes, Kind, Row, Rows, Tag, ValueKind, Version};
+use crate::ffi::{self, text, Kind, Row, Rows, Tag, ValueKind, Version};
 use crate::Error;
 
 /// The value of an item or parameter. A decimal is in thousandths, and a date in seconds since 1970.
@@ -18,37 +18,32 @@ pub enum Value<'a> {
     DisplayString(&'a str),
 }
 
-fn text(bytes: Bytes<'_>) -> &str {
-    std::str::from_utf8(bytes.as_slice()).expect("the library returns UTF-8")
-}
-
 impl<'a> Value<'a> {
     fn from_row(row: &Row<'a>) -> Option<Value<'a>> {
         Some(match row.kind {
             ValueKind::None => return None,
             ValueKind::Integer => Value::Integer(row.number),
             ValueKind::Decimal => Value::Decimal(row.number),
-            ValueKind::String => Value::String(text(row.bytes)),
-            ValueKind::Token => Value::Token(text(row.bytes)),
-            ValueKind::ByteSequence => Value::ByteSequence(row.bytes.as_slice()),
+            ValueKind::String => Value::String(text(row.bytes())),
+            ValueKind::Token => Value::Token(text(row.bytes())),
+            ValueKind::ByteSequence => Value::ByteSequence(row.bytes()),
             ValueKind::Boolean => Value::Boolean(row.number != 0),
             ValueKind::Date => Value::Date(row.number),
-            ValueKind::DisplayString => Value::DisplayString(text(row.bytes)),
+            ValueKind::DisplayString => Value::DisplayString(text(row.bytes())),
         })
     }
 
     fn to_row(self, tag: Tag, key: &'a str) -> Row<'a> {
-        let (kind, text, number) = match self {
-            Value::Integer(number) => (ValueKind::Integer, "", number),
-            Value::Decimal(number) => (ValueKind::Decimal, "", number),
-            Value::String(text) => (ValueKind::String, text, 0),
-            Value::Token(text) => (ValueKind::Token, text, 0),
-            Value::ByteSequence(bytes) => return Row { kind: ValueKind::ByteSequence, bytes: bytes.into(), ..Row::new(tag, key) },
-            Value::Boolean(is_true) => (ValueKind::Boolean, "", is_true.into()),
-            Value::Date(number) => (ValueKind::Date, "", number),
-            Value::DisplayString(text) => (ValueKind::DisplayString, text, 0),
-        };
-        Row { kind, bytes: text.as_bytes().into(), number, ..Row::new(tag, key) }
+        match self {
+            Value::Integer(number) => Row::new(tag, key, ValueKind::Integer, b"", number),
+            Value::Decimal(number) => Row::new(tag, key, ValueKind::Decimal, b"", number),
+            Value::String(text) => Row::new(tag, key, ValueKind::String, text.as_bytes(), 0),
+            Value::Token(text) => Row::new(tag, key, ValueKind::Token, text.as_bytes(), 0),
+            Value::ByteSequence(bytes) => Row::new(tag, key, ValueKind::ByteSequence, bytes, 0),
+            Value::Boolean(is_true) => Row::new(tag, key, ValueKind::Boolean, b"", is_true.into()),
+            Value::Date(number) => Row::new(tag, key, ValueKind::Date, b"", number),
+            Value::DisplayString(text) => Row::new(tag, key, ValueKind::DisplayString, text.as_bytes(), 0),
+        }
     }
 }
 
@@ -77,9 +72,7 @@ pub fn parse_version(kind: Kind, input: &[u8], version: Version) -> Result<Field
 
 impl Field<'_> {
     /// Returns the members of a list or dictionary in order, or the item.
-    pub fn members(&self) -> Members<'_> {
-        Members(self.rows.get().iter())
-    }
+    pub fn members(&self) -> Members<'_> { Members(self.rows.get().iter()) }
 
     /// Returns the last member of a dictionary with this key.
     pub fn get(&self, key: &str) -> Option<Member<'_>> {
@@ -106,7 +99,7 @@ impl<'f> Iterator for Members<'f> {
     fn next(&mut self) -> Option<Member<'f>> {
         let first = self.0.find(|row| matches!(row.tag, Tag::Key | Tag::BareItem | Tag::BeginInner))?;
         if first.tag == Tag::Key {
-            return Some(Member { key: Some(text(first.key)), ..self.next()? });
+            return Some(Member { key: Some(first.key()), ..self.next()? });
         }
         let rows = self.0.as_slice();
         if first.tag == Tag::BeginInner {
@@ -131,13 +124,11 @@ pub struct Member<'f> {
 
 impl<'f> Member<'f> {
     /// Returns the items of an inner list.
-    pub fn items(&self) -> Members<'f> {
-        Members(self.items.iter())
-    }
+    pub fn items(&self) -> Members<'f> { Members(self.items.iter()) }
 
     pub fn parameters(&self) -> impl Iterator<Item = (&'f str, Value<'f>)> + Clone {
         let parameters = self.parameters.iter().take_while(|row| row.tag == Tag::Parameter);
-        parameters.filter_map(|row| Some((text(row.key), Value::from_row(row)?)))
+        parameters.filter_map(|row| Some((row.key(), Value::from_row(row)?)))
     }
 
     /// Returns the last parameter with this key.
@@ -146,8 +137,8 @@ impl<'f> Member<'f> {
     }
 }
 
-/// Writes a field part by part. `text` returns the error of a wrong order of calls, or of a value that no field can hold.
-#[derive(Clone)]
+/// Writes a field part by part. `text` returns the error of a wrong order of calls, or of a value that no field can
+/// hold.
 pub struct Writer<'a> {
     kind: Kind,
     rows: Vec<Row<'a>>,
@@ -155,32 +146,20 @@ pub struct Writer<'a> {
 }
 
 impl<'a> Writer<'a> {
-    pub fn new(kind: Kind) -> Self {
-        Writer { kind, rows: Vec::new(), is_inner: false }
-    }
+    pub fn new(kind: Kind) -> Self { Writer { kind, rows: Vec::new(), is_inner: false } }
 
     /// Begins a member of a dictionary. Its item or inner list follows.
-    pub fn key(self, key: &'a str) -> Self {
-        self.close().push(Row::new(Tag::Key, key))
-    }
+    pub fn key(self, key: &'a str) -> Self { self.close().push_tag(Tag::Key, key) }
 
-    pub fn item(self, value: Value<'a>) -> Self {
-        self.begin(Tag::BeginItem).push(value.to_row(Tag::BareItem, ""))
-    }
+    pub fn item(self, value: Value<'a>) -> Self { self.begin(Tag::BeginItem).push(value.to_row(Tag::BareItem, "")) }
 
-    pub fn begin_inner(self) -> Self {
-        Writer { is_inner: true, ..self.begin(Tag::BeginInner) }
-    }
+    pub fn begin_inner(self) -> Self { Writer { is_inner: true, ..self.begin(Tag::BeginInner) } }
 
     /// Ends the items of an inner list. Its parameters can follow.
-    pub fn end_inner(self) -> Self {
-        Writer { is_inner: false, ..self.close().push(Row::new(Tag::EndInner, "")) }
-    }
+    pub fn end_inner(self) -> Self { Writer { is_inner: false, ..self.close().push_tag(Tag::EndInner, "") } }
 
     /// Appends a parameter to the last item, or to the inner list that ended.
-    pub fn parameter(self, key: &'a str, value: Value<'a>) -> Self {
-        self.push(value.to_row(Tag::Parameter, key))
-    }
+    pub fn parameter(self, key: &'a str, value: Value<'a>) -> Self { self.push(value.to_row(Tag::Parameter, key)) }
 
     /// Returns the canonical text, as `Field::serialize`.
     ///
@@ -199,18 +178,20 @@ impl<'a> Writer<'a> {
         self
     }
 
+    fn push_tag(self, tag: Tag, key: &'a str) -> Self { self.push(Row::new(tag, key, ValueKind::None, b"", 0)) }
+
     fn begin(self, tag: Tag) -> Self {
         match (self.kind, self.is_inner) {
             (Kind::Item, _) => self.close(),
-            (Kind::List, false) => self.close().push(Row::new(Tag::Entry, "")).push(Row::new(tag, "")),
-            _ => self.close().push(Row::new(tag, "")),
+            (Kind::List, false) => self.close().push_tag(Tag::Entry, "").push_tag(tag, ""),
+            _ => self.close().push_tag(tag, ""),
         }
     }
 
     /// Ends the parameters of the last item or inner list.
     fn close(self) -> Self {
         match self.rows.last().map(|row| row.tag) {
-            Some(Tag::BareItem | Tag::Parameter | Tag::EndInner) => self.push(Row::new(Tag::EndParameters, "")),
+            Some(Tag::BareItem | Tag::Parameter | Tag::EndInner) => self.push_tag(Tag::EndParameters, ""),
             _ => self,
         }
     }

@@ -8,8 +8,8 @@
 //! for member in field.members() {
 //!     println!("{:?} {:?} {:?}", member.key, member.value, member.parameter("q"));
 //! }
-//! let text = Writer::new(Kind::List).item(Value::Token("gzip")).parameter("q", Value::Decimal(500)).text(Version::Rfc9651)?;
-//! assert_eq!(text.as_deref(), Some("gzip;q=0.5"));
+//! let writer = Writer::new(Kind::List).item(Value::Token("br")).parameter("q", Value::Decimal(500));
+//! assert_eq!(writer.text(Version::Rfc9651)?.as_deref(), Some("br;q=0.5"));
 //! # Ok::<(), sfv_proved::Error>(())
 //! ```
 #![deny(unsafe_code)] // Each module except `ffi` forbids it.
