@@ -68,10 +68,7 @@ impl<'a> Row<'a> {
 pub fn text(bytes: &[u8]) -> &str { std::str::from_utf8(bytes).expect("the library returns UTF-8") }
 
 /// The rows of a field. Their bytes are in the input, or in the room.
-pub struct Rows<'a> {
-    rows: Vec<Row<'a>>,
-    _room: Vec<u8>,
-}
+pub struct Rows<'a> { rows: Vec<Row<'a>>, _room: Vec<u8> }
 
 impl Rows<'_> {
     /// Returns the rows, which borrow from the room, too.

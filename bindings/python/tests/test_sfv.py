@@ -12,7 +12,7 @@ from pathlib import Path
 import sfv
 from sfv import Date, DisplayString, ErrorKind, ParseError, Token, parse_dictionary, parse_item, parse_list, serialize
 
-TOP = Path(__file__).resolve().parents[2]
+TOP = Path(__file__).resolve().parents[3]
 PARSERS = {"item": parse_item, "list": parse_list, "dict": parse_dictionary}
 LARGEST = 999_999_999_999_999
 UTC = timezone.utc
