@@ -179,7 +179,8 @@ class field {
 
     iterator begin() const { return iterator(rows_.data()); }
     iterator end() const { return iterator(rows_.data() + rows_.size()); }
-
+    // The first row: the SFV_BARE_ITEM of an item.
+    row front() const { return *begin(); }
     // The last member of a dictionary with this key: its SFV_BARE_ITEM or SFV_BEGIN_INNER.
     std::optional<row> member(std::string_view key) const {
         std::optional<row> found;
@@ -228,9 +229,8 @@ inline std::optional<field> parse(type t, std::string_view input, error_code &co
 
 inline field parse(type t, std::string_view input, version v = version::rfc9651) {
     error_code code;
-    std::optional<field> parsed = parse(t, input, code, v);
-    if (!parsed) throw error(code);
-    return std::move(*parsed);
+    if (std::optional<field> parsed = parse(t, input, code, v)) return std::move(*parsed);
+    throw error(code);
 }
 
 // A field borrows from its input, so a temporary string does not compile.

@@ -100,7 +100,7 @@ void test_moves() {
     sfv::field second = std::move(first);
     first = sfv::parse(sfv::type::item, "1");
     std::swap(first, second);
-    expect((*first.begin()).get<std::string_view>() == "\\", "the text of a moved field");
+    expect(first.front().get<std::string_view>() == "\\", "the text of a moved field");
     sfv::writer writer(sfv::type::list);
     writer.item(std::string("short")).parameter(std::string("k"), sfv::token{std::string("t")});
     sfv::writer other = std::move(writer);
@@ -133,7 +133,7 @@ void test_large() {
     sfv::field field = sfv::parse(sfv::type::list, list);
     expect(field.text() == list && rewritten(sfv::type::list, field) == list, "a list of 1 MB");
     std::string item = '"' + std::string(1'000'000, '\\') + '"';
-    expect((*sfv::parse(sfv::type::item, item).begin()).get<std::string_view>()->size() == 500'000, "a string of 1 MB");
+    expect(sfv::parse(sfv::type::item, item).front().get<std::string_view>()->size() == 500'000, "a string of 1 MB");
 }
 
 sfv_status status_of(const sfv::value &value) {

@@ -50,6 +50,18 @@ impl<'a> Value<'a> {
 /// A parsed field. Its texts borrow from the input, or from the field if they are decoded.
 ///
 /// A repeated key is a member or parameter each time. Look-ups find its last value.
+///
+/// ```
+/// use sfv_proved::{parse, Error, ErrorKind, Kind, Value};
+///
+/// let field = parse(Kind::List, b"(a b);x=1, \"c\"")?;
+/// let members: Vec<_> = field.members().collect();
+/// assert_eq!(members[0].items().last().and_then(|item| item.value), Some(Value::Token("b")));
+/// assert_eq!(members[0].parameter("x"), Some(Value::Integer(1)));
+/// assert_eq!(members[1].value, Some(Value::String("c")));
+/// assert_eq!(parse(Kind::List, b"a,").err(), Some(Error::Syntax { kind: ErrorKind::TrailingComma, index: 1 }));
+/// # Ok::<(), Error>(())
+/// ```
 pub struct Field<'a> {
     kind: Kind,
     version: Version,
@@ -139,6 +151,16 @@ impl<'f> Member<'f> {
 
 /// Writes a field part by part. `text` returns the error of a wrong order of calls, or of a value that no field can
 /// hold.
+///
+/// ```
+/// use sfv_proved::{Kind, Value, Version, Writer};
+///
+/// let inner = Writer::new(Kind::Dictionary).key("a").begin_inner().item(Value::Integer(1)).end_inner();
+/// let text = inner.parameter("x", Value::Boolean(true)).key("b").item(Value::String("c")).text(Version::Rfc9651);
+/// assert_eq!(text, Ok(Some("a=(1);x, b=\"c\"".to_owned())));
+/// let writer = Writer::new(Kind::Item).item(Value::Token("no token"));
+/// assert!(writer.text(Version::Rfc9651).is_err());
+/// ```
 pub struct Writer<'a> {
     kind: Kind,
     rows: Vec<Row<'a>>,
