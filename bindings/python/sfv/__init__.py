@@ -20,7 +20,7 @@ from datetime import datetime, timedelta, timezone
 from decimal import ROUND_HALF_EVEN, Context, Decimal, InvalidOperation
 from enum import Enum, IntEnum
 from itertools import takewhile
-from typing import Any, Callable, Dict, Iterator, List, NamedTuple, Pattern, Tuple, Union
+from typing import Any, Callable, Dict, Iterator, List, Pattern, Tuple, Union
 
 __all__ = ["Date", "DisplayString", "ErrorKind", "ParseError", "Token"]
 __all__ += ["parse_dictionary", "parse_item", "parse_list", "serialize"]
@@ -96,14 +96,14 @@ def parse_list(field: bytes, version: int = 9651) -> List[Member]:
 def parse_dictionary(field: bytes, version: int = 9651) -> Dict[str, Member]:
     """Parses a dictionary. A repeated key keeps its first position and takes its last value. Raises `ParseError`."""
     rows = _parse(_Type.DICTIONARY, field, version)
-    return {row.key: _member(rows) for row in rows}
+    return {key: _member(rows) for _, key, _ in rows}
 
 
 def serialize(value: Any, version: int = 9651) -> str:
     """Returns the canonical text of a dictionary (`dict`), a list (`list`) or an item (RFC 9651, section 4.1).
 
-    A value without parameters can be alone, not in a pair. A dictionary or list without members has an empty text: do not
-    send the field. Raises `ValueError` if no field can hold the value, or if the version lacks it.
+    A value without parameters can be alone, not in a pair. Without members, the text is empty: do not send the field.
+    Raises `ValueError` if no field can hold the value, or if the version lacks it.
     """
     if not isinstance(value, (dict, list)):
         return _write(_Type.ITEM, _item_rows(value), version)
@@ -115,24 +115,24 @@ def serialize(value: Any, version: int = 9651) -> str:
     return _write(_Type.LIST if isinstance(value, list) else _Type.DICTIONARY, rows, version)
 
 
-class _Part(NamedTuple):
-    tag: int
-    key: str
-    value: Any
+# The tag, key and value of a row.
+_Part = Tuple[int, str, Any]
 
 
 def _member(rows: Iterator[_Part]) -> Member:
-    if next(rows).tag == _Tag.BEGIN_ITEM:
+    tag, _, _ = next(rows)
+    if tag == _Tag.BEGIN_ITEM:
         return _item(rows)
-    return [_item(rows) for _ in takewhile(lambda row: row.tag == _Tag.BEGIN_ITEM, rows)], _parameters(rows)
+    return [_item(rows) for _ in takewhile(lambda row: row[0] == _Tag.BEGIN_ITEM, rows)], _parameters(rows)
 
 
 def _item(rows: Iterator[_Part]) -> Item:
-    return next(rows).value, _parameters(rows)
+    _, _, value = next(rows)
+    return value, _parameters(rows)
 
 
 def _parameters(rows: Iterator[_Part]) -> Parameters:
-    return {row.key: row.value for row in takewhile(lambda row: row.tag == _Tag.PARAMETER, rows)}
+    return {key: value for _, key, value in takewhile(lambda row: row[0] == _Tag.PARAMETER, rows)}
 
 
 def _date(seconds: int) -> Union[datetime, Date]:
@@ -275,8 +275,8 @@ def _parse(kind: _Type, field: bytes, version: int) -> Iterator[_Part]:
     texts, written = buffer.raw, memoryview(rows)[: answer.rows * _ROW.size]
     for tag, value_kind, key, key_length, data, length, number in _ROW.iter_unpack(written):
         key, data = key - start, data - start
-        name = texts[key : key + key_length].decode("ascii")
-        yield _Part(tag, name, _DECODERS[value_kind](texts[data : data + length], number))
+        name = texts[key : key + key_length].decode("ascii") if key_length else ""
+        yield tag, name, _DECODERS[value_kind](texts[data : data + length], number)
 
 
 def _write(kind: _Type, rows: List[_Row], version: int) -> str:
