@@ -1,7 +1,10 @@
 //! Events as rows, which point to their texts: into the input, or to the decoded text in a borrowed buffer.
 
 ghost use Rattle.std.specs.Prelude.{◌≡◌, ◌≤◌, ◌<◌, ◌^◌, ◌+◌, [], ⊤, pos, Some, None, length, OnOk, IfOk, IfErr};
+ghost use Rattle.std.specs.Prelude.{vec_len, vec_capacity};
 ghost use Rattle.sfv.specs.BareItems.{input_value};
+ghost use Rattle.sfv.specs.Errors.{out_of_memory};
+ghost use Rattle.sfv.specs.Grammar.{Spaces};
 ghost use Rattle.sfv.specs.Parsers.{input_of, version_of, IsParseError};
 ghost use Rattle.sfv_c.specs.Rows.{row_parts, value_numbers};
 ghost use Rattle.sfv_c.specs.Events.{counted, collector_of, room_of_read, IsRowKept, TakesRow, AreRows, copied};
@@ -20,17 +23,32 @@ use sfv::{
 use std::alloc::Global;
 use std::borrow::CowStr;
 
-/// Rows, the free part of the room for decoded texts, and the length of all decoded texts so far.
+/// Makes room for one more row. If there is none, requests memory for at least `expected` more rows.
+#[inline(always)]
+fn make_room(rows: &mut Vec<Row<'_>>, expected: usize) -> Result<(), OutOfMemory>
+    ensures rows { rows.new.items ≡ rows.old.items }
+    ensures room { OnOk result (vec_len rows.new < vec_capacity rows.new) }
+{
+    if rows.len() < rows.capacity() {
+        return Ok(());
+    }
+    rows.reserve(expected.max(1))?;
+    Ok(())
+}
+
+/// Rows, the free part of the room for decoded texts, the length of all decoded texts so far, and the number of rows for
+/// which the first row requests memory.
 #[derive(Drop)]
 struct Collector<'a> {
     rows: Vec<Row<'a>>,
     room: &'a mut [u8],
     used: usize,
+    expected: usize,
 }
 
 impl<'a> Collector<'a> {
-    fn new(rows: Vec<Row<'a>>, room: &'a mut [u8]) -> Collector<'a>
-        ensures collector { result ≡ collector_of rows.entry room.entry }
+    fn new(rows: Vec<Row<'a>>, room: &'a mut [u8], expected: usize) -> Collector<'a>
+        ensures collector { result ≡ collector_of rows.entry room.entry expected }
         ensures small { length room.old < 2 ^ 63 }
     {
         // This gives the proof the largest length of a slice.
@@ -39,6 +57,7 @@ impl<'a> Collector<'a> {
             rows,
             room,
             used: 0,
+            expected,
         }
     }
 
@@ -49,7 +68,8 @@ impl<'a> Collector<'a> {
     {
         // This gives the proof the range of the field.
         let _used = self.used;
-        self.rows.push(row)?;
+        make_room(&mut self.rows, self.expected)?;
+        self.rows.push_reserved(row);
         Ok(())
     }
 
@@ -232,11 +252,11 @@ impl<'a> Visitor<'a> for Collector<'a> {
     }
 }
 
-/// The largest number of rows for which memory is allocated at first.
+/// The largest number of rows for which the first row requests memory.
 // So many rows are a small block, which an allocator returns at once. A larger one takes more instructions.
 const FIRST_ROWS: usize = 20;
 
-/// Parses a field of this type, and collects its rows. Allocates memory for `expected` rows at first.
+/// Parses a field of this type, and collects its rows. The first row requests memory for `expected` rows.
 fn collect_rows<'a>(
     alloc: Global,
     field: FieldKind,
@@ -248,11 +268,10 @@ fn collect_rows<'a>(
         (length room.old) c.rows.items c.used) }
     ensures rejected { IfErr result (IsParseError (version_of parser.entry) field
         (input_of parser.entry)) }
+    ensures memory { IfErr result (λ e. e ≡ out_of_memory → ¬ Spaces (input_of parser.entry)) }
 {
-    let Ok(rows) = Vec::with_capacity(alloc, expected) else {
-        return Err(Error::from(OutOfMemory));
-    };
-    match read(alloc, field, parser, Collector::new(rows, room)) {
+    let collector = Collector::new(Vec::new(alloc), room, expected);
+    match read(alloc, field, parser, collector) {
         Ok(collector) => Ok(collector),
         Err(ParseError::Syntax(error)) => Err(error),
         Err(ParseError::Visitor(error)) => Err(Error::from(error)),
