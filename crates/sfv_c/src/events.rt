@@ -23,7 +23,18 @@ use sfv::{
 use std::alloc::Global;
 use std::borrow::CowStr;
 
-/// Makes room for one more row. If there is none, requests memory for at least `expected` more rows.
+/// Requests memory for at least `expected` more rows, and for one.
+#[cold]
+#[inline(never)]
+fn grow(rows: &mut Vec<Row<'_>>, expected: usize) -> Result<(), OutOfMemory>
+    ensures rows { rows.new.items ≡ rows.old.items }
+    ensures room { OnOk result (vec_len rows.new < vec_capacity rows.new) }
+{
+    rows.reserve(expected.max(1))?;
+    Ok(())
+}
+
+/// Makes room for one more row.
 #[inline(always)]
 fn make_room(rows: &mut Vec<Row<'_>>, expected: usize) -> Result<(), OutOfMemory>
     ensures rows { rows.new.items ≡ rows.old.items }
@@ -32,8 +43,7 @@ fn make_room(rows: &mut Vec<Row<'_>>, expected: usize) -> Result<(), OutOfMemory
     if rows.len() < rows.capacity() {
         return Ok(());
     }
-    rows.reserve(expected.max(1))?;
-    Ok(())
+    grow(rows, expected)
 }
 
 /// Rows, the free part of the room for decoded texts, the length of all decoded texts so far, and the number of rows for
