@@ -59,8 +59,8 @@ TakesRow before e after = IsRowKept before (numbers_of (event_of e)) (room_of e)
 
 -- There is one row for each of these events, which were read from the input (`AreReadFrom`). The rows take `used` bytes
 -- of room, at most the largest 64-bit number. If these bytes fit, the rows are the rows of the events.
-pub record AreCollected (version : Version) (es : List TreeEvent) (input : List ℕ) (room : ℕ) (rows : List Row) (used : ℕ)
-    : Type 0 where
+pub record AreCollected (version : Version) (es : List TreeEvent) (input : List ℕ) (room : ℕ) (rows : List Row)
+    (used : ℕ) : Type 0 where
   pub read : List Event
   pub events_of : map event_of read ≡ es
   pub read_from : AreReadFrom version read input
@@ -84,7 +84,7 @@ copied rows used old room =
 abbrev pub left_alone : List Row → List Row × Answer
 left_alone old = (old, bad_argument)
 
--- the error of `parse`; out of memory only if the input is not *SP, spaces alone
+-- the error of `parse`; out of memory only if the input is not *SP (zero or more spaces)
 abbrev pub IsRowsError : Version → FieldKind → List ℕ → Error → Type 0
 IsRowsError version kind input e = IsParseError version kind input e × (e ≡ out_of_memory → ¬ Spaces input)
 

@@ -50,8 +50,8 @@ fn make_room(rows: &mut Vec<Row<'_>>, expected: usize) -> Result<(), OutOfMemory
     grow(rows, expected)
 }
 
-/// Rows, the free part of the room for decoded texts, the length of all decoded texts so far, and the number of rows for
-/// which the first row requests memory.
+/// Rows, the free part of the room for decoded texts, the length of all decoded texts so far, and the number of rows
+/// for which the first row requests memory.
 #[derive(Drop)]
 struct Collector<'a> {
     rows: Vec<Row<'a>>,
@@ -109,7 +109,8 @@ impl<'a> Collector<'a> {
     /// Adds the row of an event without a value.
     #[inline(always)]
     fn keep_plain(&mut self, tag: u32, key: &'a [u8]) -> Result<(), OutOfMemory>
-        ensures { OnOk result (IsRowKept self.old (record { tag = tag; key = key.now; value = value_numbers None }) 0 self.new) }
+        ensures { OnOk result
+            (IsRowKept self.old (record { tag = tag; key = key.now; value = value_numbers None }) 0 self.new) }
     {
         self.keep(Row {
             tag,
@@ -120,75 +121,41 @@ impl<'a> Collector<'a> {
         })
     }
 
-    /// Adds the row of an event with a number.
+    /// Returns the kind, the bytes and the number of a value. Copies a decoded text to the room.
     #[inline(always)]
-    fn keep_number(
-        &mut self,
-        tag: u32,
-        key: &'a [u8],
-        kind: u32,
-        number: i64,
-    ) -> Result<(), OutOfMemory>
-        ensures { OnOk result (IsRowKept self.old (record {
-          tag = tag;
-          key = key.now;
-          value = record { kind = kind; number = number; bytes = [] };
-        }) 0 self.new) }
+    fn parts_of(&mut self, item: BareItemFromInput<'a>) -> (u32, &'a [u8], i64)
+        ensures rows { self.new.rows.items ≡ self.old.rows.items }
+        ensures used { self.new.used ≡ counted (self.old.used + room_of_read item.entry) }
+        ensures parts { room_of_read item.entry ≤ length self.old.room.now
+            → record { kind = result.0; number = result.2; bytes = result.1.now }
+            ≡ value_numbers (Some (input_value item.entry)) }
+        ensures left { room_of_read item.entry ≤ length self.old.room.now
+            → length self.new.room.now + room_of_read item.entry ≡ length self.old.room.now }
     {
-        self.keep(Row {
-            tag,
-            kind,
-            key,
-            bytes: b"",
-            number,
-        })
-    }
-
-    /// Adds the row of an event with a text, which the row points to.
-    #[inline(always)]
-    fn keep_text(
-        &mut self,
-        tag: u32,
-        key: &'a [u8],
-        kind: u32,
-        bytes: &'a [u8],
-    ) -> Result<(), OutOfMemory>
-        ensures { OnOk result (IsRowKept self.old (record {
-          tag = tag;
-          key = key.now;
-          value = record { kind = kind; number = pos 0; bytes = bytes.now };
-        }) 0 self.new) }
-    {
-        self.keep(Row {
-            tag,
-            kind,
-            key,
-            bytes,
-            number: 0,
-        })
-    }
-
-    /// Adds the row of an event with a decoded text, which it copies to the room.
-    #[inline(always)]
-    fn keep_decoded(
-        &mut self,
-        tag: u32,
-        key: &'a [u8],
-        kind: u32,
-        text: &[u8],
-    ) -> Result<(), OutOfMemory>
-        ensures { OnOk result (IsRowKept self.old (record {
-          tag = tag;
-          key = key.now;
-          value = record { kind = kind; number = pos 0; bytes = text.now };
-        }) (length text.now) self.new) }
-    {
-        let bytes = self.hold(text);
-        self.keep_text(tag, key, kind, bytes)
+        // This gives the proof the range of the field.
+        let _used = self.used;
+        match item {
+            GenericBareItem::Integer(value) => (1, b"", value.to_i64()),
+            GenericBareItem::Decimal(value) => (2, b"", value.as_integer_scaled_1000().to_i64()),
+            GenericBareItem::String(StringFromInput::Borrowed(text)) => {
+                (3, text.as_str().as_bytes(), 0)
+            }
+            GenericBareItem::String(StringFromInput::Owned(text)) => {
+                (3, self.hold(text.as_str().as_bytes()), 0)
+            }
+            GenericBareItem::Token(text) => (4, text.as_str().as_bytes(), 0),
+            GenericBareItem::ByteSequence(bytes) => (5, self.hold(bytes.as_slice()), 0),
+            GenericBareItem::Boolean(value) => (6, b"", i64::from(value)),
+            GenericBareItem::Date(value) => (7, b"", value.unix_seconds().to_i64()),
+            GenericBareItem::DisplayString(CowStr::Borrowed(text)) => (8, text.as_bytes(), 0),
+            GenericBareItem::DisplayString(CowStr::Owned(text)) => {
+                (8, self.hold(text.as_str().as_bytes()), 0)
+            }
+        }
     }
 
     /// Adds the row of an event with this value.
-    // Inlined, as is `event`: as calls they take 23 to 45 more instructions for each row.
+    // Inlined, as is `event`: as calls they take 23 to 47 more instructions for each row.
     #[inline(always)]
     fn keep_value(
         &mut self,
@@ -202,32 +169,14 @@ impl<'a> Collector<'a> {
           value = value_numbers (Some (input_value item.entry));
         }) (room_of_read item.entry) self.new) }
     {
-        match item {
-            GenericBareItem::Integer(value) => self.keep_number(tag, key, 1, value.to_i64()),
-            GenericBareItem::Decimal(value) => {
-                self.keep_number(tag, key, 2, value.as_integer_scaled_1000().to_i64())
-            }
-            GenericBareItem::String(StringFromInput::Borrowed(text)) => {
-                self.keep_text(tag, key, 3, text.as_str().as_bytes())
-            }
-            GenericBareItem::String(StringFromInput::Owned(text)) => {
-                self.keep_decoded(tag, key, 3, text.as_str().as_bytes())
-            }
-            GenericBareItem::Token(text) => self.keep_text(tag, key, 4, text.as_str().as_bytes()),
-            GenericBareItem::ByteSequence(bytes) => {
-                self.keep_decoded(tag, key, 5, bytes.as_slice())
-            }
-            GenericBareItem::Boolean(value) => self.keep_number(tag, key, 6, i64::from(value)),
-            GenericBareItem::Date(value) => {
-                self.keep_number(tag, key, 7, value.unix_seconds().to_i64())
-            }
-            GenericBareItem::DisplayString(CowStr::Borrowed(text)) => {
-                self.keep_text(tag, key, 8, text.as_bytes())
-            }
-            GenericBareItem::DisplayString(CowStr::Owned(text)) => {
-                self.keep_decoded(tag, key, 8, text.as_str().as_bytes())
-            }
-        }
+        let (kind, bytes, number) = self.parts_of(item);
+        self.keep(Row {
+            tag,
+            kind,
+            key,
+            bytes,
+            number,
+        })
     }
 }
 
