@@ -90,6 +90,8 @@ static void try_line(unsigned long made[CALLS]) {
         if (call == CHECK && !memchr(l->input, '\\', l->length) && !memchr(l->input, '%', l->length)
             && !memchr(l->input, ':', l->length))
             expect(count == 0, "the check allocates");
+        if (call == PARSE && strspn((const char *)l->input, " ") >= l->length)
+            expect(count == 0, "spaces allocate");
         made[call] += count;
         for (unsigned long number = 1; number <= count; number++) check_failure(call, make(call, number), whole);
         expect(is_guarded(current->input, current->length), "the input was written");

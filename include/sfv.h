@@ -214,12 +214,13 @@ SFV_INLINE sfv_answer sfv_check(sfv_type type, sfv_version version, const void *
 /* Parses a field into rows.
  *
  * Rows point into `input`. Byte sequences and texts with an escape are decoded into `room`, and their rows point
- * there. So rows are valid as long as both. A repeated key has a row each time; its last value counts.
+ * there. So rows are valid as long as both. A repeated key has a row each time; the last counts.
  *
  * Returns SFV_OK with the number of rows and the used length of `room`. Returns SFV_TOO_SMALL with the needed sizes;
  * SFV_ROWS_FOR(input_length) rows and `input_length` bytes suffice. Otherwise returns SFV_REJECTED, SFV_OUT_OF_MEMORY
- * or SFV_BAD_ARGUMENT. Unless the status is SFV_OK, `rows` is unchanged, and `room` can contain anything. Allocates up
- * to 960 bytes, or 144 per row, and 3 bytes per byte of the longest decoded value. */
+ * or SFV_BAD_ARGUMENT. Unless the status is SFV_OK, `rows` is unchanged, and `room` can contain anything. Allocates
+ * nothing for spaces alone, otherwise up to 960 bytes, or 144 per row, and 3 bytes per byte of the longest decoded
+ * value. */
 SFV_INLINE sfv_answer sfv_parse(sfv_type type, sfv_version version, const void *input, size_t input_length, sfv_row *rows,
                                 size_t rows_length, void *room, size_t room_length) {
     static uint8_t no_room;

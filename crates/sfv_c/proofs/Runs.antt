@@ -63,11 +63,12 @@ run room (e ∷ es) s last r u h =
     )
 
 pub rows_read : (version : Version) (es : List TreeEvent) (input : List ℕ) (read : List Event) (rows : Vec Row Global)
-    (room : MutBor (List ℕ)) (last after : Collector) → map event_of read ≡ es → AreReadFrom version read input
-    → rows.items ≡ [] → length room.now < most → FoldsTo Takes (collector_of rows room) read last → after ≡ last
+    (room : MutBor (List ℕ)) (expected : ℕ) (last after : Collector) → map event_of read ≡ es
+    → AreReadFrom version read input → rows.items ≡ [] → length room.now < most
+    → FoldsTo Takes (collector_of rows room expected) read last → after ≡ last
     → AreCollected version es input (length room.now) after.rows.items after.used
-rows_read version es input read rows room last after e f n r h a =
-    let s = collector_of rows room in
+rows_read version es input read rows room expected last after e f n r h a =
+    let s = collector_of rows room expected in
     let k = run (length room.now) read s last r (omega arith) h in
     let is : last.rows.items ≡ k.1.0 = k.1.2 ∙ ap (λ (x : List Row). x ++ k.1.0) n in
     subst (λ (x : Collector). AreCollected version es input (length room.now) x.rows.items x.used) (sym a) (record {

@@ -8,7 +8,8 @@ use Rattle.std.specs.declared.vec.Vec.{Vec}
 use Rattle.std.specs.Cow.{cow_str_bytes}
 use Rattle.sfv.specs.Types.{FieldKind, Version, Error}
 use Rattle.sfv.specs.Types.bare_items as bare
-use Rattle.sfv.specs.Grammar.{HasField}
+use Rattle.sfv.specs.Errors.{out_of_memory}
+use Rattle.sfv.specs.Grammar.{Spaces, HasField}
 use Rattle.sfv.specs.Events.{TreeEvent, events}
 use Rattle.sfv.specs.EventValues.{event_of}
 use Rattle.sfv.specs.BareItems.{read_text, is_borrowed_string, is_borrowed_text}
@@ -40,9 +41,9 @@ room_of (event.BareItem read) = room_of_read read
 room_of (event.Parameter key read) = room_of_read read
 room_of e = 0
 
--- the collector of these rows and this room, of which nothing is used
-abbrev pub collector_of : Vec Row Global → MutBor (List ℕ) → Collector
-collector_of rows room = record { rows = rows; room = room; used = 0 }
+-- the collector of these rows and this room, of which nothing is used, where so many rows are expected
+abbrev pub collector_of : Vec Row Global → MutBor (List ℕ) → ℕ → Collector
+collector_of rows room expected = record { rows = rows; room = room; used = 0; expected = expected }
 
 -- The collector after one more row, which takes `n` bytes of room. If they fit, the row holds these parts.
 pub record IsRowKept (before : Collector) (p : EventNumbers) (n : ℕ) (after : Collector) : Type 0 where
@@ -58,8 +59,8 @@ TakesRow before e after = IsRowKept before (numbers_of (event_of e)) (room_of e)
 
 -- There is one row for each of these events, which were read from the input (`AreReadFrom`). The rows take `used` bytes
 -- of room, at most the largest 64-bit number. If these bytes fit, the rows are the rows of the events.
-pub record AreCollected (version : Version) (es : List TreeEvent) (input : List ℕ) (room : ℕ) (rows : List Row) (used : ℕ)
-    : Type 0 where
+pub record AreCollected (version : Version) (es : List TreeEvent) (input : List ℕ) (room : ℕ) (rows : List Row)
+    (used : ℕ) : Type 0 where
   pub read : List Event
   pub events_of : map event_of read ≡ es
   pub read_from : AreReadFrom version read input
@@ -83,10 +84,14 @@ copied rows used old room =
 abbrev pub left_alone : List Row → List Row × Answer
 left_alone old = (old, bad_argument)
 
+-- the error of `parse`; out of memory only if the input is not *SP (zero or more spaces)
+abbrev pub IsRowsError : Version → FieldKind → List ℕ → Error → Type 0
+IsRowsError version kind input e = IsParseError version kind input e × (e ≡ out_of_memory → ¬ Spaces input)
+
 -- the outcome of parsing: the rows and the bytes of room that they take, or the error
 abbrev pub IsReading : Version → FieldKind → List ℕ → ℕ → Result (List Row × ℕ) Error → Type 0
 IsReading version kind input room (Ok m) = AreRows version kind input room m.0 m.1
-IsReading version kind input room (Err e) = IsParseError version kind input e
+IsReading version kind input room (Err e) = IsRowsError version kind input e
 
 -- the buffer and the result after this outcome; an error leaves the buffer unchanged
 abbrev pub put_of : List Row → ℕ → Result (List Row × ℕ) Error → List Row × Answer

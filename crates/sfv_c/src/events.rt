@@ -1,7 +1,10 @@
 //! Events as rows, which point to their texts: into the input, or to the decoded text in a borrowed buffer.
 
 ghost use Rattle.std.specs.Prelude.{◌≡◌, ◌≤◌, ◌<◌, ◌^◌, ◌+◌, [], ⊤, pos, Some, None, length, OnOk, IfOk, IfErr};
+ghost use Rattle.std.specs.Prelude.{vec_len, vec_capacity};
 ghost use Rattle.sfv.specs.BareItems.{input_value};
+ghost use Rattle.sfv.specs.Errors.{out_of_memory};
+ghost use Rattle.sfv.specs.Grammar.{Spaces};
 ghost use Rattle.sfv.specs.Parsers.{input_of, version_of, IsParseError};
 ghost use Rattle.sfv_c.specs.Rows.{row_parts, value_numbers};
 ghost use Rattle.sfv_c.specs.Events.{counted, collector_of, room_of_read, IsRowKept, TakesRow, AreRows, copied};
@@ -20,17 +23,46 @@ use sfv::{
 use std::alloc::Global;
 use std::borrow::CowStr;
 
-/// Rows, the free part of the room for decoded texts, and the length of all decoded texts so far.
+/// Requests memory for one more row. If it is the first one, requests memory for `expected` rows.
+#[cold]
+#[inline(never)]
+fn grow(rows: &mut Vec<Row<'_>>, expected: usize) -> Result<(), OutOfMemory>
+    ensures rows { rows.new.items ≡ rows.old.items }
+    ensures room { OnOk result (vec_len rows.new < vec_capacity rows.new) }
+{
+    if rows.is_empty() {
+        rows.reserve_exact(expected.max(1))?;
+        return Ok(());
+    }
+    rows.reserve(1)?;
+    Ok(())
+}
+
+/// Makes room for one more row.
+#[inline(always)]
+fn make_room(rows: &mut Vec<Row<'_>>, expected: usize) -> Result<(), OutOfMemory>
+    ensures rows { rows.new.items ≡ rows.old.items }
+    ensures room { OnOk result (vec_len rows.new < vec_capacity rows.new) }
+{
+    if rows.len() < rows.capacity() {
+        return Ok(());
+    }
+    grow(rows, expected)
+}
+
+/// Rows, the free part of the room for decoded texts, the length of all decoded texts so far, and the number of rows
+/// for which the first row requests memory.
 #[derive(Drop)]
 struct Collector<'a> {
     rows: Vec<Row<'a>>,
     room: &'a mut [u8],
     used: usize,
+    expected: usize,
 }
 
 impl<'a> Collector<'a> {
-    fn new(rows: Vec<Row<'a>>, room: &'a mut [u8]) -> Collector<'a>
-        ensures collector { result ≡ collector_of rows.entry room.entry }
+    fn new(rows: Vec<Row<'a>>, room: &'a mut [u8], expected: usize) -> Collector<'a>
+        ensures collector { result ≡ collector_of rows.entry room.entry expected }
         ensures small { length room.old < 2 ^ 63 }
     {
         // This gives the proof the largest length of a slice.
@@ -39,6 +71,7 @@ impl<'a> Collector<'a> {
             rows,
             room,
             used: 0,
+            expected,
         }
     }
 
@@ -49,7 +82,8 @@ impl<'a> Collector<'a> {
     {
         // This gives the proof the range of the field.
         let _used = self.used;
-        self.rows.push(row)?;
+        make_room(&mut self.rows, self.expected)?;
+        self.rows.push_reserved(row);
         Ok(())
     }
 
@@ -75,7 +109,8 @@ impl<'a> Collector<'a> {
     /// Adds the row of an event without a value.
     #[inline(always)]
     fn keep_plain(&mut self, tag: u32, key: &'a [u8]) -> Result<(), OutOfMemory>
-        ensures { OnOk result (IsRowKept self.old (record { tag = tag; key = key.now; value = value_numbers None }) 0 self.new) }
+        ensures { OnOk result
+            (IsRowKept self.old (record { tag = tag; key = key.now; value = value_numbers None }) 0 self.new) }
     {
         self.keep(Row {
             tag,
@@ -86,74 +121,42 @@ impl<'a> Collector<'a> {
         })
     }
 
-    /// Adds the row of an event with a number.
+    /// Returns the kind, the bytes and the number of a value. Copies a decoded text to the room.
     #[inline(always)]
-    fn keep_number(
-        &mut self,
-        tag: u32,
-        key: &'a [u8],
-        kind: u32,
-        number: i64,
-    ) -> Result<(), OutOfMemory>
-        ensures { OnOk result (IsRowKept self.old (record {
-          tag = tag;
-          key = key.now;
-          value = record { kind = kind; number = number; bytes = [] };
-        }) 0 self.new) }
+    fn parts_of(&mut self, item: BareItemFromInput<'a>) -> (u32, &'a [u8], i64)
+        ensures rows { self.new.rows.items ≡ self.old.rows.items }
+        ensures used { self.new.used ≡ counted (self.old.used + room_of_read item.entry) }
+        ensures parts { room_of_read item.entry ≤ length self.old.room.now
+            → record { kind = result.0; number = result.2; bytes = result.1.now }
+            ≡ value_numbers (Some (input_value item.entry)) }
+        ensures left { room_of_read item.entry ≤ length self.old.room.now
+            → length self.new.room.now + room_of_read item.entry ≡ length self.old.room.now }
     {
-        self.keep(Row {
-            tag,
-            kind,
-            key,
-            bytes: b"",
-            number,
-        })
-    }
-
-    /// Adds the row of an event with a text, which the row points to.
-    #[inline(always)]
-    fn keep_text(
-        &mut self,
-        tag: u32,
-        key: &'a [u8],
-        kind: u32,
-        bytes: &'a [u8],
-    ) -> Result<(), OutOfMemory>
-        ensures { OnOk result (IsRowKept self.old (record {
-          tag = tag;
-          key = key.now;
-          value = record { kind = kind; number = pos 0; bytes = bytes.now };
-        }) 0 self.new) }
-    {
-        self.keep(Row {
-            tag,
-            kind,
-            key,
-            bytes,
-            number: 0,
-        })
-    }
-
-    /// Adds the row of an event with a decoded text, which it copies to the room.
-    #[inline(always)]
-    fn keep_decoded(
-        &mut self,
-        tag: u32,
-        key: &'a [u8],
-        kind: u32,
-        text: &[u8],
-    ) -> Result<(), OutOfMemory>
-        ensures { OnOk result (IsRowKept self.old (record {
-          tag = tag;
-          key = key.now;
-          value = record { kind = kind; number = pos 0; bytes = text.now };
-        }) (length text.now) self.new) }
-    {
-        let bytes = self.hold(text);
-        self.keep_text(tag, key, kind, bytes)
+        // This gives the proof the range of the field.
+        let _used = self.used;
+        match item {
+            GenericBareItem::Integer(value) => (1, b"", value.to_i64()),
+            GenericBareItem::Decimal(value) => (2, b"", value.as_integer_scaled_1000().to_i64()),
+            GenericBareItem::String(StringFromInput::Borrowed(text)) => {
+                (3, text.as_str().as_bytes(), 0)
+            }
+            GenericBareItem::String(StringFromInput::Owned(text)) => {
+                (3, self.hold(text.as_str().as_bytes()), 0)
+            }
+            GenericBareItem::Token(text) => (4, text.as_str().as_bytes(), 0),
+            GenericBareItem::ByteSequence(bytes) => (5, self.hold(bytes.as_slice()), 0),
+            GenericBareItem::Boolean(value) => (6, b"", i64::from(value)),
+            GenericBareItem::Date(value) => (7, b"", value.unix_seconds().to_i64()),
+            GenericBareItem::DisplayString(CowStr::Borrowed(text)) => (8, text.as_bytes(), 0),
+            GenericBareItem::DisplayString(CowStr::Owned(text)) => {
+                (8, self.hold(text.as_str().as_bytes()), 0)
+            }
+        }
     }
 
     /// Adds the row of an event with this value.
+    // Inlined, as is `event`: as calls they take 23 to 47 more instructions for each row.
+    #[inline(always)]
     fn keep_value(
         &mut self,
         tag: u32,
@@ -166,32 +169,14 @@ impl<'a> Collector<'a> {
           value = value_numbers (Some (input_value item.entry));
         }) (room_of_read item.entry) self.new) }
     {
-        match item {
-            GenericBareItem::Integer(value) => self.keep_number(tag, key, 1, value.to_i64()),
-            GenericBareItem::Decimal(value) => {
-                self.keep_number(tag, key, 2, value.as_integer_scaled_1000().to_i64())
-            }
-            GenericBareItem::String(StringFromInput::Borrowed(text)) => {
-                self.keep_text(tag, key, 3, text.as_str().as_bytes())
-            }
-            GenericBareItem::String(StringFromInput::Owned(text)) => {
-                self.keep_decoded(tag, key, 3, text.as_str().as_bytes())
-            }
-            GenericBareItem::Token(text) => self.keep_text(tag, key, 4, text.as_str().as_bytes()),
-            GenericBareItem::ByteSequence(bytes) => {
-                self.keep_decoded(tag, key, 5, bytes.as_slice())
-            }
-            GenericBareItem::Boolean(value) => self.keep_number(tag, key, 6, i64::from(value)),
-            GenericBareItem::Date(value) => {
-                self.keep_number(tag, key, 7, value.unix_seconds().to_i64())
-            }
-            GenericBareItem::DisplayString(CowStr::Borrowed(text)) => {
-                self.keep_text(tag, key, 8, text.as_bytes())
-            }
-            GenericBareItem::DisplayString(CowStr::Owned(text)) => {
-                self.keep_decoded(tag, key, 8, text.as_str().as_bytes())
-            }
-        }
+        let (kind, bytes, number) = self.parts_of(item);
+        self.keep(Row {
+            tag,
+            kind,
+            key,
+            bytes,
+            number,
+        })
     }
 }
 
@@ -212,6 +197,7 @@ impl<'a> Visitor<'a> for Collector<'a> {
 
     ghost is_memory = { λ _. ⊤ };
 
+    #[inline(always)]
     fn event(&mut self, event: Event<'a>) -> Result<(), OutOfMemory> {
         match event {
             Event::Entry => self.keep_plain(ENTRY, b""),
@@ -232,11 +218,11 @@ impl<'a> Visitor<'a> for Collector<'a> {
     }
 }
 
-/// The largest number of rows for which memory is allocated at first.
+/// The largest number of rows for which the first row requests memory.
 // So many rows are a small block, which an allocator returns at once. A larger one takes more instructions.
 const FIRST_ROWS: usize = 20;
 
-/// Parses a field of this type, and collects its rows. Allocates memory for `expected` rows at first.
+/// Parses a field of this type, and collects its rows. The first row requests memory for `expected` rows.
 fn collect_rows<'a>(
     alloc: Global,
     field: FieldKind,
@@ -248,11 +234,10 @@ fn collect_rows<'a>(
         (length room.old) c.rows.items c.used) }
     ensures rejected { IfErr result (IsParseError (version_of parser.entry) field
         (input_of parser.entry)) }
+    ensures memory { IfErr result (λ e. e ≡ out_of_memory → ¬ Spaces (input_of parser.entry)) }
 {
-    let Ok(rows) = Vec::with_capacity(alloc, expected) else {
-        return Err(Error::from(OutOfMemory));
-    };
-    match read(alloc, field, parser, Collector::new(rows, room)) {
+    let collector = Collector::new(Vec::new(alloc), room, expected);
+    match read(alloc, field, parser, collector) {
         Ok(collector) => Ok(collector),
         Err(ParseError::Syntax(error)) => Err(error),
         Err(ParseError::Visitor(error)) => Err(Error::from(error)),

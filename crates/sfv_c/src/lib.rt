@@ -102,9 +102,10 @@ pub extern "C" fn sfv_c_check(alloc: Global, field: u32, version: u32, input: &[
 ///
 /// # Errors
 ///
-/// Returns status 3 with kind and index, as for `Parser::parse`, or status 4 if memory runs out. Returns status 2, with
-/// the number of events and the length of `room` that they need, if a buffer is too small. Returns status 5 for a
-/// number that names no field type or version. `rows` is then unchanged, and `room` can contain anything.
+/// Returns status 3 with kind and index, as for `Parser::parse`. Returns status 4 if memory runs out. This happens only
+/// if the input contains a byte other than a space. Returns status 2, with the number of events and the length of `room`
+/// that they need, if a buffer is too small. Returns status 5 for a number that names no field type or version. `rows`
+/// is then unchanged, and `room` can contain anything.
 #[unsafe(no_mangle)]
 pub extern "C" fn sfv_c_spans<'a>(
     alloc: Global,
@@ -180,3 +181,6 @@ pub extern "C" fn sfv_c_message(kind: u32, out: &mut [u8]) -> Answer
 {
     message(kind, out)
 }
+
+#[cfg(test)]
+mod tests;

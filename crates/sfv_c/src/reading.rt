@@ -3,6 +3,8 @@
 ghost use Rattle.std.specs.Prelude.{◌≡◌, IfOk, IfErr};
 ghost use Rattle.sfv.specs.Memory.{NeedsMark};
 ghost use Rattle.sfv.specs.Parsers.{input_of, IsAnswerBy, ReceivesAsReadBy, IsSyntaxErrorBy};
+ghost use Rattle.sfv.specs.Parsers.{IsVisitorErrorBy, ReceivesFirstBy};
+ghost use Rattle.sfv.specs.Types.{item_field};
 ghost use Rattle.sfv.specs.Types.parse_errors;
 
 use sfv::visitor::Visitor;
@@ -21,6 +23,8 @@ pub(crate) fn read<'de, V: Visitor<'de>>(
     ensures visited { IfOk result (IsAnswerBy V.Visitor parser.entry field visitor) }
     ensures as_read { IfOk result (ReceivesAsReadBy V.Visitor parser.entry field visitor) }
     ensures syntax { IfErr result (IsSyntaxErrorBy V.Visitor parser.entry field visitor) }
+    ensures visitor { IfErr result (IsVisitorErrorBy V.Visitor parser.entry field visitor) }
+    ensures first { field ≡ item_field → IfErr result (ReceivesFirstBy V.Visitor parser.entry visitor) }
     ensures memory { IfErr result (NeedsMark (input_of parser.entry)) }
 {
     match field {

@@ -86,6 +86,8 @@ fn string_in(bytes: &[u8]) -> Option<StringRef<'_>>
 }
 
 /// The bare item of the row.
+// Inlined, as are `value_in` and `parameter_in`, since a call would copy its result.
+#[inline(always)]
 fn bare_item_in<'a>(row: &Row<'a>) -> Option<RefBareItem<'a>>
     ensures { GivesItem (row_parts row.now).value result }
 {
@@ -127,6 +129,7 @@ pub(crate) fn keyed_entry_in<'a>(row: &Row<'a>) -> Option<KeyRef<'a>>
 }
 
 /// The value of the item of the row.
+#[inline(always)]
 pub(crate) fn value_in<'a>(row: &Row<'a>) -> Option<RefBareItem<'a>>
     ensures { GivesValue (IsRowOf row.now) result }
 {
@@ -137,6 +140,7 @@ pub(crate) fn value_in<'a>(row: &Row<'a>) -> Option<RefBareItem<'a>>
 }
 
 /// The parameter of the row.
+#[inline(always)]
 pub(crate) fn parameter_in<'a>(row: &Row<'a>) -> Option<ParamCall<'a>>
     ensures { GivesParameter (IsRowOf row.now) result }
 {

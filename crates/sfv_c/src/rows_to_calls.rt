@@ -124,6 +124,7 @@ fn items<'a>(
 }
 
 /// Reads an inner list from the index after the row that begins it, and returns the index after the list.
+#[inline(never)]
 fn inner_list<'a>(
     alloc: Global,
     rows: &[Row<'a>],
@@ -145,6 +146,8 @@ fn inner_list<'a>(
 }
 
 /// Reads a member from this index on, and returns the index after it.
+// Inlined, as is `item`.
+#[inline(always)]
 fn member<'a>(
     alloc: Global,
     rows: &[Row<'a>],

@@ -12,6 +12,6 @@ returns-in-Ok c = record {
 pub returns-in-Err : goal.returns-in-Err
 returns-in-Err c = record {
   outcome = Err c.in-Err.error;
-  reading = c.in-Err.ensures.rejected;
+  reading = (c.in-Err.ensures.rejected, c.in-Err.ensures.memory);
   put = ap (λ (a : Answer). (c.args.rows.now, a)) c.of_error.ensures;
 }

@@ -1,0 +1,9 @@
+//! Tests of the exported calls.
+
+mod canonical;
+mod common;
+mod damaged;
+mod long;
+mod numbers;
+mod parsing;
+mod writing;
