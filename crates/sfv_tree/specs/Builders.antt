@@ -15,8 +15,7 @@ use Rattle.sfv_tree.specs.declared.visitor.item_builder.ItemBuilder.{ItemBuilder
 use Rattle.sfv_tree.specs.declared.visitor.list_builder.ListBuilder.{ListBuilder}
 use Rattle.sfv_tree.specs.declared.visitor.member.Member.{Member}
 use Rattle.sfv_tree.specs.declared.visitor.member.Member.TheVariants as members
-use Rattle.sfv_tree.specs.declared.visitor.member.Step.{Step}
-use Rattle.sfv_tree.specs.declared.visitor.member.Step.TheVariants as steps
+use Rattle.sfv_tree.specs.declared.visitor.member.Place.TheVariants as places
 use Rattle.sfv_tree.specs.declared.visitor.dictionary_builder.DictionaryBuilder.{DictionaryBuilder}
 
 -- the item with one more parameter: an existing key keeps its place and gets the new value, and a new key goes last
@@ -87,33 +86,31 @@ abbrev pub member_state : Member → MemberState
 member_state members.Begun = begun
 member_state members.ItemHead = item_head
 member_state (members.ItemParams i) = item_parameters (item_tree i)
-member_state (members.Items l) = inner_items (inner_list_tree l)
-member_state (members.InnerHead l) = inner_head (inner_list_tree l)
-member_state (members.InnerParams l i) = inner_parameters (inner_list_tree l) (item_tree i)
-member_state (members.ListParams l) = list_parameters (inner_list_tree l)
+member_state (members.InnerList l places.Items) = inner_items (inner_list_tree l)
+member_state (members.InnerList l places.ItemHead) = inner_head (inner_list_tree l)
+member_state (members.InnerList l (places.ItemParams i)) = inner_parameters (inner_list_tree l) (item_tree i)
+member_state (members.InnerList l places.Params) = list_parameters (inner_list_tree l)
 
--- the state after an event, complete or not
-abbrev pub step_state : Step → MemberState
-step_state (steps.Within p) = member_state p
-step_state (steps.Ended m) = ended (member_tree m)
+-- the state after an event, with the member if it ends there
+abbrev pub step_state : Member → Option ListEntry → MemberState
+step_state p None = member_state p
+step_state p (Some m) = ended (member_tree m)
 
 -- the parameters in the member so far hash under this seed
 abbrev pub HasSeedSoFar : HashSeed → Member → Type 0
 HasSeedSoFar seed (members.ItemParams i) = ItemHasSeed seed i
-HasSeedSoFar seed (members.Items l) = InnerListHasSeed seed l
-HasSeedSoFar seed (members.InnerHead l) = InnerListHasSeed seed l
-HasSeedSoFar seed (members.InnerParams l i) = InnerListHasSeed seed l × ItemHasSeed seed i
-HasSeedSoFar seed (members.ListParams l) = InnerListHasSeed seed l
+HasSeedSoFar seed (members.InnerList l (places.ItemParams i)) = InnerListHasSeed seed l × ItemHasSeed seed i
+HasSeedSoFar seed (members.InnerList l p) = InnerListHasSeed seed l
 HasSeedSoFar seed p = ⊤
 
--- the same for a member that is complete or not
-abbrev pub StepHasSeed : HashSeed → Step → Type 0
-StepHasSeed seed (steps.Within p) = HasSeedSoFar seed p
-StepHasSeed seed (steps.Ended m) = MemberHasSeed seed m
+-- the same after an event, with the member if it ends there
+abbrev pub StepHasSeed : HashSeed → Member → Option ListEntry → Type 0
+StepHasSeed seed p None = HasSeedSoFar seed p
+StepHasSeed seed p (Some m) = MemberHasSeed seed m
 
 -- the builder adds maps under this seed, and those that it has hash under it
 abbrev pub IsItemUnder : HashSeed → ItemBuilder → Type 0
-IsItemUnder seed b = (b.seed ≡ seed) × StepHasSeed seed b.item
+IsItemUnder seed b = (b.seed ≡ seed) × StepHasSeed seed b.member b.item
 
 -- the complete members of a state
 abbrev pub complete : {A B : Type 0} → A × B → A

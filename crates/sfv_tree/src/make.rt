@@ -57,7 +57,7 @@ pub trait MakeDictionaryVisitor<'de>: Drop {
 impl<'de> MakeItemVisitor<'de> for Item {
     type Visitor = ItemBuilder;
 
-    ghost is_made = { λ seed visitor. (step_state visitor.item ≡ item_head) × IsItemUnder seed visitor };
+    ghost is_made = { λ seed visitor. (step_state visitor.member visitor.item ≡ item_head) × IsItemUnder seed visitor };
 
     fn make_item_visitor(alloc: Global, seed: HashSeed) -> ItemBuilder {
         ItemBuilder::new(alloc, seed)

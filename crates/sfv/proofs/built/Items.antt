@@ -26,7 +26,7 @@ use Rattle.sfv.proofs.Relations.{Answers, FailsIn, HasVisitorError, item_failed}
 
 -- the state of an item's builder
 abbrev item_state : ItemBuilder → MemberState
-item_state b = step_state b.item
+item_state b = step_state b.member b.item
 
 -- what the builder does with an event, and with the end
 abbrev Steps : ItemBuilder → TreeEvent → ItemBuilder → Type 0

@@ -14,7 +14,7 @@ ghost use Rattle.sfv_tree.specs.Builders.{dictionary_step, dictionary_state, mem
 ghost use Rattle.sfv_tree.specs.Builders.{dictionary_takes_memory, DictionaryAddsUnder, DictionaryAdds};
 
 use crate::parsed::{Dictionary, ListEntry};
-use crate::visitor::member::{Member, Step};
+use crate::visitor::member::Member;
 use crate::visitor::{Event, Visitor};
 use sfv_base::error::OutOfMemory;
 use sfv_values::bare::BareItemFromInput;
@@ -97,20 +97,38 @@ impl DictionaryBuilder {
         self.member = member;
     }
 
-    // Inserts a complete member.
-    #[inline(always)]
-    fn insert(&mut self, key: Key, member: ListEntry) -> Result<(), OutOfMemory>
-        ensures member { self.new.member ≡ self.old.member }
-        ensures entries { OnOk result (self.new.dictionary.entries
-            ≡ insert_entry bytes_eq self.old.dictionary.entries key member) }
+    // Inserts the current member, which is complete, under its key.
+    #[inline(never)]
+    fn insert(&mut self, member: ListEntry) -> Result<(), OutOfMemory>
+        ensures member { self.new.member ≡ None }
+        ensures entries { OnOk result (MatchOption self.old.member ⊤ (λ m. self.new.dictionary.entries
+            ≡ insert_entry bytes_eq self.old.dictionary.entries m.0 member)) }
         ensures hasher { hasher_of self.new.dictionary ≡ hasher_of self.old.dictionary }
-        ensures absent { OnErr result (get bytes_eq self.old.dictionary key ≡ None) }
+        ensures absent { OnErr result (MatchOption self.old.member ⊤ (λ m. get bytes_eq self.old.dictionary m.0 ≡ None)) }
     {
-        self.dictionary.insert(key, member)?;
+        if let Some((key, _)) = self.member.take() {
+            self.dictionary.insert(key, member)?;
+        }
         Ok(())
     }
 
-    #[inline(always)]
+    // Begins a member if the event does.
+    #[inline(never)]
+    fn begin(&mut self, event: Event<'_>) -> Result<(), OutOfMemory>
+        requires { self.old.member ≡ None }
+        ensures state { OnOk result
+            (dictionary_state self.new ≡ dictionary_step (dictionary_state self.old) (event_of event.entry)) }
+        ensures out_of_memory { OnErr result
+            (IsTrue (dictionary_takes_memory (dictionary_state self.old) (event_of event.entry))) }
+        ensures copied { OnErr result (is_moved event.entry ≡ false) }
+        ensures seed { OnOk result (DictionaryAdds self.old self.new) }
+    {
+        let new = begun(*self.dictionary.allocator(), event)?;
+        self.set_member(new);
+        Ok(())
+    }
+
+    #[inline(never)]
     fn step(&mut self, event: Event<'_>) -> Result<(), OutOfMemory>
         ensures state { OnOk result
             (dictionary_state self.new ≡ dictionary_step (dictionary_state self.old) (event_of event.entry)) }
@@ -120,16 +138,18 @@ impl DictionaryBuilder {
         ensures seed { OnOk result (DictionaryAdds self.old self.new) }
     {
         let (alloc, seed) = (*self.dictionary.allocator(), *self.dictionary.hasher());
-        let Some((key, member)) = self.member.take() else {
-            let new = begun(alloc, event)?;
-            self.set_member(new);
-            return Ok(());
+        let count = self.dictionary.len();
+        let Some((_, member)) = &mut self.member else {
+            return self.begin(event);
         };
-        match member.step(alloc, seed, self.dictionary.len(), event)? {
-            Step::Within(member) => self.set_member(Some((key, member))),
-            Step::Ended(member) => self.insert(key, member)?,
+        match member.step(alloc, seed, count, event) {
+            Ok(None) => Ok(()),
+            Ok(Some(whole)) => {
+                self.insert(whole)?;
+                Ok(())
+            }
+            Err(error) => Err(error),
         }
-        Ok(())
     }
 }
 

@@ -11,11 +11,10 @@ ghost use Rattle.sfv_tree.specs.declared.visitor.ItemFault.TheVariants as faults
 
 use crate::hash_seed::HashSeed;
 use crate::parsed::{Item, ListEntry};
-use crate::visitor::member::{Member, Step};
+use crate::visitor::member::Member;
 use crate::visitor::{Event, ItemFault, Visitor};
 use sfv_base::error::OutOfMemory;
 use std::alloc::Global;
-use std::mem;
 
 /// A visitor that builds an item. A repeated key keeps its first position and takes its last value (RFC 9651,
 /// section 4.2.3.2).
@@ -26,46 +25,36 @@ use std::mem;
 pub struct ItemBuilder {
     alloc: Global,
     seed: HashSeed,
-    item: Step,
+    // The state within the item.
+    member: Member,
+    // The complete item.
+    item: Option<ListEntry>,
 }
 
 impl ItemBuilder {
     /// Creates a builder that has received no event. It allocates from `alloc`, and builds parameters under `seed`.
     pub fn new(alloc: Global, seed: HashSeed) -> ItemBuilder
-        ensures state { step_state result.item ≡ item_head }
+        ensures state { step_state result.member result.item ≡ item_head }
         ensures seed { IsItemUnder seed result }
     {
         ItemBuilder {
             alloc,
             seed,
-            item: Step::Within(Member::ItemHead),
+            member: Member::ItemHead,
+            item: None,
         }
-    }
-
-    // Replaces the item so far. This is a function, because each place that drops an item is costly to prove.
-    #[inline(always)]
-    fn set_item(&mut self, item: Step)
-        ensures item { self.new.item ≡ item }
-        ensures alloc { self.new.alloc ≡ self.old.alloc }
-        ensures seed { self.new.seed ≡ self.old.seed }
-    {
-        self.item = item;
     }
 
     #[inline(always)]
     fn step(&mut self, event: Event<'_>) -> Result<(), OutOfMemory>
-        ensures state { OnOk result (step_state self.new.item
-            ≡ member_step (step_state self.old.item) (event_of event.entry)) }
-        ensures out_of_memory { OnErr result (IsTrue (takes_memory (step_state self.old.item) (event_of event.entry))) }
+        ensures state { OnOk result (step_state self.new.member self.new.item
+            ≡ member_step (step_state self.old.member self.old.item) (event_of event.entry)) }
+        ensures out_of_memory { OnErr result (IsTrue (takes_memory (step_state self.old.member self.old.item) (event_of event.entry))) }
         ensures copied { OnErr result (is_moved event.entry ≡ false) }
         ensures seed { OnOk result ((seed : HashSeed) → IsItemUnder seed self.old → IsItemUnder seed self.new) }
     {
-        match mem::replace(&mut self.item, Step::Within(Member::ItemHead)) {
-            Step::Within(item) => {
-                let after = item.step(self.alloc, self.seed, 0, event)?;
-                self.set_item(after);
-            }
-            whole => self.set_item(whole),
+        if self.item.is_none() {
+            self.item = self.member.step(self.alloc, self.seed, 0, event)?;
         }
         Ok(())
     }
@@ -77,17 +66,17 @@ impl<'de> Visitor<'de> for ItemBuilder {
     type Error = ItemFault;
 
     ghost takes = { λ s event after.
-        (step_state after.item ≡ member_step (step_state s.item) event)
+        (step_state after.member after.item ≡ member_step (step_state s.member s.item) event)
         × ((seed : HashSeed) → IsItemUnder seed s → IsItemUnder seed after) };
 
-    ghost fails = { λ s event fault. (fault ≡ faults.OutOfMemory) × IsTrue (takes_memory (step_state s.item) event) };
+    ghost fails = { λ s event fault. (fault ≡ faults.OutOfMemory) × IsTrue (takes_memory (step_state s.member s.item) event) };
 
     ghost fails_read = { λ _ event _. is_moved event ≡ false };
 
-    ghost finishes = { λ s out. (step_state s.item ≡ ended (item (item_tree out)))
+    ghost finishes = { λ s out. (step_state s.member s.item ≡ ended (item (item_tree out)))
         × ((seed : HashSeed) → IsItemUnder seed s → ItemHasSeed seed out) };
 
-    ghost finish_fails = { λ s fault. (fault ≡ faults.NoItem) × ((i : RawItem) → ¬ (step_state s.item ≡ ended (item i))) };
+    ghost finish_fails = { λ s fault. (fault ≡ faults.NoItem) × ((i : RawItem) → ¬ (step_state s.member s.item ≡ ended (item i))) };
 
     ghost is_memory = { λ fault. fault ≡ faults.OutOfMemory };
 
@@ -100,8 +89,10 @@ impl<'de> Visitor<'de> for ItemBuilder {
     }
 
     fn finish(self) -> Result<Item, ItemFault> {
-        match self.item {
-            Step::Ended(ListEntry::Item(item)) => Ok(item),
+        let ItemBuilder { member, item, .. } = self;
+        drop(member);
+        match item {
+            Some(ListEntry::Item(item)) => Ok(item),
             _ => Err(ItemFault::NoItem),
         }
     }

@@ -1,6 +1,6 @@
 //! The visitor that builds a list.
 
-ghost use Rattle.std.specs.Prelude.{◌≡◌, ⊤, List, false, None, option_map, OnOk, OnErr, IsTrue, MatchOption};
+ghost use Rattle.std.specs.Prelude.{◌≡◌, ◌++◌, ◌∷◌, [], ⊤, List, false, None, option_map, OnOk, OnErr, IsTrue, MatchOption};
 ghost use Rattle.sfv_tree.specs.Trees.{list_tree};
 ghost use Rattle.sfv_values.specs.BareItems.{input_value};
 ghost use Rattle.sfv_spec.specs.Events as tree;
@@ -12,8 +12,8 @@ ghost use Rattle.sfv_tree.specs.Builders.{list_step, list_state, list_takes_memo
 ghost use Rattle.sfv_tree.specs.Builders.{ListAddsUnder, ListAdds};
 
 use crate::hash_seed::HashSeed;
-use crate::parsed::List;
-use crate::visitor::member::{Member, Step};
+use crate::parsed::{List, ListEntry};
+use crate::visitor::member::Member;
 use crate::visitor::{Event, Visitor};
 use sfv_base::error::OutOfMemory;
 use sfv_values::bare::BareItemFromInput;
@@ -92,22 +92,45 @@ impl ListBuilder {
         self.member = member;
     }
 
-    #[inline(always)]
+    // Begins a member if the event does.
+    #[inline(never)]
+    fn begin(&mut self, event: Event<'_>)
+        requires { self.old.member ≡ None }
+        ensures state { list_state self.new ≡ list_step (list_state self.old) (event_of event.entry) }
+        ensures seed { ListAdds self.old self.new }
+    {
+        self.set_member(begun(event));
+    }
+
+    // Appends the current member, which is complete.
+    #[inline(never)]
+    fn append(&mut self, member: ListEntry) -> Result<(), OutOfMemory>
+        ensures member { self.new.member ≡ None }
+        ensures items { OnOk result (self.new.list.items ≡ self.old.list.items ++ member ∷ []) }
+        ensures seed { self.new.seed ≡ self.old.seed }
+    {
+        self.set_member(None);
+        self.list.push(member)?;
+        Ok(())
+    }
+
+    #[inline(never)]
     fn step(&mut self, event: Event<'_>) -> Result<(), OutOfMemory>
         ensures state { OnOk result (list_state self.new ≡ list_step (list_state self.old) (event_of event.entry)) }
         ensures seed { OnOk result (ListAdds self.old self.new) }
         ensures out_of_memory { OnErr result (IsTrue (list_takes_memory (list_state self.old) (event_of event.entry))) }
         ensures copied { OnErr result (is_moved event.entry ≡ false) }
     {
-        let Some(member) = self.member.take() else {
-            self.set_member(begun(event));
+        let (alloc, seed, count) = (*self.list.allocator(), self.seed, self.list.len());
+        let Some(member) = &mut self.member else {
+            self.begin(event);
             return Ok(());
         };
-        match member.step(*self.list.allocator(), self.seed, self.list.len(), event)? {
-            Step::Within(member) => self.set_member(Some(member)),
-            Step::Ended(member) => self.list.push(member)?,
+        match member.step(alloc, seed, count, event) {
+            Ok(None) => Ok(()),
+            Ok(Some(whole)) => self.append(whole),
+            Err(error) => Err(error),
         }
-        Ok(())
     }
 }
 

@@ -20,9 +20,9 @@ use sfv_base::error::OutOfMemory;
 use sfv_values::bare::BareItemFromInput;
 use sfv_values::key_ref::KeyRef;
 use std::alloc::Global;
+use std::mem;
 
-/// The state within a member, with its parsed part: an item; or the items of an inner list so far and the current item;
-/// or the whole inner list.
+/// The state within a member, with its parsed part.
 #[derive(Drop)]
 pub(crate) enum Member {
     // The next event says whether the member is an item or an inner list.
@@ -30,18 +30,20 @@ pub(crate) enum Member {
     // Before the bare item of an item.
     ItemHead,
     ItemParams(Item),
-    Items(InnerList),
-    // Before the bare item of an item of an inner list.
-    InnerHead(InnerList),
-    InnerParams(InnerList, Item),
-    ListParams(InnerList),
+    // An inner list with its complete items so far.
+    InnerList(InnerList, Place),
 }
 
-/// A member after an event.
+/// The place within an inner list.
 #[derive(Drop)]
-pub(crate) enum Step {
-    Within(Member),
-    Ended(ListEntry),
+pub(crate) enum Place {
+    // Before an item, or the end of the items.
+    Items,
+    // Before the bare item of an item.
+    ItemHead,
+    ItemParams(Item),
+    // After the items.
+    Params,
 }
 
 // Returns the item of this bare item, without parameters.
@@ -59,7 +61,25 @@ fn plain_item(
     Ok(Item::with_params(bare_item, Parameters::with_hasher(alloc, seed)))
 }
 
+impl Place {
+    // Replaces the place. This is a function, because each place that drops an item is costly to prove.
+    #[inline(always)]
+    fn set(&mut self, place: Place)
+        ensures { self.new ≡ place }
+    {
+        *self = place;
+    }
+}
+
 impl Member {
+    // Replaces the member, as `Place::set` replaces a place.
+    #[inline(always)]
+    fn set(&mut self, member: Member)
+        ensures { self.new ≡ member }
+    {
+        *self = member;
+    }
+
     // Inserts a parameter of the current item, or of the inner list.
     pub(crate) fn parameter(
         &mut self,
@@ -78,11 +98,11 @@ impl Member {
                 insert_parameter(alloc, &mut item.params, key, value)?;
                 Ok(())
             }
-            Member::InnerParams(_, item) => {
+            Member::InnerList(_, Place::ItemParams(item)) => {
                 insert_parameter(alloc, &mut item.params, key, value)?;
                 Ok(())
             }
-            Member::ListParams(list) => {
+            Member::InnerList(list, Place::Params) => {
                 insert_parameter(alloc, &mut list.params, key, value)?;
                 Ok(())
             }
@@ -90,128 +110,142 @@ impl Member {
         }
     }
 
-    // Ends the parameters of the current item, or of the inner list. `count` members come before this one.
-    #[inline(always)]
-    fn end_parameters(self, count: usize) -> Result<Step, OutOfMemory>
-        ensures state { IfOk result (λ after. step_state after
-            ≡ member_step (member_state self) tree.parameters_end) }
-        ensures seed { IfOk result (λ after. (seed : HashSeed) → HasSeedSoFar seed self → StepHasSeed seed after) }
-        ensures out_of_memory { OnErr result (IsTrue (takes_memory (member_state self) tree.parameters_end)) }
-    {
-        match self {
-            Member::ItemParams(mut item) => {
-                fit_after(count, &mut item.params);
-                Ok(Step::Ended(ListEntry::Item(item)))
-            }
-            Member::InnerParams(mut list, mut item) => {
-                fit_after(count.saturating_add(list.items.len()), &mut item.params);
-                list.items.push(item)?;
-                Ok(Step::Within(Member::Items(list)))
-            }
-            Member::ListParams(mut list) => {
-                fit_after(count, &mut list.params);
-                Ok(Step::Ended(ListEntry::InnerList(list)))
-            }
-            member => Ok(Step::Within(member)),
-        }
-    }
-
     // Begins an item: the member, or the next item of its inner list.
     #[inline(always)]
-    fn begin_item(self) -> Member
-        ensures state { member_state result ≡ member_step (member_state self) tree.begins_item }
-        ensures seed { (seed : HashSeed) → HasSeedSoFar seed self → HasSeedSoFar seed result }
+    fn begin_item(&mut self)
+        ensures state { member_state self.new ≡ member_step (member_state self.old) tree.begins_item }
+        ensures seed { (seed : HashSeed) → HasSeedSoFar seed self.old → HasSeedSoFar seed self.new }
     {
         match self {
-            Member::Begun => Member::ItemHead,
-            Member::Items(list) => Member::InnerHead(list),
-            member => member,
+            Member::Begun => self.set(Member::ItemHead),
+            Member::InnerList(_, place) => {
+                if let Place::Items = place {
+                    place.set(Place::ItemHead);
+                }
+            }
+            _ => {}
         }
     }
 
     // Begins the member as an inner list.
-    #[inline(always)]
-    fn begin_inner_list(self, alloc: Global, seed: HashSeed) -> Member
-        ensures state { member_state result ≡ member_step (member_state self) tree.begins_inner_list }
-        ensures seed { HasSeedSoFar seed self → HasSeedSoFar seed result }
+    #[inline(never)]
+    fn begin_inner_list(&mut self, alloc: Global, seed: HashSeed)
+        ensures state { member_state self.new ≡ member_step (member_state self.old) tree.begins_inner_list }
+        ensures seed { HasSeedSoFar seed self.old → HasSeedSoFar seed self.new }
     {
-        match self {
-            Member::Begun => {
-                let params = Parameters::with_hasher(alloc, seed);
-                Member::Items(InnerList::with_params(Vec::new(alloc), params))
-            }
-            member => member,
+        if let Member::Begun = self {
+            let params = Parameters::with_hasher(alloc, seed);
+            let list = InnerList::with_params(Vec::new(alloc), params);
+            self.set(Member::InnerList(list, Place::Items));
         }
     }
 
     // Takes the bare item of the item that has begun.
-    #[inline(always)]
+    #[inline(never)]
     fn bare_item(
-        self,
+        &mut self,
         alloc: Global,
         seed: HashSeed,
         bare_item: BareItemFromInput<'_>,
-    ) -> Result<Member, OutOfMemory>
-        ensures state { IfOk result (λ after. member_state after
-            ≡ member_step (member_state self) (tree.bare_item (input_value bare_item.entry))) }
-        ensures seed { IfOk result (λ after. HasSeedSoFar seed self → HasSeedSoFar seed after) }
+    ) -> Result<(), OutOfMemory>
+        ensures state { OnOk result (member_state self.new
+            ≡ member_step (member_state self.old) (tree.bare_item (input_value bare_item.entry))) }
+        ensures seed { OnOk result (HasSeedSoFar seed self.old → HasSeedSoFar seed self.new) }
         ensures out_of_memory { OnErr result
-            (IsTrue (takes_memory (member_state self) (tree.bare_item (input_value bare_item.entry)))) }
+            (IsTrue (takes_memory (member_state self.old) (tree.bare_item (input_value bare_item.entry)))) }
         ensures copied { OnErr result (IsTrue (is_borrowed bare_item.entry)) }
     {
         match self {
             Member::ItemHead => {
                 let item = plain_item(alloc, seed, bare_item)?;
-                Ok(Member::ItemParams(item))
+                self.set(Member::ItemParams(item));
             }
-            Member::InnerHead(list) => {
-                let item = plain_item(alloc, seed, bare_item)?;
-                Ok(Member::InnerParams(list, item))
+            Member::InnerList(_, place) => {
+                if let Place::ItemHead = place {
+                    let item = plain_item(alloc, seed, bare_item)?;
+                    place.set(Place::ItemParams(item));
+                }
             }
-            member => Ok(member),
+            _ => {}
+        }
+        Ok(())
+    }
+
+    // Ends the parameters of the current item, or of the inner list. Returns the member if it ends here. `count` members
+    // come before this one.
+    #[inline(never)]
+    fn end_parameters(&mut self, count: usize) -> Result<Option<ListEntry>, OutOfMemory>
+        ensures state { IfOk result (λ whole. step_state self.new whole
+            ≡ member_step (member_state self.old) tree.parameters_end) }
+        ensures seed { IfOk result (λ whole. (seed : HashSeed) → HasSeedSoFar seed self.old → StepHasSeed seed self.new whole) }
+        ensures out_of_memory { OnErr result (IsTrue (takes_memory (member_state self.old) tree.parameters_end)) }
+    {
+        match mem::replace(self, Member::Begun) {
+            Member::ItemParams(mut item) => {
+                fit_after(count, &mut item.params);
+                Ok(Some(ListEntry::Item(item)))
+            }
+            Member::InnerList(mut list, place) => match place {
+                Place::ItemParams(mut item) => {
+                    fit_after(count.saturating_add(list.items.len()), &mut item.params);
+                    list.items.push(item)?;
+                    self.set(Member::InnerList(list, Place::Items));
+                    Ok(None)
+                }
+                Place::Params => {
+                    fit_after(count, &mut list.params);
+                    Ok(Some(ListEntry::InnerList(list)))
+                }
+                place => {
+                    self.set(Member::InnerList(list, place));
+                    Ok(None)
+                }
+            },
+            member => {
+                self.set(member);
+                Ok(None)
+            }
         }
     }
 
     // Ends the items of the inner list.
     #[inline(always)]
-    fn end_inner_list(self) -> Member
-        ensures state { member_state result ≡ member_step (member_state self) tree.inner_list_end }
-        ensures seed { (seed : HashSeed) → HasSeedSoFar seed self → HasSeedSoFar seed result }
+    fn end_inner_list(&mut self)
+        ensures state { member_state self.new ≡ member_step (member_state self.old) tree.inner_list_end }
+        ensures seed { (seed : HashSeed) → HasSeedSoFar seed self.old → HasSeedSoFar seed self.new }
     {
-        match self {
-            Member::Items(list) => Member::ListParams(list),
-            member => member,
+        if let Member::InnerList(_, place) = self {
+            if let Place::Items = place {
+                place.set(Place::Params);
+            }
         }
     }
 
-    /// Returns the member after an event. An event out of sequence changes nothing. `count` members come before this one.
-    #[inline(always)]
+    /// Applies an event, and returns the member if it ends here. An event out of sequence changes nothing. `count` members
+    /// come before this one.
+    #[inline(never)]
     pub(crate) fn step(
-        mut self,
+        &mut self,
         alloc: Global,
         seed: HashSeed,
         count: usize,
         event: Event<'_>,
-    ) -> Result<Step, OutOfMemory>
-        ensures state { IfOk result (λ after. step_state after ≡ member_step (member_state self) (event_of event.entry)) }
-        ensures seed { IfOk result (λ after. HasSeedSoFar seed self → StepHasSeed seed after) }
-        ensures out_of_memory { OnErr result (IsTrue (takes_memory (member_state self) (event_of event.entry))) }
+    ) -> Result<Option<ListEntry>, OutOfMemory>
+        ensures state { IfOk result (λ whole. step_state self.new whole
+            ≡ member_step (member_state self.old) (event_of event.entry)) }
+        ensures seed { IfOk result (λ whole. HasSeedSoFar seed self.old → StepHasSeed seed self.new whole) }
+        ensures out_of_memory { OnErr result (IsTrue (takes_memory (member_state self.old) (event_of event.entry))) }
         ensures copied { OnErr result (is_moved event.entry ≡ false) }
     {
         match event {
-            Event::Item => Ok(Step::Within(self.begin_item())),
-            Event::InnerList => Ok(Step::Within(self.begin_inner_list(alloc, seed))),
-            Event::BareItem(bare_item) => {
-                let member = self.bare_item(alloc, seed, bare_item)?;
-                Ok(Step::Within(member))
-            }
-            Event::Parameter(key, value) => {
-                self.parameter(alloc, key, value)?;
-                Ok(Step::Within(self))
-            }
-            Event::ParametersEnd => self.end_parameters(count),
-            Event::InnerListEnd => Ok(Step::Within(self.end_inner_list())),
-            Event::Entry | Event::KeyedEntry(_) => Ok(Step::Within(self)),
+            Event::Item => self.begin_item(),
+            Event::InnerList => self.begin_inner_list(alloc, seed),
+            Event::BareItem(bare_item) => self.bare_item(alloc, seed, bare_item)?,
+            Event::Parameter(key, value) => self.parameter(alloc, key, value)?,
+            Event::ParametersEnd => return self.end_parameters(count),
+            Event::InnerListEnd => self.end_inner_list(),
+            Event::Entry | Event::KeyedEntry(_) => {}
         }
+        Ok(None)
     }
 }
