@@ -1,5 +1,6 @@
 //! Checks of values of any type.
 
+use sfv::{BareItem, Parser};
 use std::alloc::Global;
 use std::fmt::{Debug, Display};
 use std::hash::{DefaultHasher, Hash, Hasher};
@@ -38,4 +39,38 @@ pub fn hash_of<T: Hash>(value: &T) -> u64 {
     let mut hasher = DefaultHasher::new();
     value.hash(&mut hasher);
     hasher.finish()
+}
+
+/// A bare item of each kind.
+pub const VALUES: &[&str] = &[
+    "-1",
+    "1.5",
+    "\"a\\\"b\"",
+    "tok",
+    ":aGk=:",
+    "?0",
+    "@12",
+    "%\"f%c3%bcr\"",
+];
+
+/// Returns the bare item that the input parses to.
+pub fn value(alloc: Global, input: &str) -> Option<BareItem> {
+    Parser::new(input.as_bytes())
+        .parse_item::<BareItem>(alloc)
+        .ok()
+}
+
+/// Returns a number that is at most ten less or more than the product of a digit and a power of ten. Each power has the
+/// next 189 places.
+pub fn near_power(place: usize) -> u64 {
+    let mut power = 1u64;
+    for _ in 0..place / 189 {
+        power = power.saturating_mul(10);
+    }
+    let digit = (place / 21 % 9 + 1) as u64;
+    let more = (place % 21) as u64;
+    power
+        .saturating_mul(digit)
+        .saturating_add(more)
+        .saturating_sub(10)
 }

@@ -1,9 +1,9 @@
 //! Errors: their kinds, indexes and texts.
 
-use crate::common::{is_text, prints};
+use crate::common::{is_text, near_power, prints};
 use sfv::visitor::{BareItemType, ItemFault};
-use sfv::{Error, ErrorKind, OutOfMemory, ParseError};
-use std::alloc::{AllocError, AllocFailed};
+use sfv::{Error, ErrorKind, OutOfMemory, ParseError, SerializeError};
+use std::alloc::{AllocError, AllocFailed, Global};
 use std::test::Fail;
 
 #[test]
@@ -21,6 +21,20 @@ fn errors_print_their_message_and_place(rt: HostRuntime) {
     assert!(rt; printed & seen);
 }
 
+/// Returns `true` if an error of this kind prints its message and this index, also in an error of a parser with a
+/// visitor.
+fn is_index_printed(alloc: Global, kind: ErrorKind, index: usize) -> Result<bool, Fail> {
+    let message = kind.message();
+    let text = format!(in alloc; "{message} at index {index}")?;
+    let error = Error::at(kind, index);
+    let syntax: ParseError<OutOfMemory> = ParseError::Syntax(error);
+    Ok(
+        prints(alloc, &error, text.as_str())
+            & prints(alloc, &syntax, text.as_str())
+            & prints(alloc, &ParseError::Visitor(error), text.as_str()),
+    )
+}
+
 #[test]
 fn errors_print_each_index(rt: HostRuntime) -> Result<(), Fail> {
     let alloc = rt.alloc();
@@ -29,14 +43,70 @@ fn errors_print_each_index(rt: HostRuntime) -> Result<(), Fail> {
     for _ in 0..64 {
         for more in 0..3 {
             let index = index.saturating_add(more);
-            let text = format!(in alloc; "too many digits at index {index}")?;
-            holds &= prints(
-                alloc,
-                &Error::at(ErrorKind::TooManyDigits, index),
-                text.as_str(),
-            );
+            holds &= is_index_printed(alloc, ErrorKind::TooManyDigits, index)?;
         }
         index = index.saturating_mul(2).saturating_add(1);
+    }
+    assert!(rt; holds);
+    Ok(())
+}
+
+/// All kinds.
+const KINDS: &[ErrorKind] = &[
+    ErrorKind::OutOfMemory,
+    ErrorKind::OutOfRange,
+    ErrorKind::Empty,
+    ErrorKind::InvalidCharacter,
+    ErrorKind::TrailingCharactersAfterMember,
+    ErrorKind::TrailingComma,
+    ErrorKind::TrailingCharactersAfterParsedValue,
+    ErrorKind::ExpectedInnerListDelimiter,
+    ErrorKind::UnterminatedInnerList,
+    ErrorKind::ExpectedStartOfBareItem,
+    ErrorKind::ExpectedBoolean,
+    ErrorKind::InvalidStringCharacter,
+    ErrorKind::UnterminatedString,
+    ErrorKind::UnterminatedEscapeSequence,
+    ErrorKind::InvalidEscapeSequence,
+    ErrorKind::UnterminatedByteSequence,
+    ErrorKind::InvalidByteSequence,
+    ErrorKind::ExpectedDigit,
+    ErrorKind::TooManyDigits,
+    ErrorKind::TooManyDigitsBeforeDecimalPoint,
+    ErrorKind::TooManyDigitsAfterDecimalPoint,
+    ErrorKind::TrailingDecimalPoint,
+    ErrorKind::Rfc8941Date,
+    ErrorKind::NonIntegerDate,
+    ErrorKind::Rfc8941DisplayString,
+    ErrorKind::ExpectedQuote,
+    ErrorKind::InvalidUtf8InDisplayString,
+    ErrorKind::InvalidDisplayStringCharacter,
+    ErrorKind::UnterminatedDisplayString,
+    ErrorKind::ExpectedStartOfKey,
+];
+
+/// Returns `true` if an error of this kind without an index prints its message, also in an error of a parser with a
+/// visitor.
+fn is_message_printed(alloc: Global, kind: ErrorKind) -> bool {
+    let message = kind.message();
+    let error = Error::with_kind(kind, None);
+    let syntax: ParseError<OutOfMemory> = ParseError::Syntax(error);
+    prints(alloc, &kind, message)
+        & prints(alloc, &error, message)
+        & prints(alloc, &syntax, message)
+        & prints(alloc, &ParseError::Visitor(error), message)
+}
+
+#[test]
+fn errors_of_each_kind_print_each_digit_of_an_index(rt: HostRuntime) -> Result<(), Fail> {
+    let alloc = rt.alloc();
+    let mut holds = true;
+    for &kind in KINDS {
+        holds &= is_message_printed(alloc, kind);
+        for place in 0..20 * 189 {
+            let index = usize::try_from(near_power(place)).unwrap_or(0);
+            holds &= is_index_printed(alloc, kind, index)?;
+        }
     }
     assert!(rt; holds);
     Ok(())
@@ -66,16 +136,40 @@ fn want_of_memory_becomes_an_error_that_says_so(rt: HostRuntime) {
     }
 }
 
+/// The kinds of bare items, and their names.
+const NAMES: &[(BareItemType, &str)] = &[
+    (BareItemType::Decimal, "decimal"),
+    (BareItemType::Integer, "integer"),
+    (BareItemType::String, "string"),
+    (BareItemType::ByteSequence, "byte sequence"),
+    (BareItemType::Boolean, "boolean"),
+    (BareItemType::Token, "token"),
+    (BareItemType::Date, "date"),
+    (BareItemType::DisplayString, "display string"),
+];
+
 #[test]
-fn faults_of_items_print_what_was_expected(rt: HostRuntime) {
+fn kinds_of_items_print_their_name_alone_and_in_faults(rt: HostRuntime) -> Result<(), Fail> {
     let alloc = rt.alloc();
-    let (expected, got) = (BareItemType::Integer, BareItemType::Token);
-    let wrong = "unexpected bare item type: expected integer, got token";
-    let holds = prints(alloc, &ItemFault::WrongType { expected, got }, wrong)
-        & prints(alloc, &ItemFault::NoItem, "no item")
-        & prints(alloc, &ItemFault::OutOfMemory, "out of memory")
-        & prints(alloc, &BareItemType::ByteSequence, "byte sequence");
+    let mut holds = prints(alloc, &ItemFault::NoItem, "no item")
+        & prints(alloc, &ItemFault::OutOfMemory, "out of memory");
+    for &(expected, name) in NAMES {
+        let text = format!(in alloc; "RFC 8941 does not support {name}s")?;
+        holds &= prints(alloc, &expected, name);
+        holds &= prints(alloc, &SerializeError::Unsupported(expected), text.as_str());
+        for &(got, other) in NAMES {
+            let text = format!(in alloc;
+                "unexpected bare item type: expected {name}, got {other}"
+            )?;
+            holds &= prints(
+                alloc,
+                &ItemFault::WrongType { expected, got },
+                text.as_str(),
+            );
+        }
+    }
     assert!(rt; holds);
+    Ok(())
 }
 
 // The messages of the other kinds are in the lines of `sfv_replay`.

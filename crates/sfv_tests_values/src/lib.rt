@@ -12,6 +12,8 @@ mod conversions;
 #[cfg(test)]
 mod errors;
 #[cfg(test)]
+mod lengths;
+#[cfg(test)]
 mod memory;
 #[cfg(test)]
 mod numbers;

@@ -1,11 +1,11 @@
 //! Integers, decimals and dates: their ranges, texts and order.
 
-use crate::common::{hash_of, prints};
-use sfv::{Date, Decimal, Integer, integer};
+use crate::common::{hash_of, near_power, prints, value};
+use sfv::{Date, Decimal, Integer, RefBareItem, integer};
 use std::alloc::Global;
 use std::cmp::Ordering;
+use std::fmt::Display;
 use std::hash::Hash;
-use std::test::Fail;
 
 /// Returns `true` if the integer, the decimal with this many thousandths, and the date with this many seconds print
 /// these texts.
@@ -62,53 +62,47 @@ fn decimals_of_whole_numbers_print_one_digit_after_the_point(rt: HostRuntime) {
     }
 }
 
-/// Returns `true` if the number is printed as an integer, as a date, and as a whole decimal, and its opposite as an
-/// integer.
-fn is_printed(alloc: Global, number: u32) -> Result<bool, Fail> {
-    let whole = format!(in alloc; "{number}")?;
-    let opposite = format!(in alloc; "-{number}")?;
-    let decimal = format!(in alloc; "{number}.0")?;
-    let seconds = format!(in alloc; "@{number}")?;
-    let integer = Integer::from(number);
-    Ok(
-        prints(alloc, &integer, whole.as_str())
-            & prints(alloc, &Date::from_unix_seconds(integer), seconds.as_str())
-            & prints_scaled(alloc, i64::from(number), decimal.as_str())
-            & (number == 0 || prints_negative(alloc, i64::from(number), opposite.as_str())),
+/// Returns `true` if the value prints a text that parses to the bare item.
+fn comes_back<T: Display>(alloc: Global, printed: &T, item: RefBareItem<'_>) -> Option<bool> {
+    let text = printed.to_string(alloc).ok()?;
+    let parsed = value(alloc, text.as_str())?;
+    Some(parsed.as_ref_item() == item)
+}
+
+/// Returns `true` if the integer, the decimals with this number and with this many thousandths, and the date print texts
+/// that parse back to them.
+fn are_given_back(alloc: Global, number: i64) -> Option<bool> {
+    let integer = Integer::try_from(number).ok()?;
+    let thousandths = Decimal::from_integer_scaled_1000(integer);
+    let whole = Decimal::try_from(integer).unwrap_or(thousandths);
+    let date = Date::from_unix_seconds(integer);
+    Some(
+        comes_back(alloc, &integer, RefBareItem::from(integer))?
+            && comes_back(alloc, &thousandths, RefBareItem::from(thousandths))?
+            && comes_back(alloc, &whole, RefBareItem::from(whole))?
+            && comes_back(alloc, &date, RefBareItem::from(date))?,
     )
 }
 
-/// Returns `true` if the opposite of this number prints this text.
-fn prints_negative(alloc: Global, number: i64, text: &str) -> bool {
-    match Integer::try_from(number.saturating_neg()) {
-        Ok(integer) => prints(alloc, &integer, text),
-        Err(_) => false,
-    }
+/// Returns `true` if this is so for the number and its opposite.
+fn is_given_back(alloc: Global, number: i64) -> bool {
+    are_given_back(alloc, number) == Some(true)
+        && are_given_back(alloc, number.saturating_neg()) == Some(true)
 }
 
-/// Returns `true` if the decimal of this number prints this text.
-fn prints_scaled(alloc: Global, number: i64, text: &str) -> bool {
-    match Integer::try_from(number.saturating_mul(1_000)) {
-        Ok(thousandths) => { prints(alloc, &Decimal::from_integer_scaled_1000(thousandths), text) }
-        Err(_) => false,
-    }
-}
-
-// Up to 100,000, and around each power of ten.
+// Up to 20,000, and near each product of a digit and a power of ten.
 #[test]
-fn numbers_of_each_size_are_printed(rt: HostRuntime) -> Result<(), Fail> {
+fn numbers_of_each_size_parse_back(rt: HostRuntime) {
     let alloc = rt.alloc();
     let mut holds = true;
-    for number in 0..100_000 {
-        holds &= is_printed(alloc, number)?;
+    for number in 0..20_000 {
+        holds &= is_given_back(alloc, number);
     }
-    for &power in &[1_000_000u32, 10_000_000, 100_000_000, 1_000_000_000] {
-        for more in 0..20 {
-            holds &= is_printed(alloc, power.saturating_sub(10).saturating_add(more))?;
-        }
+    for place in 0..15 * 189 {
+        let number = i64::try_from(near_power(place)).unwrap_or(0);
+        holds &= is_given_back(alloc, number);
     }
     assert!(rt; holds);
-    Ok(())
 }
 
 #[test]
