@@ -36,25 +36,6 @@ pub struct DictionaryBuilder {
     member: Option<(Key, Member)>,
 }
 
-// Returns the member that the event begins, with its key, or `None`.
-#[inline(always)]
-fn begun(alloc: Global, event: Event<'_>) -> Result<Option<(Key, Member)>, OutOfMemory>
-    ensures state { IfOk result (λ member. (ms : List (List ℕ × RawMember)) → dictionary_step (ms, None)
-        (event_of event.entry) ≡ (ms, option_map (λ m. (m.0, member_state m.1)) member)) }
-    ensures out_of_memory { OnErr result ((ms : List (List ℕ × RawMember))
-        → IsTrue (dictionary_takes_memory (ms, None) (event_of event.entry))) }
-    ensures copied { OnErr result (is_moved event.entry ≡ false) }
-    ensures seed { IfOk result (λ member. (seed : HashSeed) → MatchOption member ⊤ (λ m. HasSeedSoFar seed m.1)) }
-{
-    match event {
-        Event::KeyedEntry(key) => {
-            let key = key.to_owned(alloc)?;
-            Ok(Some((key, Member::Begun)))
-        }
-        _ => Ok(None),
-    }
-}
-
 impl DictionaryBuilder {
     /// Creates a builder that begins with `dictionary`, and uses its allocator and its hash seed. To join several
     /// lines of a field, pass the dictionary of the earlier lines.
@@ -112,22 +93,6 @@ impl DictionaryBuilder {
         Ok(())
     }
 
-    // Begins a member if the event does.
-    #[inline(never)]
-    fn begin(&mut self, event: Event<'_>) -> Result<(), OutOfMemory>
-        requires { self.old.member ≡ None }
-        ensures state { OnOk result
-            (dictionary_state self.new ≡ dictionary_step (dictionary_state self.old) (event_of event.entry)) }
-        ensures out_of_memory { OnErr result
-            (IsTrue (dictionary_takes_memory (dictionary_state self.old) (event_of event.entry))) }
-        ensures copied { OnErr result (is_moved event.entry ≡ false) }
-        ensures seed { OnOk result (DictionaryAdds self.old self.new) }
-    {
-        let new = begun(*self.dictionary.allocator(), event)?;
-        self.set_member(new);
-        Ok(())
-    }
-
     #[inline(never)]
     fn step(&mut self, event: Event<'_>) -> Result<(), OutOfMemory>
         ensures state { OnOk result
@@ -140,7 +105,11 @@ impl DictionaryBuilder {
         let (alloc, seed) = (*self.dictionary.allocator(), *self.dictionary.hasher());
         let count = self.dictionary.len();
         let Some((_, member)) = &mut self.member else {
-            return self.begin(event);
+            if let Event::KeyedEntry(key) = event {
+                let key = key.to_owned(alloc)?;
+                self.set_member(Some((key, Member::Begun)));
+            }
+            return Ok(());
         };
         match member.step(alloc, seed, count, event) {
             Ok(None) => Ok(()),

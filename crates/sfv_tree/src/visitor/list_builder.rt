@@ -35,19 +35,6 @@ pub struct ListBuilder {
     member: Option<Member>,
 }
 
-// Returns the member that the event begins, or `None`.
-#[inline(always)]
-fn begun(event: Event<'_>) -> Option<Member>
-    ensures state { (ms : List RawMember) → list_step (ms, None) (event_of event.entry)
-        ≡ (ms, option_map member_state result) }
-    ensures seed { (seed : HashSeed) → MatchOption result ⊤ (HasSeedSoFar seed) }
-{
-    match event {
-        Event::Entry => Some(Member::Begun),
-        _ => None,
-    }
-}
-
 impl ListBuilder {
     /// Creates a builder that begins with `list` and uses its allocator. It builds parameters under `seed`. To join
     /// several lines of a field, pass the list of the earlier lines.
@@ -92,16 +79,6 @@ impl ListBuilder {
         self.member = member;
     }
 
-    // Begins a member if the event does.
-    #[inline(never)]
-    fn begin(&mut self, event: Event<'_>)
-        requires { self.old.member ≡ None }
-        ensures state { list_state self.new ≡ list_step (list_state self.old) (event_of event.entry) }
-        ensures seed { ListAdds self.old self.new }
-    {
-        self.set_member(begun(event));
-    }
-
     // Appends the current member, which is complete.
     #[inline(never)]
     fn append(&mut self, member: ListEntry) -> Result<(), OutOfMemory>
@@ -123,7 +100,9 @@ impl ListBuilder {
     {
         let (alloc, seed, count) = (*self.list.allocator(), self.seed, self.list.len());
         let Some(member) = &mut self.member else {
-            self.begin(event);
+            if let Event::Entry = event {
+                self.set_member(Some(Member::Begun));
+            }
             return Ok(());
         };
         match member.step(alloc, seed, count, event) {

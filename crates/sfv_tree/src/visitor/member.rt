@@ -2,7 +2,7 @@
 
 ghost use Rattle.std.specs.Prelude.{◌≡◌, false, IfOk, OnOk, OnErr, IsTrue};
 ghost use Rattle.sfv_spec.specs.Events as tree;
-ghost use Rattle.sfv_values.specs.BareItems.{input_value, is_borrowed};
+ghost use Rattle.sfv_values.specs.BareItems.{bare_value, input_value, is_borrowed};
 ghost use Rattle.sfv_values.specs.CheckedTexts.{text_of};
 ghost use Rattle.sfv_tree.specs.Trees.{item_tree};
 ghost use Rattle.sfv_tree.specs.Seeds.{ItemHasSeed};
@@ -17,7 +17,7 @@ use crate::parsed::{InnerList, Item, ListEntry, Parameters};
 use crate::visitor::Event;
 use crate::visitor::parameters::insert_parameter;
 use sfv_base::error::OutOfMemory;
-use sfv_values::bare::BareItemFromInput;
+use sfv_values::bare::{BareItem, BareItemFromInput};
 use sfv_values::key_ref::KeyRef;
 use std::alloc::Global;
 use std::mem;
@@ -48,17 +48,11 @@ pub(crate) enum Place {
 
 // Returns the item of this bare item, without parameters.
 #[inline(always)]
-fn plain_item(
-    alloc: Global,
-    seed: HashSeed,
-    bare_item: BareItemFromInput<'_>,
-) -> Result<Item, OutOfMemory>
-    ensures tree { IfOk result (λ item. item_tree item ≡ plain_item (input_value bare_item.entry)) }
-    ensures seed { IfOk result (ItemHasSeed seed) }
-    ensures copied { OnErr result (IsTrue (is_borrowed bare_item.entry)) }
+fn plain_item(alloc: Global, seed: HashSeed, bare_item: BareItem) -> Item
+    ensures tree { item_tree result ≡ plain_item (bare_value bare_item) }
+    ensures seed { ItemHasSeed seed result }
 {
-    let bare_item = bare_item.try_into_owned(alloc)?;
-    Ok(Item::with_params(bare_item, Parameters::with_hasher(alloc, seed)))
+    Item::with_params(bare_item, Parameters::with_hasher(alloc, seed))
 }
 
 impl Place {
@@ -157,13 +151,13 @@ impl Member {
     {
         match self {
             Member::ItemHead => {
-                let item = plain_item(alloc, seed, bare_item)?;
-                self.set(Member::ItemParams(item));
+                let bare_item = bare_item.try_into_owned(alloc)?;
+                self.set(Member::ItemParams(plain_item(alloc, seed, bare_item)));
             }
             Member::InnerList(_, place) => {
                 if let Place::ItemHead = place {
-                    let item = plain_item(alloc, seed, bare_item)?;
-                    place.set(Place::ItemParams(item));
+                    let bare_item = bare_item.try_into_owned(alloc)?;
+                    place.set(Place::ItemParams(plain_item(alloc, seed, bare_item)));
                 }
             }
             _ => {}
