@@ -1,5 +1,6 @@
 //! Texts and bytes of many lengths: their conversions and copies, and the memory that these keep.
 
+use crate::common::{is_shown, prints};
 use sfv::{
     BareItem, BareItemFromInput, GenericBareItem, RefBareItem, StringFromInput, StringRef, TokenRef,
 };
@@ -14,8 +15,8 @@ use std::borrow::CowStr;
 use std::string::String as StdString;
 use std::test::Fail;
 
-/// Unused bytes of a text that is moved.
-const SPARE: usize = 5;
+/// The longest text that is printed.
+const LONGEST_PRINTED: usize = 2_000;
 
 /// Returns the numbers below 300, and the powers of two up to 1,048,576 with their neighbours.
 fn lengths(alloc: Global) -> Result<Vec<usize>, AllocError> {
@@ -33,17 +34,54 @@ fn lengths(alloc: Global) -> Result<Vec<usize>, AllocError> {
     Ok(lengths)
 }
 
-/// Returns so many letters, and `SPARE` unused bytes.
-fn letters(alloc: Global, len: usize) -> Result<StdString, AllocError> {
-    let mut text = StdString::with_capacity(alloc, len.saturating_add(SPARE))?;
+/// Returns a letter so many times, with room for more.
+fn letters(alloc: Global, letter: char, len: usize) -> Result<StdString, AllocError> {
+    let mut text = StdString::with_capacity(alloc, room_of(len))?;
     for _ in 0..len {
-        text.push('a')?;
+        text.push(letter)?;
     }
     Ok(text)
 }
 
+/// Returns the capacity of the letters: five unused bytes, or twice as many bytes as letters and 100 more.
+fn room_of(len: usize) -> usize {
+    if len % 2 == 0 {
+        len.saturating_add(5)
+    } else {
+        len.saturating_mul(2).saturating_add(100)
+    }
+}
+
+/// Returns a printable letter of ASCII. Each length has the next one.
+fn letter_of(len: usize) -> char {
+    char::from((32 + len % 95) as u8)
+}
+
+/// Returns so many equal bytes, with room for more. Each length has the next byte.
+fn bytes_of(alloc: Global, len: usize) -> Result<Vec<u8>, AllocError> {
+    let mut bytes = Vec::with_capacity(alloc, room_of(len))?;
+    for _ in 0..len {
+        bytes.push((len % 256) as u8)?;
+    }
+    Ok(bytes)
+}
+
+/// Returns `true` if both forms of a text print it, alone and in the name of their type.
+fn is_printed<C: TextClass>(alloc: Global, owned: &CheckedText<C>, name: &str) -> Option<bool> {
+    let text = owned.as_str();
+    let borrowed = CheckedTextRef::<C>::from_str(text).ok()?;
+    let shown = format!(in alloc; "{name}({text:?})").ok()?;
+    let shown_ref = format!(in alloc; "{name}Ref({text:?})").ok()?;
+    Some(
+        prints(alloc, owned, text)
+            && prints(alloc, &borrowed, text)
+            && is_shown(alloc, owned, shown.as_str())
+            && is_shown(alloc, &borrowed, shown_ref.as_str()),
+    )
+}
+
 /// Returns `true` if a copy of a text of the class has no unused memory, and a moved text keeps its memory.
-fn is_text_kept<C: TextClass>(alloc: Global, text: StdString) -> Option<bool> {
+fn is_text_kept<C: TextClass>(alloc: Global, text: StdString, name: &str) -> Option<bool> {
     let (len, capacity) = (text.len(), text.capacity());
     let copy = CheckedTextRef::<C>::from_str(text.as_str())
         .ok()?
@@ -52,10 +90,11 @@ fn is_text_kept<C: TextClass>(alloc: Global, text: StdString) -> Option<bool> {
     let owned = CheckedText::<C>::from_string(text).ok()?;
     let other = owned.clone().ok()?;
     let is_same = copy == owned && other == owned && owned.as_str().len() == len;
+    let holds = is_same && (len > LONGEST_PRINTED || is_printed(alloc, &owned, name)?);
     let (copy, other) = (StdString::from(copy), StdString::from(other));
     let are_copies = copy.capacity() == len && other.capacity() == len;
     let again = CheckedText::<C>::try_from(StdString::from(owned)).ok()?;
-    Some(is_same && are_copies && StdString::from(again).capacity() == capacity)
+    Some(holds && are_copies && StdString::from(again).capacity() == capacity)
 }
 
 /// Returns the capacity of a text or byte sequence.
@@ -94,47 +133,59 @@ fn is_read(
     Some(is_same && is_owned && is_kept)
 }
 
-/// Returns `true` if strings, byte sequences and display strings of this text are copied and moved.
-fn are_items_kept(alloc: Global, text: &str) -> Option<bool> {
-    let (len, all) = (text.len(), text.len().saturating_add(SPARE));
-    let string = StringRef::from_str(text).ok()?;
-    let bytes = text.as_bytes();
-    let mut owned_bytes = Vec::with_capacity(alloc, all).ok()?;
-    owned_bytes.extend_from_slice(bytes).ok()?;
-    let owned = sfv::String::from_string(letters(alloc, len).ok()?).ok()?;
-    let display = CowStr::Owned(letters(alloc, len).ok()?);
-    let (item, displayed) = (
-        RefBareItem::from(string),
-        GenericBareItem::DisplayString(text),
-    );
-    let borrowed = GenericBareItem::String(StringFromInput::Borrowed(string));
-    let owned = GenericBareItem::String(StringFromInput::Owned(owned));
-    let bytes = RefBareItem::from(bytes);
+/// Returns `true` if byte sequences of so many bytes are copied and moved.
+fn are_bytes_kept(alloc: Global, len: usize) -> Option<bool> {
+    let all = room_of(len);
+    let bytes = bytes_of(alloc, len).ok()?;
+    let item = RefBareItem::from(bytes.as_slice());
+    let read = BareItemFromInput::from(bytes_of(alloc, len).ok()?);
+    let owned = BareItem::from(bytes_of(alloc, len).ok()?);
     Some(
         is_copied(alloc, item, len)?
-            && is_copied(alloc, bytes, len)?
-            && is_copied(alloc, displayed, len)?
-            && is_read(alloc, borrowed, item, len, len)?
-            && is_read(alloc, owned, item, len, all)?
-            && is_read(alloc, BareItemFromInput::from(owned_bytes), bytes, len, all)?
-            && is_read(
-                alloc,
-                GenericBareItem::DisplayString(display),
-                displayed,
-                len,
-                all,
-            )?,
+            && is_read(alloc, read, item, len, all)?
+            && owned.as_ref_item() == item
+            && capacity_of(owned) == Some(all),
     )
 }
 
-/// Returns `true` if keys and tokens of this text are copied and moved.
-fn are_names_kept(alloc: Global, text: &str) -> Option<bool> {
-    let len = text.len();
-    let token = TokenRef::from_str(text).ok()?;
+/// Returns `true` if strings of this text are copied and moved.
+fn are_strings_kept(alloc: Global, text: &str, letter: char) -> Option<bool> {
+    let (len, all) = (text.len(), room_of(text.len()));
+    let string = StringRef::from_str(text).ok()?;
+    let item = RefBareItem::from(string);
+    let borrowed = GenericBareItem::String(StringFromInput::Borrowed(string));
+    let owned = sfv::String::from_string(letters(alloc, letter, len).ok()?).ok()?;
+    let read = GenericBareItem::String(StringFromInput::Owned(owned));
+    let owned = sfv::String::from_string(letters(alloc, letter, len).ok()?).ok()?;
+    Some(
+        is_copied(alloc, item, len)?
+            && is_read(alloc, borrowed, item, len, len)?
+            && is_read(alloc, read, item, len, all)?
+            && capacity_of(BareItem::from(owned)) == Some(all),
+    )
+}
+
+/// Returns `true` if display strings of this text are copied and moved.
+fn are_display_strings_kept(alloc: Global, text: &str, letter: char) -> Option<bool> {
+    let (len, all) = (text.len(), room_of(text.len()));
+    let item = GenericBareItem::DisplayString(text);
+    let borrowed = GenericBareItem::DisplayString(CowStr::Borrowed(text));
+    let owned = CowStr::Owned(letters(alloc, letter, len).ok()?);
+    Some(
+        is_copied(alloc, item, len)?
+            && is_read(alloc, borrowed, item, len, len)?
+            && is_read(alloc, GenericBareItem::DisplayString(owned), item, len, all)?,
+    )
+}
+
+/// Returns `true` if keys and tokens of so many letters are copied and moved.
+fn are_names_kept(alloc: Global, len: usize) -> Option<bool> {
+    let text = letters(alloc, 'a', len).ok()?;
+    let token = TokenRef::from_str(text.as_str()).ok()?;
     let item = RefBareItem::from(token);
     Some(
-        is_text_kept::<KeyClass>(alloc, letters(alloc, len).ok()?)?
-            && is_text_kept::<TokenClass>(alloc, letters(alloc, len).ok()?)?
+        is_text_kept::<KeyClass>(alloc, letters(alloc, 'b', len).ok()?, "Key")?
+            && is_text_kept::<TokenClass>(alloc, letters(alloc, 'C', len).ok()?, "Token")?
             && is_copied(alloc, item, len)?
             && is_read(alloc, BareItemFromInput::from(token), item, len, len)?,
     )
@@ -145,10 +196,13 @@ fn texts_of_each_length_are_copied_and_moved(rt: HostRuntime) -> Result<(), Fail
     let alloc = rt.alloc();
     let mut holds = true;
     for &len in lengths(alloc)?.iter() {
-        let text = letters(alloc, len)?;
-        holds &= are_items_kept(alloc, text.as_str()) == Some(true);
-        holds &= len == 0 || are_names_kept(alloc, text.as_str()) == Some(true);
-        holds &= is_text_kept::<StringClass>(alloc, text) == Some(true);
+        let letter = letter_of(len);
+        let text = letters(alloc, letter, len)?;
+        holds &= are_strings_kept(alloc, text.as_str(), letter) == Some(true);
+        holds &= are_display_strings_kept(alloc, text.as_str(), letter) == Some(true);
+        holds &= are_bytes_kept(alloc, len) == Some(true);
+        holds &= len == 0 || are_names_kept(alloc, len) == Some(true);
+        holds &= is_text_kept::<StringClass>(alloc, text, "String") == Some(true);
     }
     assert!(rt; holds);
     Ok(())
