@@ -1,4 +1,3 @@
-use Rattle.std.proofs.Common.{rules, ◌≡◌}
 use Rattle.sfv_tree.proofs.visitor.member.Member.step.Goals as goal
 use Rattle.sfv_tree.proofs.visitor.member.Member.step.Goals.{in-Item, in-InnerList, in-InnerListEnd, in-Entry}
 use Rattle.sfv_tree.proofs.visitor.member.Member.step.Goals.{in-BareItem+in_ok-bare_item-in-BareItem}
