@@ -49,7 +49,8 @@ impl ItemBuilder {
     fn step(&mut self, event: Event<'_>) -> Result<(), OutOfMemory>
         ensures state { OnOk result (step_state self.new.member self.new.item
             ≡ member_step (step_state self.old.member self.old.item) (event_of event.entry)) }
-        ensures out_of_memory { OnErr result (IsTrue (takes_memory (step_state self.old.member self.old.item) (event_of event.entry))) }
+        ensures out_of_memory { OnErr result
+            (IsTrue (takes_memory (step_state self.old.member self.old.item) (event_of event.entry))) }
         ensures copied { OnErr result (is_moved event.entry ≡ false) }
         ensures seed { OnOk result ((seed : HashSeed) → IsItemUnder seed self.old → IsItemUnder seed self.new) }
     {
@@ -69,14 +70,16 @@ impl<'de> Visitor<'de> for ItemBuilder {
         (step_state after.member after.item ≡ member_step (step_state s.member s.item) event)
         × ((seed : HashSeed) → IsItemUnder seed s → IsItemUnder seed after) };
 
-    ghost fails = { λ s event fault. (fault ≡ faults.OutOfMemory) × IsTrue (takes_memory (step_state s.member s.item) event) };
+    ghost fails = { λ s event fault. (fault ≡ faults.OutOfMemory)
+        × IsTrue (takes_memory (step_state s.member s.item) event) };
 
     ghost fails_read = { λ _ event _. is_moved event ≡ false };
 
     ghost finishes = { λ s out. (step_state s.member s.item ≡ ended (item (item_tree out)))
         × ((seed : HashSeed) → IsItemUnder seed s → ItemHasSeed seed out) };
 
-    ghost finish_fails = { λ s fault. (fault ≡ faults.NoItem) × ((i : RawItem) → ¬ (step_state s.member s.item ≡ ended (item i))) };
+    ghost finish_fails = { λ s fault. (fault ≡ faults.NoItem)
+        × ((i : RawItem) → ¬ (step_state s.member s.item ≡ ended (item i))) };
 
     ghost is_memory = { λ fault. fault ≡ faults.OutOfMemory };
 

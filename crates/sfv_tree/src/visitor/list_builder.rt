@@ -1,6 +1,7 @@
 //! The visitor that builds a list.
 
-ghost use Rattle.std.specs.Prelude.{◌≡◌, ◌++◌, ◌∷◌, [], ⊤, List, false, None, option_map, OnOk, OnErr, IsTrue, MatchOption};
+ghost use Rattle.std.specs.Prelude.{◌≡◌, ◌++◌, ◌∷◌, [], ⊤, List, false, None, option_map};
+ghost use Rattle.std.specs.Prelude.{OnOk, OnErr, IsTrue, MatchOption};
 ghost use Rattle.sfv_tree.specs.Trees.{list_tree};
 ghost use Rattle.sfv_values.specs.BareItems.{input_value};
 ghost use Rattle.sfv_spec.specs.Events as tree;

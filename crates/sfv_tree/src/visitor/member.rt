@@ -171,7 +171,8 @@ impl Member {
     fn end_parameters(&mut self, count: usize) -> Result<Option<ListEntry>, OutOfMemory>
         ensures state { IfOk result (λ whole. step_state self.new whole
             ≡ member_step (member_state self.old) tree.parameters_end) }
-        ensures seed { IfOk result (λ whole. (seed : HashSeed) → HasSeedSoFar seed self.old → StepHasSeed seed self.new whole) }
+        ensures seed { IfOk result (λ whole. (seed : HashSeed) → HasSeedSoFar seed self.old
+            → StepHasSeed seed self.new whole) }
         ensures out_of_memory { OnErr result (IsTrue (takes_memory (member_state self.old) tree.parameters_end)) }
     {
         match mem::replace(self, Member::Begun) {
