@@ -50,12 +50,13 @@ fn make_room(rows: &mut Vec<Row<'_>>, expected: usize) -> Result<(), OutOfMemory
     grow(rows, expected)
 }
 
-/// Rows, the free part of the room for decoded texts, the length of all decoded texts so far, and the number of rows
+/// The free part of the room for decoded texts, rows, the length of all decoded texts so far, and the number of rows
 /// for which the first row requests memory.
+// The room comes first, since the bytes at the place of an error's parts take more instructions to move.
 #[derive(Drop)]
 struct Collector<'a> {
-    rows: Vec<Row<'a>>,
     room: &'a mut [u8],
+    rows: Vec<Row<'a>>,
     used: usize,
     expected: usize,
 }
@@ -68,8 +69,8 @@ impl<'a> Collector<'a> {
         // This gives the proof the largest length of a slice.
         let _size = room.len();
         Collector {
-            rows,
             room,
+            rows,
             used: 0,
             expected,
         }

@@ -226,7 +226,9 @@ impl Clone for ListEntry {
 // Returns the number of entries up to which comparing them one by one costs no more than a hash of the key. Keys of
 // more than eight bytes are hashed by SipHash, which takes longer.
 #[inline(always)]
-fn few(key: KeyRef<'_>) -> usize {
+fn few(key: KeyRef<'_>) -> usize
+    ensures { result ≤ 16 }
+{
     if key.as_str().len() > 8 { 16 } else { 6 }
 }
 

@@ -93,7 +93,7 @@ impl DictionaryBuilder {
         Ok(())
     }
 
-    #[inline(never)]
+    #[inline(always)]
     fn step(&mut self, event: Event<'_>) -> Result<(), OutOfMemory>
         ensures state { OnOk result
             (dictionary_state self.new ≡ dictionary_step (dictionary_state self.old) (event_of event.entry)) }

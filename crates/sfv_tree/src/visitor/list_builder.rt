@@ -92,7 +92,7 @@ impl ListBuilder {
         Ok(())
     }
 
-    #[inline(never)]
+    #[inline(always)]
     fn step(&mut self, event: Event<'_>) -> Result<(), OutOfMemory>
         ensures state { OnOk result (list_state self.new ≡ list_step (list_state self.old) (event_of event.entry)) }
         ensures seed { OnOk result (ListAdds self.old self.new) }

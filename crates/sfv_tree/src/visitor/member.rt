@@ -218,7 +218,7 @@ impl Member {
 
     /// Applies an event, and returns the member if it ends here. An event out of sequence changes nothing. `count` members
     /// come before this one.
-    #[inline(never)]
+    #[inline(always)]
     pub(crate) fn step(
         &mut self,
         alloc: Global,
