@@ -1,29 +1,17 @@
 //! The capacity of parsed and built lists, inner lists, dictionaries and parameters.
 
-use crate::common::{counted, repeated};
-use sfv::visitor::{DictionaryBuilder, ItemBuilder, ListBuilder};
-use sfv::{Dictionary, Item, List, ListEntry, Parameters, Parser};
+use crate::common::{
+    NEAR, counted, doubled, field_of, map_capacity, numbers, repeated, version_of,
+};
+use crate::sizes::filled;
+use sfv::{Dictionary, Item, List, ListEntry, Parameters, Parser, Version};
 use std::alloc::Global;
 use std::fmt::Write;
 use std::test::Fail;
 
-/// The capacities of a vector while elements are appended one by one, and the capacities of a map.
-const VECTOR: &[usize] = &[
-    0, 4, 8, 16, 32, 64, 128, 256, 512, 1_024, 2_048, 4_096, 8_192, 16_384,
-];
-
-const MAP: &[usize] = &[
-    0, 9, 18, 36, 72, 144, 288, 576, 1_152, 2_304, 4_608, 9_216, 18_432,
-];
-
-/// Returns `true` if the capacity is the least of these that holds so many elements.
-fn is_least(capacity: usize, len: usize, capacities: &[usize]) -> bool {
-    for &least in capacities {
-        if len <= least {
-            return capacity == least;
-        }
-    }
-    false
+/// Returns `true` if a vector has the capacity of so many elements that were appended one by one.
+fn is_vector_fit(capacity: usize, len: usize) -> bool {
+    capacity == if len == 0 { 0 } else { doubled(4, len) }
 }
 
 /// Returns `true` if parameters have no unused memory after 4,000 other members and items, and keep it before.
@@ -31,12 +19,12 @@ fn is_fit(params: &Parameters, place: usize) -> bool {
     if place >= 4_000 {
         return params.capacity() == params.len();
     }
-    is_least(params.capacity(), params.len(), MAP)
+    params.capacity() == map_capacity(params.len())
 }
 
 // `count` members come before the inner list.
 fn are_items_fit(items: &Vec<Item>, count: usize) -> bool {
-    let mut holds = is_least(items.capacity(), items.len(), VECTOR);
+    let mut holds = is_vector_fit(items.capacity(), items.len());
     for (place, item) in items.iter().enumerate() {
         holds &= is_fit(&item.params, count.saturating_add(place));
     }
@@ -52,150 +40,200 @@ fn is_member_fit(member: &ListEntry, place: usize) -> bool {
 }
 
 fn is_list_fit(list: &List, count: usize) -> bool {
-    let mut holds = list.len() == count && is_least(list.capacity(), count, VECTOR);
+    let mut holds = list.len() == count && is_vector_fit(list.capacity(), count);
     for (place, member) in list.iter().enumerate() {
         holds &= is_member_fit(member, place);
     }
     holds
 }
 
-fn is_dictionary_fit(dictionary: &Dictionary, count: usize) -> bool {
-    let mut holds = dictionary.len() == count && is_least(dictionary.capacity(), count, MAP);
+// If each member is there twice, `before` members come before the last one of each key.
+fn is_dictionary_fit(dictionary: &Dictionary, count: usize, before: usize) -> bool {
+    let mut holds = dictionary.len() == count && dictionary.capacity() == map_capacity(count);
     for (place, (_, member)) in dictionary.iter().enumerate() {
-        holds &= is_member_fit(member, place);
+        holds &= is_member_fit(member, place.max(before));
     }
     holds
 }
 
-/// Returns `true` if `parse` and the builder both make an item with this many parameters, with the right capacities,
-/// and if a clone has no unused memory.
-fn is_item_fit(alloc: Global, input: &str, count: usize) -> bool {
-    let parser = Parser::new(input.as_bytes());
-    let builder = ItemBuilder::new(alloc, parser.hash_seed());
-    let Ok(built) = parser.parse_item_with_visitor(alloc, builder) else {
-        return false;
-    };
-    let Ok(parsed) = parser.parse::<Item>(alloc) else {
-        return false;
-    };
-    let Ok(copy) = parsed.clone() else {
-        return false;
-    };
-    parsed.params.len() == count
-        && is_fit(&parsed.params, 0)
-        && is_fit(&built.params, 0)
-        && copy.params.capacity() == count
+/// Returns `true` if `parse` and `parse_item` make an item with this many parameters, with the right capacity.
+fn is_item_fit(alloc: Global, parser: Parser<'_>, count: usize) -> Option<bool> {
+    let built = parser.parse_item::<Item>(alloc).ok()?;
+    let parsed = parser.parse::<Item>(alloc).ok()?;
+    Some(is_fit(&built.params, 0) && is_fit(&parsed.params, 0) && parsed.params.len() == count)
 }
 
-/// Returns `true` if `parse` and the builder both make a list of this many members, with the right capacities.
-fn are_lists_fit(alloc: Global, input: &str, count: usize) -> bool {
-    let parser = Parser::new(input.as_bytes());
-    let builder = ListBuilder::new(List::new(alloc), parser.hash_seed());
-    let Ok(built) = parser.parse_list_with_visitor(alloc, builder) else {
-        return false;
-    };
-    let Ok(parsed) = parser.parse::<List>(alloc) else {
-        return false;
-    };
-    is_list_fit(&built, count) && is_list_fit(&parsed, count)
+/// Returns `true` if `parse` and `parse_list` make a list of this many members, with the right capacities.
+fn are_lists_fit(alloc: Global, parser: Parser<'_>, count: usize) -> Option<bool> {
+    let built = parser.parse_list::<List>(alloc).ok()?;
+    let parsed = parser.parse::<List>(alloc).ok()?;
+    Some(is_list_fit(&built, count) && is_list_fit(&parsed, count))
 }
 
-/// The same for a dictionary.
-fn are_dictionaries_fit(alloc: Global, input: &str, count: usize) -> bool {
-    let parser = Parser::new(input.as_bytes());
-    let builder = DictionaryBuilder::new(Dictionary::with_hasher(alloc, parser.hash_seed()));
-    let Ok(built) = parser.parse_dictionary_with_visitor(alloc, builder) else {
-        return false;
-    };
-    let Ok(parsed) = parser.parse::<Dictionary>(alloc) else {
-        return false;
-    };
-    is_dictionary_fit(&built, count) && is_dictionary_fit(&parsed, count)
+/// The same for dictionaries. If each member is there twice, `before` is the number of members.
+fn are_dictionaries_fit(
+    alloc: Global,
+    parser: Parser<'_>,
+    count: usize,
+    before: usize,
+) -> Option<bool> {
+    let built = parser.parse_dictionary::<Dictionary>(alloc).ok()?;
+    let parsed = parser.parse::<Dictionary>(alloc).ok()?;
+    Some(is_dictionary_fit(&built, count, before) && is_dictionary_fit(&parsed, count, before))
 }
 
-/// Returns a dictionary of this many members with different keys and this text after the key.
-fn members(alloc: Global, text: &str, count: usize) -> Result<String, Fail> {
-    let mut all = String::from_str(alloc, "k")?;
-    all.push_str(text)?;
-    for number in 1..count {
-        write!(all, ", k{number}{text}")?;
+/// Returns `true` if each call makes a field of this many members or parameters, with the right capacities.
+fn fits(
+    alloc: Global,
+    field: &str,
+    version: Version,
+    input: &str,
+    (count, before): (usize, usize),
+) -> bool {
+    let parser = Parser::new(input.as_bytes()).with_version(version);
+    let answer = match field {
+        "item" => is_item_fit(alloc, parser, count),
+        "list" => are_lists_fit(alloc, parser, count),
+        _ => are_dictionaries_fit(alloc, parser, count, before),
+    };
+    answer == Some(true)
+}
+
+/// Fields of numbered parts: the type, the arguments `dense` and `most` of `numbers`, and the arguments of `field_of`.
+const FIELDS: &[(&str, usize, usize, (&str, &str, &str, &str))] = &[
+    ("list", 601, 147_456, ("", "$", ", ", "")),
+    ("list", 601, 147_456, ("", "$;b~", ", ", "")),
+    ("list", 0, NEAR, ("", "$;b~;c~;b~", ", ", "")),
+    ("list", 0, NEAR, ("", "($;b~ $;b;c~ $);b~", ", ", "")),
+    ("list", 601, 147_456, ("(", "$", " ", ")")),
+    ("list", 601, 147_456, ("(", "$;b~", " ", ");b=1;c;b=2")),
+    ("dict", 601, 147_456, ("", "k#~", ", ", "")),
+    ("dict", 601, 147_456, ("", "k#~;b~", ", ", "")),
+    ("dict", 0, NEAR, ("", "k#=($;b~ $;b;c~ $);c;b~;c", ", ", "")),
+    ("dict", 0, NEAR, ("k=(", "$;b~", " ", ");b=1;c")),
+    ("item", 601, 147_456, ("a", ";k#~", "", "")),
+    ("item", 601, NEAR, ("a", ";k#", "", "")),
+];
+
+/// Returns `true` if a field of so many parts has the right capacities under this version.
+fn parts_fit(
+    alloc: Global,
+    field: &str,
+    is_newer: bool,
+    parts: (&str, &str, &str, &str),
+    count: usize,
+) -> Result<bool, Fail> {
+    let (version, values) = version_of(is_newer);
+    let text = field_of(alloc, parts, values, count)?;
+    let wanted = if parts.0.ends_with("(") { 1 } else { count };
+    Ok(fits(alloc, field, version, text.as_str(), (wanted, 0)))
+}
+
+/// Returns `true` if fields of this type have the right capacities. The versions take turns, so both have each number of
+/// parts up to 600.
+fn all_fit(alloc: Global, field: &str) -> Result<bool, Fail> {
+    let mut holds = true;
+    for (row, &(kind, dense, most, parts)) in FIELDS.iter().enumerate() {
+        for (place, &count) in numbers(alloc, dense, most)?.iter().enumerate() {
+            if kind == field {
+                let is_newer = row % 2 == place % 2;
+                holds &= parts_fit(alloc, field, is_newer, parts, count)?;
+            }
+        }
     }
-    Ok(all)
+    Ok(holds)
 }
 
-/// The numbers of members: 1 to 65, 4,000, 4,001 and 12,345.
-fn count_of(place: usize) -> usize {
-    match place {
-        66 => 4_000,
-        67 => 4_001,
-        68 => 12_345,
-        _ => place,
-    }
-}
-
-// Lists and inner lists with one and two parameters.
 #[test]
 fn lists_have_little_unused_memory(rt: HostRuntime) -> Result<(), Fail> {
-    let alloc = rt.alloc();
-    let mut holds = true;
-    for place in 1..69 {
-        let count = count_of(place);
-        let items = repeated(alloc, "a;b", ", a;b", count.saturating_sub(1), "")?;
-        holds &= are_lists_fit(alloc, items.as_str(), count);
-        let items = repeated(alloc, "a;b;c", ", a;b;c", count.saturating_sub(1), "")?;
-        holds &= are_lists_fit(alloc, items.as_str(), count);
-        let lists = repeated(
-            alloc,
-            "(a;b 1;b;c);b;c",
-            ", (a;b 1;b;c);b",
-            count.saturating_sub(1),
-            "",
-        )?;
-        holds &= are_lists_fit(alloc, lists.as_str(), count);
-        let inner = repeated(alloc, "(a;b;c", " a;b", count.saturating_sub(1), ");b")?;
-        holds &= are_lists_fit(alloc, inner.as_str(), 1);
-    }
-    assert!(rt; holds);
+    assert!(rt; all_fit(rt.alloc(), "list")?);
     Ok(())
 }
 
 #[test]
 fn dictionaries_have_little_unused_memory(rt: HostRuntime) -> Result<(), Fail> {
+    assert!(rt; all_fit(rt.alloc(), "dict")?);
+    Ok(())
+}
+
+#[test]
+fn items_have_little_unused_memory(rt: HostRuntime) -> Result<(), Fail> {
+    assert!(rt; all_fit(rt.alloc(), "item")?);
+    Ok(())
+}
+
+/// Fields with numbered parts in the place of each `$`: the type, the field, a part, the separator, the most parts, and
+/// the number of members if it is not the number of parts.
+const TWICE: &[(&str, &str, &str, &str, usize, usize)] = &[
+    ("dict", "$, $", "k#~;b~", ", ", 20_000, 0),
+    ("dict", "$, $", "k#=($;b~ $);b;c", ", ", NEAR, 0),
+    ("item", "a;$;$", "k#~", ";", 20_000, 0),
+    ("list", "a;$;$, (a;$;$);$;$", "k#~", ";", NEAR, 2),
+];
+
+#[test]
+fn repeated_keys_need_no_memory(rt: HostRuntime) -> Result<(), Fail> {
     let alloc = rt.alloc();
     let mut holds = true;
-    for place in 1..69 {
-        let count = count_of(place);
-        let items = members(alloc, ";b", count)?;
-        holds &= are_dictionaries_fit(alloc, items.as_str(), count);
-        let items = members(alloc, ";b;c", count)?;
-        holds &= are_dictionaries_fit(alloc, items.as_str(), count);
-        let lists = members(alloc, "=(a;b 1;b;c);b", count)?;
-        holds &= are_dictionaries_fit(alloc, lists.as_str(), count);
-        let inner = repeated(alloc, "k=(a;b;c", " a;b", count.saturating_sub(1), ");b;c")?;
-        holds &= are_dictionaries_fit(alloc, inner.as_str(), 1);
+    for &(field, place, part, separator, most, members) in TWICE {
+        for (turn, &count) in numbers(alloc, 0, most)?.iter().enumerate() {
+            if count > 0 {
+                let (version, values) = version_of(turn % 2 == 0);
+                let parts = field_of(alloc, ("", part, separator, ""), values, count)?;
+                let text = filled(alloc, place, parts.as_str())?;
+                let wanted = if members > 0 { members } else { count };
+                holds &= fits(alloc, field, version, text.as_str(), (wanted, count));
+            }
+        }
     }
     assert!(rt; holds);
     Ok(())
 }
 
-// Without parameters, with one and with many, in a list, an inner list and a dictionary of up to 12,348 members.
+/// Returns a field of `before` parts and further ones with 0 to 300 parameters: a list, an inner list or a dictionary.
+fn with_params(
+    alloc: Global,
+    kind: &str,
+    values: &[&str; 16],
+    before: usize,
+) -> Result<String, Fail> {
+    let mut text = match kind {
+        "list" => repeated(alloc, "a", ", a", before, "")?,
+        "inner" => repeated(alloc, "(a", " a", before, "")?,
+        _ => counted(alloc, "", "k", ", ", "", before)?,
+    };
+    for number in 0..301usize {
+        let params = field_of(alloc, ("", ";p#~", "", ""), values, number)?;
+        match kind {
+            "list" => write!(text, ", a{params}, (a{params} b){params}, (){params}")?,
+            "inner" => write!(text, " a{params}")?,
+            _ => write!(
+                text,
+                ", l{number}{params}, m{number}=(a{params} b c){params}"
+            )?,
+        }
+    }
+    if kind == "inner" {
+        text.push(')')?;
+    }
+    Ok(text)
+}
+
+// Parameters of each number, before and after the 4,000th member.
 #[test]
 fn parameters_have_little_unused_memory(rt: HostRuntime) -> Result<(), Fail> {
     let alloc = rt.alloc();
-    let many = counted(alloc, "", ";k", "", "", 73)?;
-    let end = format!(in alloc; ", (){many}, (a{many} b){many}, a{many}")?;
     let mut holds = true;
-    for &count in &[1, 3_997, 3_998, 3_999, 4_000, 4_001, 12_345] {
-        let list = repeated(alloc, "a", ", ()", count - 1, end.as_str())?;
-        holds &= are_lists_fit(alloc, list.as_str(), count + 3);
-        let inner = format!(in alloc; " a{many} b{many} c;d){many}")?;
-        let inner = repeated(alloc, "(a", " a", count - 1, inner.as_str())?;
-        holds &= are_lists_fit(alloc, inner.as_str(), 1);
-        let mut entries = members(alloc, "", count)?;
-        entries.push_str(", l=()")?;
-        entries.push_str(many.as_str())?;
-        entries.push_str(", m=(a;b c);d, n;e")?;
-        holds &= are_dictionaries_fit(alloc, entries.as_str(), count + 3);
+    for &before in &[1, 4_000] {
+        for &is_newer in &[true, false] {
+            let (version, values) = version_of(is_newer);
+            let text = with_params(alloc, "list", values, before - 1)?;
+            holds &= fits(alloc, "list", version, text.as_str(), (before + 3 * 301, 0));
+            let text = with_params(alloc, "inner", values, before - 1)?;
+            holds &= fits(alloc, "list", version, text.as_str(), (1, 0));
+            let text = with_params(alloc, "dict", values, before)?;
+            holds &= fits(alloc, "dict", version, text.as_str(), (before + 2 * 301, 0));
+        }
     }
     assert!(rt; holds);
     Ok(())
@@ -203,18 +241,7 @@ fn parameters_have_little_unused_memory(rt: HostRuntime) -> Result<(), Fail> {
 
 #[test]
 fn empty_fields_have_no_memory(rt: HostRuntime) {
-    assert!(rt; are_lists_fit(rt.alloc(), " ", 0));
-    assert!(rt; are_dictionaries_fit(rt.alloc(), " ", 0));
-}
-
-#[test]
-fn items_have_little_unused_memory(rt: HostRuntime) -> Result<(), Fail> {
     let alloc = rt.alloc();
-    let mut holds = true;
-    for &count in &[0, 1, 9, 10, 18, 19, 36, 37, 1_000, 4_001, 12_345] {
-        let item = counted(alloc, "a", ";k", "", "", count)?;
-        holds &= is_item_fit(alloc, item.as_str(), count);
-    }
-    assert!(rt; holds);
-    Ok(())
+    assert!(rt; fits(alloc, "list", Version::Rfc9651, " ", (0, 0)));
+    assert!(rt; fits(alloc, "dict", Version::Rfc9651, " ", (0, 0)));
 }

@@ -1,109 +1,137 @@
 //! The memory that results keep: the capacity of written texts and of owned texts. The module `capacity` has lists,
 //! dictionaries and parameters.
 
-use crate::common::{counted, repeated};
-use crate::sizes::{filled, item_calls, member_calls};
-use sfv::script::{MemberCalls, run_dict, run_dict_for, run_item, run_list, run_list_for};
+use crate::common::{NEAR, counted, doubled, is_grown, numbers, repeated};
+use crate::sizes::{FAR, TEXTS, filled, item_calls, member_calls};
+use sfv::script::{ItemCalls, MemberCalls, run_dict_for, run_item_for, run_list_for};
 use sfv::visitor::{DictionaryBuilder, ItemBuilder};
 use sfv::{
     BareItem, BareItemFromInput, DictSerializer, Dictionary, FieldType, GenericBareItem, Item,
-    ItemSerializer, Key, KeyRef, List, ListEntry, ListSerializer, Parser, Version,
+    ItemSerializer, Key, KeyRef, List, ListEntry, ListSerializer, Parser, Sink, StringFromInput,
+    Version,
 };
-use std::alloc::Global;
+use sfv_writer::output::{serialize_separator, truncate_to};
+use std::alloc::{AllocError, Global};
 use std::test::Fail;
 
-/// Returns the capacity of the text of the field, if it is the same for `serialize` and for `serialize_for` under each
-/// version.
-fn capacity_of<T: FieldType>(alloc: Global, input: &str) -> Option<usize> {
-    let field = Parser::new(input.as_bytes()).parse::<T>(alloc).ok()?;
+/// Returns the versions that have the values of the input.
+fn versions_of(input: &str) -> &'static [Version] {
+    let bytes = input.as_bytes();
+    if bytes.contains(&b'@') || bytes.contains(&b'%') {
+        return &[Version::Rfc9651];
+    }
+    &[Version::Rfc8941, Version::Rfc9651]
+}
+
+/// Returns the capacity of the text of the field, if it is the same for `serialize` and for `serialize_for`.
+fn capacity_of<T: FieldType>(alloc: Global, version: Version, input: &str) -> Option<usize> {
+    let parser = Parser::new(input.as_bytes()).with_version(version);
+    let field = parser.parse::<T>(alloc).ok()?;
     let text: Option<String> = field.serialize(alloc).ok()?.into();
     let capacity = text?.capacity();
-    for &version in &[Version::Rfc8941, Version::Rfc9651] {
-        let text: Option<String> = field.serialize_for(alloc, version).ok()?.into();
-        if text?.capacity() != capacity {
-            return None;
-        }
-    }
-    Some(capacity)
-}
-
-/// The same for the item, list or dictionary of the input.
-fn text_capacity(alloc: Global, field: &str, input: &str) -> Option<usize> {
-    match field {
-        "item" => capacity_of::<Item>(alloc, input),
-        "list" => capacity_of::<List>(alloc, input),
-        _ => capacity_of::<Dictionary>(alloc, input),
+    let text: Option<String> = field.serialize_for(alloc, version).ok()?.into();
+    if text?.capacity() == capacity {
+        Some(capacity)
+    } else {
+        None
     }
 }
 
-/// The numbers of parts.
-const COUNTS: &[usize] = &[1, 2, 9, 999, 1_000, 1_001, 1_300];
+/// Returns `true` if the text of the item, list or dictionary of the input has this capacity.
+fn has_capacity(alloc: Global, field: &str, input: &str, wanted: usize) -> bool {
+    let mut holds = true;
+    for &version in versions_of(input) {
+        let capacity = match field {
+            "item" => capacity_of::<Item>(alloc, version, input),
+            "list" => capacity_of::<List>(alloc, version, input),
+            _ => capacity_of::<Dictionary>(alloc, version, input),
+        };
+        holds &= capacity == Some(wanted);
+    }
+    holds
+}
 
-/// Fields of numbered parts of fewer than eight bytes: the type, a text before the parts, a text before each number,
-/// the separator, and the capacity without a part.
+/// Fields of numbered parts of few bytes: the type, a text before the parts, a text before each number, the separator,
+/// and the first capacity without a part.
 const PARTS: &[(&str, &str, &str, &str, usize)] = &[
     ("item", "1;", "k", ";", 32),
     ("list", "", "a", ", ", 64),
     ("dict", "", "k", ", ", 64),
 ];
 
+// A text that is full doubles its capacity.
 #[test]
 fn a_text_requests_eight_bytes_for_each_of_a_thousand_parts(rt: HostRuntime) -> Result<(), Fail> {
     let alloc = rt.alloc();
-    let mut holds = text_capacity(alloc, "item", "1") == Some(32);
+    let mut holds = has_capacity(alloc, "item", "1", 32);
     for &(field, begin, front, separator, least) in PARTS {
-        for &count in COUNTS {
-            let text = counted(alloc, begin, front, separator, "", count)?;
-            let wanted = 8 * count.min(1_000);
-            holds &= text_capacity(alloc, field, text.as_str())
-                == Some(wanted.saturating_add(least));
+        for &count in numbers(alloc, 601, 100_000)?.iter() {
+            if count > 0 {
+                let text = counted(alloc, begin, front, separator, "", count)?;
+                let first = least.saturating_add(8 * count.min(1_000));
+                holds &= has_capacity(alloc, field, text.as_str(), doubled(first, text.len()));
+            }
         }
     }
     assert!(rt; holds);
     Ok(())
 }
 
-/// Fields of repeated pieces: the type, a text before the pieces, a piece, their number, a text after them, and the
-/// capacity of the canonical text. A text that is full doubles its capacity, or takes what it lacks if that is more.
-const GROWN: &[(&str, &str, &str, usize, &str, usize)] = &[
-    ("item", "a", "b", 31, "", 32),
-    ("item", "a", "b", 32, "", 64),
-    ("item", "a", "b", 64, "", 65),
-    ("item", "\"", "a", 30, "\"", 32),
-    ("item", "\"", "a", 31, "\"", 64),
-    ("item", "\"", "a", 100, "\"", 202),
-    ("item", "\"", "\\\\", 100, "\"", 256),
-    ("item", ":", "aGkh", 7, ":", 32),
-    ("item", ":", "aGkh", 8, ":", 64),
-    ("item", ":", "aGkh", 25, ":", 102),
-    ("item", ":", "aGkh", 1_000, "aA==:", 4_006),
-    ("item", ":", "aGkh", 25_000, "aA==:", 100_006),
-    ("item", "a", "b", 9_000, "", 9_001),
-    ("item", "\"", "a", 10_000, "\"", 20_002),
-    ("list", "(", "a ", 100, "b)", 288),
-    ("list", "a, :", "aGkh", 100, ":", 405),
-    ("dict", "a=(", "b ", 100, "b)", 288),
+/// The place of `tail` in `LENGTHS` for pieces that are appended one by one.
+const EACH: usize = usize::MAX;
+
+/// Fields of repeated pieces: the type, the first capacity, a text before the pieces, a piece, a text after them, and
+/// `tail`: how many bytes are appended after the pieces.
+const LENGTHS: &[(&str, usize, &str, &str, &str, usize)] = &[
+    ("item", 32, "", "b", "", 0),
+    ("item", 32, "\"", "a", "\"", 1),
+    ("item", 32, "\"", "\\\\", "\"", EACH),
+    ("item", 32, ":", "aGkh", ":", 0),
+    ("item", 32, ":", "aGkh", "aA==:", 0),
+    ("item", 32, ":", "aGkh", "aGk=:", 0),
+    ("item", 32, "%\"", "a", "\"", 1),
+    ("item", 32, "%\"", "%c3%bc", "\"", EACH),
+    ("item", 40, "1;", "k", "", 0),
+    ("item", 48, "1;a;b=", "c", "", 0),
+    ("list", 72, "", "b", "", 0),
+    ("list", 80, "", "b", ", a", 3),
+    ("list", 80, "a, :", "aGkh", ":", 0),
+    ("list", 88, "a, b, ", "c", "", 0),
+    ("dict", 72, "", "k", "=b", 2),
+    ("dict", 72, "a=", "b", "", 0),
 ];
 
+// A text that is full doubles its capacity, or takes what it lacks if that is more.
 #[test]
 fn a_text_keeps_at_most_twice_its_length(rt: HostRuntime) -> Result<(), Fail> {
     let alloc = rt.alloc();
     let mut holds = true;
-    for &(field, begin, piece, times, end, wanted) in GROWN {
-        let text = repeated(alloc, begin, piece, times, end)?;
-        holds &= text_capacity(alloc, field, text.as_str()) == Some(wanted);
+    for &(field, first, begin, piece, end, tail) in LENGTHS {
+        let bytes = piece.len().max(1);
+        for &times in numbers(alloc, NEAR / bytes, FAR / bytes)?.iter() {
+            if times > 0 {
+                let text = repeated(alloc, begin, piece, times, end)?;
+                let rest = text.len().saturating_sub(tail);
+                let once = if rest <= first {
+                    first
+                } else {
+                    rest.max(2 * first)
+                };
+                holds &= has_capacity(alloc, field, text.as_str(), doubled(once, text.len()));
+            }
+        }
     }
     assert!(rt; holds);
     Ok(())
 }
 
 /// Returns `true` if an empty list or dictionary appends nothing, and requests no memory.
-fn appends_nothing<T: FieldType>(alloc: Global) -> bool {
+fn appends_nothing<T: FieldType>(alloc: Global, version: Version) -> bool {
     let Ok(field) = Parser::new(b"").parse::<T>(alloc) else {
         return false;
     };
     let mut text = String::new(alloc);
-    match field.append_to(Version::Rfc9651, &mut text) {
+    match field.append_to(version, &mut text) {
         Ok(has_member) => !has_member & (text.capacity() == 0),
         Err(_) => false,
     }
@@ -111,41 +139,224 @@ fn appends_nothing<T: FieldType>(alloc: Global) -> bool {
 
 #[test]
 fn an_empty_field_requests_no_memory(rt: HostRuntime) {
-    assert!(rt; appends_nothing::<List>(rt.alloc()));
-    assert!(rt; appends_nothing::<Dictionary>(rt.alloc()));
+    let alloc = rt.alloc();
+    for &version in versions_of("") {
+        assert!(rt; appends_nothing::<List>(alloc, version));
+        assert!(rt; appends_nothing::<Dictionary>(alloc, version));
+    }
 }
 
-/// Writes the item of the input to one text by a serializer, and to the other one by a script.
-fn write_item(alloc: Global, input: &str, text: &mut String, called: &mut String) -> Option<()> {
-    let item = Parser::new(input.as_bytes()).parse::<Item>(alloc).ok()?;
-    let serializer = ItemSerializer::with_buffer(text);
-    let params = serializer.bare_item(item.bare_item.as_ref_item()).ok()?;
-    params.parameters(item.params.iter()).ok()?.finish();
-    run_item(called, &item_calls(alloc, &item)?).ok()
+/// Returns a text of this many bytes.
+fn long_text(alloc: Global, len: usize) -> Result<String, AllocError> {
+    let mut text = repeated(alloc, "", "a text of thirty-two bytes, or..", len / 32, "")?;
+    for _ in 0..len % 32 {
+        text.push('a')?;
+    }
+    Ok(text)
+}
+
+/// Leaves all but the last `room` of `full` bytes, and a capacity of `full`.
+fn cut(text: &mut String, full: usize, room: usize) -> Option<()> {
+    truncate_to(full.saturating_sub(room), text);
+    text.shrink_to_fit();
+    text.reserve_exact(room).ok()?;
+    if text.capacity() == full {
+        Some(())
+    } else {
+        None
+    }
+}
+
+/// Returns `true` if `wanted` is at the end of the text, and the capacity has grown as needed. If `full` is 0, the
+/// serializer requested `first` bytes.
+fn is_at_end(text: &String, wanted: &str, (full, room): (usize, usize), first: usize) -> bool {
+    let full_or_first = if full == 0 { first } else { full };
+    let len = full.saturating_sub(room).saturating_add(wanted.len());
+    text.as_str().ends_with(wanted)
+        && text.len() == len
+        && is_grown(text.capacity(), full_or_first, len)
+}
+
+/// Writes an item in one of three ways.
+fn write_item(
+    version: Version,
+    way: usize,
+    item: &Item,
+    calls: &ItemCalls<'_>,
+    text: &mut String,
+) -> Option<()> {
+    match way {
+        0 => {
+            item.append_to(version, text).ok()?;
+        }
+        1 => run_item_for(version, text, calls).ok()?,
+        _ => {
+            let serializer = ItemSerializer::with_buffer_for(text, version);
+            let params = serializer.bare_item(item.bare_item.as_ref_item()).ok()?;
+            params.parameters(item.params.iter()).ok()?.finish();
+        }
+    }
+    Some(())
+}
+
+/// Writes a list member by single calls.
+fn put_member<W: Sink>(list: &mut ListSerializer<W>, member: &ListEntry) -> Option<()> {
+    match member {
+        ListEntry::Item(item) => {
+            let params = list.bare_item(item.bare_item.as_ref_item()).ok()?;
+            params.parameters(item.params.iter()).ok()?.finish();
+        }
+        ListEntry::InnerList(inner_list) => {
+            let mut inner = list.inner_list().ok()?;
+            if inner.items(inner_list.items.iter()).is_err() {
+                inner.abandon();
+                return None;
+            }
+            let params = inner.finish().ok()?;
+            params.parameters(inner_list.params.iter()).ok()?.finish();
+        }
+    }
+    Some(())
+}
+
+/// Writes a list in one of four ways. The last one writes it twice.
+fn write_list(
+    version: Version,
+    way: usize,
+    list: &List,
+    calls: &[MemberCalls<'_>],
+    text: &mut String,
+) -> Option<()> {
+    match way {
+        0 => {
+            list.append_to(version, text).ok()?;
+        }
+        1 => {
+            run_list_for(version, text, calls).ok()?;
+        }
+        2 => {
+            let mut serializer = ListSerializer::with_buffer_for(text, version);
+            for member in list.iter() {
+                put_member(&mut serializer, member)?;
+            }
+            let _ = serializer.finish();
+        }
+        _ => {
+            let mut serializer = ListSerializer::with_buffer_for(text, version);
+            serializer.members(list.iter()).ok()?;
+            serializer.members(list.iter()).ok()?;
+            let _ = serializer.finish();
+        }
+    }
+    Some(())
+}
+
+/// Writes a dictionary member by single calls.
+fn put_entry<W: Sink>(
+    dictionary: &mut DictSerializer<W>,
+    key: KeyRef<'_>,
+    member: &ListEntry,
+) -> Option<()> {
+    match member {
+        ListEntry::Item(item) => {
+            let params = dictionary
+                .bare_item(key, item.bare_item.as_ref_item())
+                .ok()?;
+            params.parameters(item.params.iter()).ok()?.finish();
+        }
+        ListEntry::InnerList(inner_list) => {
+            let mut inner = dictionary.inner_list(key).ok()?;
+            if inner.items(inner_list.items.iter()).is_err() {
+                inner.abandon();
+                return None;
+            }
+            let params = inner.finish().ok()?;
+            params.parameters(inner_list.params.iter()).ok()?.finish();
+        }
+    }
+    Some(())
+}
+
+/// Writes a dictionary in one of four ways. The last one writes it twice.
+fn write_dictionary(
+    version: Version,
+    way: usize,
+    dictionary: &Dictionary,
+    calls: &[(KeyRef<'_>, MemberCalls<'_>)],
+    text: &mut String,
+) -> Option<()> {
+    match way {
+        0 => {
+            dictionary.append_to(version, text).ok()?;
+        }
+        1 => {
+            run_dict_for(version, text, calls).ok()?;
+        }
+        2 => {
+            let mut serializer = DictSerializer::with_buffer_for(text, version);
+            for (key, member) in dictionary.iter() {
+                put_entry(&mut serializer, key.as_key_ref(), member)?;
+            }
+            let _ = serializer.finish();
+        }
+        _ => {
+            let mut serializer = DictSerializer::with_buffer_for(text, version);
+            serializer.members(dictionary.iter()).ok()?;
+            serializer.members(dictionary.iter()).ok()?;
+            let _ = serializer.finish();
+        }
+    }
+    Some(())
+}
+
+/// Returns `true` if the item is written in each way into a text that is full after each number of bytes.
+fn item_grows(alloc: Global, version: Version, full: usize, input: &str) -> Option<bool> {
+    let parser = Parser::new(input.as_bytes()).with_version(version);
+    let item = parser.parse::<Item>(alloc).ok()?;
+    let calls = item_calls(alloc, &item)?;
+    let mut text = long_text(alloc, full).ok()?;
+    let mut holds = true;
+    for room in 0..=input.len().min(full) {
+        for way in 0..3usize {
+            if is_room(room, input.len()) {
+                cut(&mut text, full, room)?;
+                write_item(version, way, &item, &calls, &mut text)?;
+                // `append_to` does not request memory first for an item.
+                let first = if way == 0 { 0 } else { 128 };
+                holds &= is_at_end(&text, input, (full, room), first);
+            }
+        }
+    }
+    Some(holds)
 }
 
 /// The same for a list.
-fn write_list(alloc: Global, input: &str, text: &mut String, called: &mut String) -> Option<()> {
-    let list = Parser::new(input.as_bytes()).parse::<List>(alloc).ok()?;
+fn list_grows(alloc: Global, version: Version, full: usize, input: &str) -> Option<bool> {
+    let parser = Parser::new(input.as_bytes()).with_version(version);
+    let list = parser.parse::<List>(alloc).ok()?;
     let mut calls = Vec::new(alloc);
     for member in list.iter() {
         calls.push(member_calls(alloc, member)?).ok()?;
     }
-    let mut serializer = ListSerializer::with_buffer(text);
-    serializer.members(list.iter()).ok()?;
-    let _ = serializer.finish();
-    run_list(called, &calls[..]).ok()?;
-    Some(())
+    let twice = format!(in alloc; "{input}, {input}").ok()?;
+    let mut text = long_text(alloc, full).ok()?;
+    let mut holds = true;
+    for room in 0..=twice.len().min(full) {
+        for way in 0..4usize {
+            if is_room(room, input.len()) {
+                cut(&mut text, full, room)?;
+                write_list(version, way, &list, &calls[..], &mut text)?;
+                let wanted = if way < 3 { input } else { twice.as_str() };
+                holds &= is_at_end(&text, wanted, (full, room), 128);
+            }
+        }
+    }
+    Some(holds)
 }
 
 /// The same for a dictionary.
-fn write_dictionary(
-    alloc: Global,
-    input: &str,
-    text: &mut String,
-    called: &mut String,
-) -> Option<()> {
-    let parser = Parser::new(input.as_bytes());
+fn dictionary_grows(alloc: Global, version: Version, full: usize, input: &str) -> Option<bool> {
+    let parser = Parser::new(input.as_bytes()).with_version(version);
     let dictionary = parser.parse::<Dictionary>(alloc).ok()?;
     let mut calls: Vec<(KeyRef<'_>, MemberCalls<'_>)> = Vec::new(alloc);
     for (key, member) in dictionary.iter() {
@@ -153,79 +364,45 @@ fn write_dictionary(
             .push((key.as_key_ref(), member_calls(alloc, member)?))
             .ok()?;
     }
-    let mut serializer = DictSerializer::with_buffer(text);
-    serializer.members(dictionary.iter()).ok()?;
-    let _ = serializer.finish();
-    run_dict(called, &calls[..]).ok()?;
-    Some(())
+    let twice = format!(in alloc; "{input}, {input}").ok()?;
+    let mut text = long_text(alloc, full).ok()?;
+    let mut holds = true;
+    for room in 0..=twice.len().min(full) {
+        for way in 0..4usize {
+            if is_room(room, input.len()) {
+                cut(&mut text, full, room)?;
+                write_dictionary(version, way, &dictionary, &calls[..], &mut text)?;
+                let wanted = if way < 3 { input } else { twice.as_str() };
+                holds &= is_at_end(&text, wanted, (full, room), 128);
+            }
+        }
+    }
+    Some(holds)
 }
 
-/// Writes the field of the input after `before`, into two texts of this capacity. Returns their capacity then, if it is
-/// the same, and if both end with the input.
-fn capacity_after(
-    alloc: Global,
-    field: &str,
-    before: &str,
-    room: usize,
-    input: &str,
-) -> Option<usize> {
-    let mut text = String::with_capacity(alloc, room).ok()?;
-    let mut called = String::with_capacity(alloc, room).ok()?;
-    text.push_str(before).ok()?;
-    called.push_str(before).ok()?;
-    match field {
-        "item" => write_item(alloc, input, &mut text, &mut called)?,
-        "list" => write_list(alloc, input, &mut text, &mut called)?,
-        _ => write_dictionary(alloc, input, &mut text, &mut called)?,
-    }
-    if text.as_str().strip_prefix(before)? == input
-        && called.as_str() == text.as_str()
-        && called.capacity() == text.capacity()
-    {
-        return Some(text.capacity());
-    }
-    None
+/// Returns `true` if this room is tried for a text of this length: each one, or a few for a long text.
+fn is_room(room: usize, len: usize) -> bool {
+    len <= 150 || room <= 2 || room == len / 2 || room.saturating_add(2) >= len
 }
 
-/// Appends the field of the input to `before` in a text of this capacity. Returns the capacity then.
-fn appended_capacity<T: FieldType>(
-    alloc: Global,
-    before: &str,
-    room: usize,
-    input: &str,
-) -> Option<usize> {
-    let field = Parser::new(input.as_bytes()).parse::<T>(alloc).ok()?;
-    let mut text = String::with_capacity(alloc, room).ok()?;
-    text.push_str(before).ok()?;
-    field.append_to(Version::Rfc9651, &mut text).ok()?;
-    if text.as_str().strip_prefix(before)? == input {
-        return Some(text.capacity());
+/// Returns `true` if the field of the input is written into texts of so many bytes that are full, or have room for each
+/// number of its bytes.
+fn grows(alloc: Global, field: &str, full: usize, input: &str) -> bool {
+    let mut holds = true;
+    for &version in versions_of(input) {
+        let answer = match field {
+            "item" => item_grows(alloc, version, full, input),
+            "list" => list_grows(alloc, version, full, input),
+            _ => dictionary_grows(alloc, version, full, input),
+        };
+        holds &= answer == Some(true);
     }
-    None
-}
-
-/// The same for the item, list or dictionary of the input.
-fn capacity_appended(
-    alloc: Global,
-    field: &str,
-    before: &str,
-    room: usize,
-    input: &str,
-) -> Option<usize> {
-    match field {
-        "item" => appended_capacity::<Item>(alloc, before, room, input),
-        "list" => appended_capacity::<List>(alloc, before, room, input),
-        _ => appended_capacity::<Dictionary>(alloc, before, room, input),
-    }
+    holds
 }
 
 /// Values of each kind and of each number of digits.
 const VALUES: &[&str] = &[
     "0",
-    "12",
-    "123",
-    "1234",
-    "-5",
     "-999999999999999",
     "0.5",
     "-12.25",
@@ -241,10 +418,13 @@ const VALUES: &[&str] = &[
     ":aGk=:",
     ":aGVsbG8sIGhlbGxvLCBoZWxsbywgaGVsbG8sIGhlbGxvIQ==:",
     "?0",
+    "\"!#$&'()*+,-./0123456789:;<=>?[]^_`{|}~ \"",
     "@0",
     "@-1659578233",
     "%\"\"",
     "%\"f%c3%bcr\"",
+    "%\"%00%01%1f%22%25%7f\"",
+    "%\"%c2%80%df%bf%e0%a0%80%ef%bf%bf%f0%90%80%80%f4%8f%bf%bf\"",
     "%\"a long display string of more than thirty-two bytes, %22as this one%22\"",
 ];
 
@@ -258,37 +438,103 @@ const PLACES: &[(&str, &str)] = &[
     ("dict", "a=$;k=$, b=($ $;k=$);k=$, c;k=$, d=()"),
 ];
 
+/// Canonical fields with parts of each kind.
+const MIXED: &[(&str, &str)] = &[
+    ("item", "\"a\\\"b\";k=12;l=-1.5;m;n=tok;o=:aGk=:;p=?0"),
+    ("item", "@12;k=%\"%22\";l=@-1;m=100"),
+    (
+        "list",
+        "?1, (tok \"s\";l=?0 ?1;m);n, -12;o=1.25, :aA==:, ()",
+    ),
+    ("list", "@1, (@12 %\"%7f\");k=@1, 7"),
+    (
+        "dict",
+        "a, b=(?1 tok;k \"s\");l=7, long-key=-12;m=1.5, d=:aGkh:, e=()",
+    ),
+    ("dict", "a=@1;k=%\"a\", b=(@-12);l, c=%\"%25\""),
+];
+
 #[test]
-fn a_text_with_exact_room_keeps_its_capacity(rt: HostRuntime) -> Result<(), Fail> {
+fn a_text_grows_at_each_byte(rt: HostRuntime) -> Result<(), Fail> {
     let alloc = rt.alloc();
     let mut holds = true;
-    for &(field, place) in PLACES {
-        for &value in VALUES {
-            let text = filled(alloc, place, value)?;
-            let room = text.len() + "X: ".len();
-            holds &= capacity_after(alloc, field, "X: ", room, text.as_str()) == Some(room);
-            holds &= capacity_appended(alloc, field, "X: ", room, text.as_str()) == Some(room);
-            let room = text.len();
-            holds &= capacity_after(alloc, field, "", room, text.as_str()) == Some(room);
-            holds &= capacity_appended(alloc, field, "", room, text.as_str()) == Some(room);
+    for &full in &[0, 64, 500, 2_048, 5_000] {
+        for &(field, place) in PLACES {
+            for &value in VALUES {
+                let text = filled(alloc, place, value)?;
+                holds &= grows(alloc, field, full, text.as_str());
+            }
         }
     }
     assert!(rt; holds);
     Ok(())
 }
 
-// A part that does not fit must make the text grow, whatever byte it begins at.
 #[test]
-fn a_text_grows_at_each_byte(rt: HostRuntime) -> Result<(), Fail> {
+fn a_text_grows_at_each_number(rt: HostRuntime) -> Result<(), Fail> {
     let alloc = rt.alloc();
     let mut holds = true;
-    for &(field, place) in PLACES {
-        for &value in VALUES {
-            let text = filled(alloc, place, value)?;
-            for room in 0..text.len() {
-                let room = room.saturating_add("X: ".len());
-                holds &= capacity_after(alloc, field, "X: ", room, text.as_str()).is_some();
-                holds &= capacity_appended(alloc, field, "X: ", room, text.as_str()).is_some();
+    for &number in numbers(alloc, 1_101, 999_999_999_999_999)?.iter() {
+        if number > 0 {
+            let less = number.min(999_999_999_999);
+            let text = format!(in alloc; "{number}, -{number}, {less}.5, -{less}.125")?;
+            holds &= grows(alloc, "list", 200, text.as_str());
+            let text = format!(in alloc; "k=@{number}, l=@-{number};m={number}")?;
+            holds &= grows(alloc, "dict", 200, text.as_str());
+        }
+    }
+    assert!(rt; holds);
+    Ok(())
+}
+
+#[test]
+fn a_text_grows_at_each_length_of_its_parts(rt: HostRuntime) -> Result<(), Fail> {
+    let alloc = rt.alloc();
+    let mut holds = true;
+    for &(front, piece, end, _) in TEXTS {
+        for &times in numbers(alloc, 601, NEAR)?.iter() {
+            if times > 0 {
+                let text = repeated(alloc, front, piece, times, end)?;
+                let list = filled(alloc, "($), $", text.as_str())?;
+                holds &= grows(alloc, "item", 0, text.as_str());
+                holds &= grows(alloc, "item", text.len(), text.as_str());
+                holds &= grows(alloc, "list", list.len(), list.as_str());
+            }
+        }
+    }
+    for &len in numbers(alloc, 601, NEAR)?.iter() {
+        let key = repeated(alloc, "k", "a", len, "")?;
+        let text = filled(alloc, "$=(b);$, l$;$", key.as_str())?;
+        holds &= grows(alloc, "dict", text.len(), text.as_str());
+    }
+    assert!(rt; holds);
+    Ok(())
+}
+
+#[test]
+fn a_text_of_each_length_grows(rt: HostRuntime) -> Result<(), Fail> {
+    let alloc = rt.alloc();
+    let mut holds = true;
+    for &(field, text) in MIXED {
+        for &full in numbers(alloc, 0, 33_554_432)?.iter() {
+            holds &= grows(alloc, field, full, text);
+        }
+    }
+    assert!(rt; holds);
+    Ok(())
+}
+
+#[test]
+fn a_text_grows_at_each_separator(rt: HostRuntime) -> Result<(), Fail> {
+    let alloc = rt.alloc();
+    let mut holds = true;
+    for &full in numbers(alloc, 0, FAR)?.iter() {
+        for &separator in &[", ", " ", ",", ";", "; ", "\r\n"] {
+            let mut text = long_text(alloc, full)?;
+            for room in 0..=2usize.min(full) {
+                holds &= cut(&mut text, full, room).is_some();
+                holds &= serialize_separator(false, separator, &mut text).is_ok();
+                holds &= is_at_end(&text, separator, (full, room), 0);
             }
         }
     }
@@ -297,77 +543,56 @@ fn a_text_grows_at_each_byte(rt: HostRuntime) -> Result<(), Fail> {
 }
 
 /// Returns `true` if serializers without a member leave the text and its capacity.
-fn finish_keeps(text: &mut String, version: Version) -> bool {
-    let (len, capacity) = (text.len(), text.capacity());
-    let is_list_none = ListSerializer::with_buffer_for(text, version)
-        .finish()
-        .is_none();
-    let is_dictionary_none = DictSerializer::with_buffer_for(text, version)
-        .finish()
-        .is_none();
-    is_list_none && is_dictionary_none && text.len() == len && text.capacity() == capacity
+fn finish_keeps(alloc: Global, version: Version, full: usize, room: usize) -> Option<bool> {
+    let mut text = long_text(alloc, full).ok()?;
+    cut(&mut text, full, room)?;
+    let (list, dictionary) = (List::new(alloc), sfv::dictionary(alloc));
+    let mut serializer = ListSerializer::with_buffer_for(&mut text, version);
+    serializer.members(list.iter()).ok()?;
+    let is_list_none = serializer.finish().is_none();
+    let mut serializer = DictSerializer::with_buffer_for(&mut text, version);
+    serializer.members(dictionary.iter()).ok()?;
+    let is_none = is_list_none && serializer.finish().is_none();
+    let has_list = run_list_for(version, &mut text, &[]).ok()?;
+    let has_member = has_list || run_dict_for(version, &mut text, &[]).ok()?;
+    let is_kept = text.len() == full.saturating_sub(room) && text.capacity() == full;
+    Some(is_none && !has_member && is_kept)
 }
 
 #[test]
 fn finish_without_a_member_keeps_the_text(rt: HostRuntime) -> Result<(), Fail> {
     let alloc = rt.alloc();
     let mut holds = true;
-    for times in 0..2_000 {
-        let mut text = repeated(alloc, "", "a", times, "")?;
-        holds &= finish_keeps(&mut text, Version::Rfc9651);
-        text.push('b')?;
-        holds &= finish_keeps(&mut text, Version::Rfc8941) && text.as_str().ends_with("b");
+    for &full in numbers(alloc, 2_001, 33_554_432)?.iter() {
+        for &version in versions_of("") {
+            holds &= finish_keeps(alloc, version, full, 0) == Some(true);
+            holds &= finish_keeps(alloc, version, full, full.min(100)) == Some(true);
+        }
     }
     assert!(rt; holds);
     Ok(())
 }
 
-/// Fields, and the capacity of a text that had no memory before.
-const FIRST: &[(&str, &str, usize)] = &[
-    ("item", "1", 128),
-    ("item", "\"a\";k=:aGk=:", 128),
-    ("list", "a", 128),
-    ("list", "()", 128),
-    ("list", "(a 1.5);k, @1", 128),
-    ("dict", "a", 128),
-    ("dict", "a=(), b=?0", 128),
-    ("dict", "a=(1;b %\"a\")", 128),
-];
-
-#[test]
-fn a_serializer_requests_128_bytes(rt: HostRuntime) -> Result<(), Fail> {
-    let alloc = rt.alloc();
-    let mut holds = true;
-    for &(field, input, wanted) in FIRST {
-        holds &= capacity_after(alloc, field, "", 0, input) == Some(wanted);
-    }
-    // A field of 128 bytes, of 129 bytes, and of more than twice as many.
-    for &(times, wanted) in &[(127, 128), (128, 256), (299, 300)] {
-        let token = repeated(alloc, "a", "b", times, "")?;
-        holds &= capacity_after(alloc, "item", "", 0, token.as_str()) == Some(wanted);
-        holds &= capacity_after(alloc, "list", "", 0, token.as_str()) == Some(wanted);
-    }
-    assert!(rt; holds);
-    Ok(())
-}
-
-/// Returns `true` if RFC 8941 lacks the first value of the list, and no call requests memory.
-fn requests_none_for_list(alloc: Global, input: &str) -> Option<bool> {
+/// Returns `true` if RFC 8941 lacks a value of the list, and no call requests memory for a text of so many bytes.
+fn requests_none_for_list(alloc: Global, input: &str, full: usize) -> Option<bool> {
     let list = Parser::new(input.as_bytes()).parse::<List>(alloc).ok()?;
     let mut calls = Vec::new(alloc);
     for member in list.iter() {
         calls.push(member_calls(alloc, member)?).ok()?;
     }
-    let (mut text, mut called) = (String::new(alloc), String::new(alloc));
+    let mut text = long_text(alloc, full).ok()?;
+    cut(&mut text, full, 0)?;
     let mut serializer = ListSerializer::with_buffer_for(&mut text, Version::Rfc8941);
     let is_written = serializer.members(list.iter()).is_ok();
     let _ = serializer.finish();
-    let is_called = run_list_for(Version::Rfc8941, &mut called, &calls[..]).is_ok();
-    Some(!is_written && !is_called && text.capacity() == 0 && called.capacity() == 0)
+    let is_called = run_list_for(Version::Rfc8941, &mut text, &calls[..]).is_ok();
+    let is_appended = list.append_to(Version::Rfc8941, &mut text).is_ok();
+    let is_kept = text.len() == full && text.capacity() == full;
+    Some(is_kept && !is_written && !is_called && !is_appended)
 }
 
 /// The same for a dictionary.
-fn requests_none_for_dictionary(alloc: Global, input: &str) -> Option<bool> {
+fn requests_none_for_dictionary(alloc: Global, input: &str, full: usize) -> Option<bool> {
     let parser = Parser::new(input.as_bytes());
     let dictionary = parser.parse::<Dictionary>(alloc).ok()?;
     let mut calls: Vec<(KeyRef<'_>, MemberCalls<'_>)> = Vec::new(alloc);
@@ -376,25 +601,91 @@ fn requests_none_for_dictionary(alloc: Global, input: &str) -> Option<bool> {
             .push((key.as_key_ref(), member_calls(alloc, member)?))
             .ok()?;
     }
-    let (mut text, mut called) = (String::new(alloc), String::new(alloc));
+    let mut text = long_text(alloc, full).ok()?;
+    cut(&mut text, full, 0)?;
     let mut serializer = DictSerializer::with_buffer_for(&mut text, Version::Rfc8941);
     let is_written = serializer.members(dictionary.iter()).is_ok();
     let _ = serializer.finish();
-    let is_called = run_dict_for(Version::Rfc8941, &mut called, &calls[..]).is_ok();
-    Some(!is_written && !is_called && text.capacity() == 0 && called.capacity() == 0)
+    let is_called = run_dict_for(Version::Rfc8941, &mut text, &calls[..]).is_ok();
+    let is_appended = dictionary.append_to(Version::Rfc8941, &mut text).is_ok();
+    let is_kept = text.len() == full && text.capacity() == full;
+    Some(is_kept && !is_written && !is_called && !is_appended)
 }
 
+/// Returns `true` if RFC 8941 lacks a value of the first member, and the calls that write it request no memory for a text
+/// with room for `room` bytes, which are written before that value, and then leave `kept` bytes.
+fn stops_within_room(
+    alloc: Global,
+    field: &str,
+    input: &str,
+    full: usize,
+    (room, kept): (usize, usize),
+) -> Option<bool> {
+    let version = Version::Rfc8941;
+    let mut text = long_text(alloc, full).ok()?;
+    cut(&mut text, full, room)?;
+    let parser = Parser::new(input.as_bytes());
+    let is_put = match field {
+        "item" => {
+            let item = parser.parse::<Item>(alloc).ok()?;
+            let serializer = ItemSerializer::with_buffer_for(&mut text, version);
+            let params = serializer.bare_item(item.bare_item.as_ref_item()).ok()?;
+            params.parameters(item.params.iter()).is_ok()
+        }
+        "list" => {
+            let list = parser.parse::<List>(alloc).ok()?;
+            let mut serializer = ListSerializer::with_buffer_for(&mut text, version);
+            let is_put = put_member(&mut serializer, list.first()?).is_some();
+            let _ = serializer.finish();
+            is_put
+        }
+        _ => {
+            let dictionary = parser.parse::<Dictionary>(alloc).ok()?;
+            let mut serializer = DictSerializer::with_buffer_for(&mut text, version);
+            let (key, member) = dictionary.iter().next()?;
+            let is_put = put_entry(&mut serializer, key.as_key_ref(), member).is_some();
+            let _ = serializer.finish();
+            is_put
+        }
+    };
+    let len = full.saturating_sub(room).saturating_add(kept);
+    Some(text.len() == len && text.capacity() == full && !is_put)
+}
+
+/// Fields whose first member has a value that RFC 8941 lacks: the type, the field, the number of bytes before that value
+/// or its key, and the number of bytes that the calls leave.
+const STOPS: &[(&str, &str, usize, usize)] = &[
+    ("item", "1;a=@1", 1, 1),
+    ("item", "1;a;b=%\"a\"", 3, 1),
+    ("list", "1;a=@1", 1, 1),
+    ("list", "(1 @1)", 2, 0),
+    ("list", "(1 2;a=@1)", 4, 0),
+    ("list", "();a=@1", 2, 2),
+    ("list", "(a);b;c=@1", 5, 3),
+    ("dict", "a;b=@1", 1, 1),
+    ("dict", "a=(1 @1)", 4, 0),
+    ("dict", "a=(1;b=@1)", 4, 0),
+    ("dict", "a=();b=@1", 4, 4),
+];
+
 #[test]
-fn a_first_value_that_the_version_lacks_requests_no_memory(rt: HostRuntime) {
+fn a_value_that_the_version_lacks_requests_no_memory(rt: HostRuntime) -> Result<(), Fail> {
     let alloc = rt.alloc();
     let mut holds = true;
-    for &member in &["@1", "%\"a\"", "1;a=@1", "(1 @1)", "();a=@1"] {
-        holds &= requests_none_for_list(alloc, member) == Some(true);
-    }
-    for &member in &["a=@1", "a=%\"a\", b", "a;b=@1", "a=(1 @1)", "a=();b=@1"] {
-        holds &= requests_none_for_dictionary(alloc, member) == Some(true);
+    for &full in numbers(alloc, 0, FAR)?.iter() {
+        for &member in &["@1", "%\"a\"", "1;a=@1", "(1 @1)", "();a=@1"] {
+            holds &= requests_none_for_list(alloc, member, full) == Some(true);
+        }
+        for &member in &["a=@1", "a=%\"a\", b", "a;b=@1", "a=(1 @1)", "a=();b=@1"] {
+            holds &= requests_none_for_dictionary(alloc, member, full) == Some(true);
+        }
+        for &(field, input, room, kept) in STOPS {
+            holds &= full < room
+                || stops_within_room(alloc, field, input, full, (room, kept)) == Some(true);
+        }
     }
     assert!(rt; holds);
+    Ok(())
 }
 
 /// Returns the length and the capacity of the text or the bytes of a bare item.
@@ -425,13 +716,23 @@ fn is_exact(value: BareItem) -> bool {
     }
 }
 
+/// Returns `true` if the string or the bytes that the input parses to have this capacity.
+fn holds_text(alloc: Global, parser: Parser<'_>, wanted: usize) -> bool {
+    if let Ok(StringFromInput::Owned(text)) = parser.parse_item::<StringFromInput<'_>>(alloc) {
+        return text.into_string().capacity() == wanted;
+    }
+    match parser.parse_item::<Vec<u8>>(alloc) {
+        Ok(bytes) => bytes.capacity() == wanted,
+        Err(_) => true,
+    }
+}
+
 /// Returns `true` if the bare item that the input parses to has this capacity by each call that parses it, and if its
 /// copies have no unused memory.
-fn holds_bytes(alloc: Global, input: &str, wanted: usize) -> Option<bool> {
-    let parser = Parser::new(input.as_bytes());
+fn holds_bytes(alloc: Global, parser: Parser<'_>, wanted: usize) -> Option<bool> {
     let builder = ItemBuilder::new(alloc, parser.hash_seed());
     let built = parser.parse_item_with_visitor(alloc, builder).ok()?;
-    let mut holds = keeps(built.bare_item, wanted);
+    let mut holds = keeps(built.bare_item, wanted) && holds_text(alloc, parser, wanted);
     holds &= keeps(parser.parse_item::<BareItem>(alloc).ok()?, wanted);
     let read = parser.parse_item::<BareItemFromInput<'_>>(alloc).ok()?;
     holds &= keeps(read.try_into_owned(alloc).ok()?, wanted);
@@ -442,38 +743,48 @@ fn holds_bytes(alloc: Global, input: &str, wanted: usize) -> Option<bool> {
     Some(holds)
 }
 
-/// Bare items of repeated pieces: a text before the pieces, a piece, their number, a text after them, and the capacity
-/// of the owned text. A text with escapes begins with the bytes before the first one, and doubles its capacity, to at
-/// least eight.
-const OWNED: &[(&str, &str, usize, &str, usize)] = &[
-    ("a", "b", 0, "", 1),
-    ("a", "b", 99, "", 100),
-    ("\"", "a", 0, "\"", 0),
-    ("\"", "a", 100, "\"", 100),
-    ("\"", "\\\\", 1, "\"", 8),
-    ("\"", "\\\\", 9, "\"", 16),
-    ("\"", "a", 20, "\\\\\"", 40),
-    (":", "aGkh", 0, ":", 0),
-    (":", "aGkh", 0, "aA==:", 1),
-    (":", "aGkh", 33, "aGk=:", 101),
-    (":", "aGkh", 1_000, "aA:", 3_001),
-    (":", "aGkh", 25_000, "aA:", 75_001),
-    ("a", "b", 9_999, "", 10_000),
-    ("\"", "a", 10_000, "\"", 10_000),
-    ("\"", "\\\\", 9_000, "\"", 16_384),
-    ("%\"", "a", 20_000, "%c3%bc\"", 40_000),
-    ("%\"", "a", 100, "\"", 100),
-    ("%\"", "%c3%bc", 1, "\"", 8),
-    ("%\"", "a", 20, "%c3%bc\"", 40),
+/// Bare items of repeated pieces: a text before the pieces, a piece, a text after them; how many bytes each piece has and
+/// how many come after the pieces; and whether the pieces have escapes.
+const OWNED: &[(&str, &str, &str, usize, usize, bool)] = &[
+    ("", "b", "", 1, 0, false),
+    ("\"", "a", "\"", 1, 0, false),
+    ("\"", "\\\\", "\"", 1, 0, true),
+    ("\"", "a", "\\\"\"", 1, 1, false),
+    (":", "aGkh", ":", 3, 0, false),
+    (":", "aGkh", "aA==:", 3, 1, false),
+    (":", "aGkh", "aGk=:", 3, 2, false),
+    (":", "aGkh", "aA:", 3, 1, false),
+    (":", "aGkh", "aGk:", 3, 2, false),
+    ("%\"", "a", "\"", 1, 0, false),
+    ("%\"", "%c3%bc", "\"", 2, 0, true),
+    ("%\"", "a", "%c3%bc\"", 1, 2, false),
 ];
+
+/// Returns the capacity of an owned text. Byte sequences, and texts without escapes, have no unused memory. A text with
+/// escapes begins with the bytes before the first one, and doubles its capacity, to at least eight.
+fn owned_capacity(front: &str, pieces: usize, after: usize, is_escaped: bool) -> usize {
+    let len = pieces.saturating_add(after);
+    let plain = if is_escaped { 0 } else { pieces };
+    if front == ":" || plain == len {
+        return len;
+    }
+    doubled(if plain < 4 { 8 } else { plain }, len)
+}
 
 #[test]
 fn owned_texts_have_little_unused_memory(rt: HostRuntime) -> Result<(), Fail> {
     let alloc = rt.alloc();
     let mut holds = true;
-    for &(begin, piece, times, end, wanted) in OWNED {
-        let text = repeated(alloc, begin, piece, times, end)?;
-        holds &= holds_bytes(alloc, text.as_str(), wanted) == Some(true);
+    for &(front, piece, end, bytes, after, is_escaped) in OWNED {
+        for &times in numbers(alloc, 1_101, FAR / piece.len().max(1))?.iter() {
+            let text = repeated(alloc, front, piece, times, end)?;
+            let wanted = owned_capacity(front, bytes.saturating_mul(times), after, is_escaped);
+            for &version in versions_of(front) {
+                let parser = Parser::new(text.as_bytes()).with_version(version);
+                // There is no empty token.
+                holds &= text.is_empty() || holds_bytes(alloc, parser, wanted) == Some(true);
+            }
+        }
     }
     assert!(rt; holds);
     Ok(())
@@ -520,7 +831,7 @@ fn have_exact_keys(alloc: Global, input: &str) -> Option<bool> {
 fn keys_have_no_unused_memory(rt: HostRuntime) -> Result<(), Fail> {
     let alloc = rt.alloc();
     let mut holds = true;
-    for &times in &[0, 1, 7, 8, 9, 100] {
+    for &times in numbers(alloc, 601, FAR)?.iter() {
         let key = repeated(alloc, "a", "b", times, "")?;
         for &place in &["$;$", "$=1;$=2", "$=(a;b);$"] {
             let input = filled(alloc, place, key.as_str())?;

@@ -9,8 +9,6 @@ mod common;
 #[cfg(test)]
 mod kept;
 #[cfg(test)]
-mod lengths;
-#[cfg(test)]
 mod long;
 #[cfg(test)]
 mod memory;

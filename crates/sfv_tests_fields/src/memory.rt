@@ -1,10 +1,14 @@
 //! Failed allocations during serialization, and the text after them.
 
 use linked_list_allocator::LocalHeap;
-use sfv::{Dictionary, FieldType, Item, ItemSerializer, List, OutOfMemory, Parser, RefBareItem};
+use sfv::{
+    Dictionary, Error, FieldType, Item, ItemSerializer, List, OutOfMemory, Parser, RefBareItem,
+};
 use sfv_writer::output::serialize_separator;
 use sfv_writer::serialize_item;
-use std::alloc::Global;
+use std::alloc::{AllocFailed, Global};
+use std::rc::Rc;
+use std::test::Fail;
 
 /// Sizes of a heap, from none to enough for each text below. So each allocation fails at some size.
 const SIZES: std::ops::Range<usize> = 16..640;
@@ -112,4 +116,16 @@ fn a_serializer_requests_memory_for_a_text_without_it(rt: HostRuntime) {
         .bare_item(RefBareItem::from(1u8))
         .is_ok();
     assert!(rt; is_written && text.capacity() == 128);
+}
+
+// A value that was not stored is dropped.
+#[test]
+fn errors_of_a_failed_allocation_drop_its_value(rt: HostRuntime) -> Result<(), Fail> {
+    let value = Rc::new(rt.alloc(), 1u8)?;
+    let copy = value.clone()?;
+    let is_memory = OutOfMemory::from(AllocFailed { value: copy }) == OutOfMemory;
+    let copy = value.clone()?;
+    let is_error = Error::from(AllocFailed { value: copy }).is_out_of_memory();
+    assert!(rt; is_memory && is_error && Rc::strong_count(&value) == 1);
+    Ok(())
 }

@@ -1,6 +1,7 @@
 //! Rejected fields of each length: the kind and the index of the error.
 
-use crate::common::{counted, repeated};
+use crate::common::{NEAR, counted, numbers, repeated};
+use crate::sizes::FAR;
 use sfv::visitor::Ignored;
 use sfv::{Dictionary, Error, ErrorKind, Item, List, ParseError, Parser, Version};
 use std::alloc::Global;
@@ -32,22 +33,28 @@ fn rejects(alloc: Global, parser: Parser<'_>, field: &str, error: Error) -> bool
     }
 }
 
-/// Returns `true` if both versions reject the input with this kind, `back` bytes before its end. RFC 8941 has no display
-/// strings.
-fn is_rejected(alloc: Global, field: &str, input: &str, kind: ErrorKind, back: usize) -> bool {
+/// Returns `true` if the input is rejected with this kind, `back` bytes before its end: up to `NEAR` bytes under both
+/// versions, and otherwise under one, by turns. RFC 8941 has no display strings.
+fn is_rejected(
+    alloc: Global,
+    field: &str,
+    input: &str,
+    (kind, back, is_newer): (ErrorKind, usize, bool),
+    turn: usize,
+) -> bool {
     let error = Error::with_kind(kind, input.len().checked_sub(back));
+    let parser = Parser::new(input.as_bytes());
+    let is_both = input.len() <= NEAR;
     let mut holds = true;
-    for &version in &[Version::Rfc8941, Version::Rfc9651] {
-        if version == Version::Rfc9651 || !input.contains("%\"") {
-            let parser = Parser::new(input.as_bytes()).with_version(version);
-            holds &= rejects(alloc, parser, field, error);
-        }
+    if is_newer || is_both || turn % 2 == 0 {
+        holds &= rejects(alloc, parser, field, error);
+    }
+    if !is_newer && (is_both || turn % 2 == 1) {
+        let older = parser.with_version(Version::Rfc8941);
+        holds &= rejects(alloc, older, field, error);
     }
     holds
 }
-
-/// The numbers of parts or pieces.
-const COUNTS: &[usize] = &[1, 2, 100, 1_001, 4_001, 65_537, 100_001];
 
 /// Fields of numbered parts: the type, the text before the parts, the text before each number, the separator, and the
 /// end. Then the kind of the error, and how many bytes follow its index. Some fields have a backslash, a percent sign or
@@ -70,6 +77,42 @@ const PARTS: &[(&str, &str, &str, &str, &str, ErrorKind, usize)] = &[
         "!",
         ErrorKind::TrailingCharactersAfterParsedValue,
         1,
+    ),
+    (
+        "item",
+        "1;",
+        "k",
+        ";",
+        ";",
+        ErrorKind::ExpectedStartOfKey,
+        0,
+    ),
+    (
+        "list",
+        "1;",
+        "k",
+        ";",
+        ";",
+        ErrorKind::ExpectedStartOfKey,
+        0,
+    ),
+    (
+        "list",
+        "(1;",
+        "k",
+        ";",
+        ";)",
+        ErrorKind::ExpectedStartOfKey,
+        1,
+    ),
+    (
+        "dict",
+        "a;",
+        "k",
+        ";",
+        ";",
+        ErrorKind::ExpectedStartOfKey,
+        0,
     ),
     (
         "list",
@@ -177,9 +220,12 @@ fn fields_of_each_number_of_parts_are_rejected(rt: HostRuntime) -> Result<(), Fa
     let alloc = rt.alloc();
     let mut holds = true;
     for &(field, begin, front, separator, end, kind, back) in PARTS {
-        for &count in COUNTS {
-            let text = counted(alloc, begin, front, separator, end, count)?;
-            holds &= is_rejected(alloc, field, text.as_str(), kind, back);
+        let fault = (kind, back, end.contains("%\""));
+        for (turn, &count) in numbers(alloc, 601, 147_456)?.iter().enumerate() {
+            if count > 0 {
+                let text = counted(alloc, begin, front, separator, end, count)?;
+                holds &= is_rejected(alloc, field, text.as_str(), fault, turn);
+            }
         }
     }
     assert!(rt; holds);
@@ -198,6 +244,8 @@ const PIECES: &[(&str, &str, &str, ErrorKind, usize)] = &[
     ),
     ("\"", "a\\\"", "", ErrorKind::UnterminatedString, 0),
     ("\"", "a", "\n", ErrorKind::InvalidStringCharacter, 1),
+    ("\"", "\\\\", "", ErrorKind::UnterminatedString, 0),
+    ("\"", "\\\\", "\n", ErrorKind::InvalidStringCharacter, 1),
     ("\"", "\\\\", "\\a", ErrorKind::InvalidEscapeSequence, 1),
     (
         "\"",
@@ -249,7 +297,15 @@ const PIECES: &[(&str, &str, &str, ErrorKind, usize)] = &[
         ErrorKind::InvalidDisplayStringCharacter,
         2,
     ),
+    (
+        "%\"",
+        "%c3%bc",
+        "\n\"",
+        ErrorKind::InvalidDisplayStringCharacter,
+        2,
+    ),
     ("%\"", "a", "%", ErrorKind::UnterminatedEscapeSequence, 0),
+    ("%\"", "%20", "", ErrorKind::UnterminatedDisplayString, 0),
 ];
 
 #[test]
@@ -257,9 +313,59 @@ fn items_of_each_length_are_rejected(rt: HostRuntime) -> Result<(), Fail> {
     let alloc = rt.alloc();
     let mut holds = true;
     for &(front, piece, end, kind, back) in PIECES {
-        for &count in COUNTS {
-            let text = repeated(alloc, front, piece, count, end)?;
-            holds &= is_rejected(alloc, "item", text.as_str(), kind, back);
+        let fault = (kind, back, front == "%\"");
+        for (turn, &count) in numbers(alloc, 1_101, FAR / piece.len().max(1))?
+            .iter()
+            .enumerate()
+        {
+            if count > 0 {
+                let text = repeated(alloc, front, piece, count, end)?;
+                holds &= is_rejected(alloc, "item", text.as_str(), fault, turn);
+            }
+        }
+    }
+    assert!(rt; holds);
+    Ok(())
+}
+
+/// Returns the error of a byte after an item of `len` bytes, if there is one. `is_key` says whether the item ends with a
+/// key.
+fn error_after(byte: u8, len: usize, is_key: bool) -> Option<Error> {
+    match byte {
+        b' ' => None,
+        b';' => Some(Error::at(ErrorKind::ExpectedStartOfKey, len.saturating_add(1))),
+        b'=' if is_key => Some(Error::at(
+            ErrorKind::ExpectedStartOfBareItem,
+            len.saturating_add(1),
+        )),
+        b'a'..=b'z' | b'0'..=b'9' | b'_' | b'-' | b'.' | b'*' if is_key => None,
+        _ => Some(Error::at(ErrorKind::TrailingCharactersAfterParsedValue, len)),
+    }
+}
+
+#[test]
+fn each_byte_after_an_item_has_its_error(rt: HostRuntime) -> Result<(), Fail> {
+    let alloc = rt.alloc();
+    let mut holds = true;
+    for &(item, is_key) in &[
+        (":aGk=:", false),
+        ("\"\\\\\"", false),
+        ("1;a", true),
+        ("\"\\\\\";a", true),
+    ] {
+        for byte in 0..=255u8 {
+            let mut input = Vec::new(alloc);
+            input.extend_from_slice(item.as_bytes())?;
+            input.push(byte)?;
+            let wanted = error_after(byte, item.len(), is_key);
+            for &version in &[Version::Rfc8941, Version::Rfc9651] {
+                let parser = Parser::new(&input[..]).with_version(version);
+                holds &= parser.parse::<Item>(alloc).err() == wanted;
+                holds &= match wanted {
+                    Some(error) => is_syntax(parser.parse_item_with_visitor(alloc, Ignored), error),
+                    None => parser.parse_item_with_visitor(alloc, Ignored).is_ok(),
+                };
+            }
         }
     }
     assert!(rt; holds);

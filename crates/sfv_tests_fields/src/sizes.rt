@@ -1,7 +1,7 @@
 //! Fields of many sizes. With memory to spare, each call that allocates returns its usual result, whatever the size, the
 //! kind of value and the version.
 
-use crate::common::repeated;
+use crate::common::{NEAR, OLDER, field_of, is_grown, map_capacity, numbers, repeated, version_of};
 use sfv::script::{ItemCalls, MemberCalls, ParamCall, run_dict_for, run_item_for, run_list_for};
 use sfv::visitor::{DictionaryBuilder, ItemBuilder, ListBuilder};
 use sfv::{
@@ -10,65 +10,63 @@ use sfv::{
     insert_entry, insert_param,
 };
 use std::alloc::Global;
-use std::fmt::Write;
 use std::test::Fail;
 
-/// The numbers of parts.
-const COUNTS: &[usize] = &[0, 1, 2, 9, 17, 65, 257, 1_000, 4_001, 100_001];
+/// The most parts of a field.
+const MOST_PARTS: usize = 200_000;
 
-/// Fields of numbered parts: the type, a text before the parts, a part, the separator, and a text after the parts. A part
-/// has its number in the place of `#`, and a value in the place of `$`.
-const FIELDS: &[(&str, &str, &str, &str, &str)] = &[
-    ("list", "", "$", ", ", ""),
-    ("list", "(", "$", " ", ")"),
-    ("list", "", "($)", ", ", ""),
-    ("item", "1", ";k#=$", "", ""),
-    ("list", "1", ";k#=$", "", ""),
-    ("list", "()", ";k#=$", "", ""),
-    ("list", "(1", ";k#=$", "", ")"),
-    ("dict", "", "k#=$", ", ", ""),
-    ("dict", "a=(", "$", " ", ")"),
-    ("dict", "a", ";k#=$", "", ""),
+/// Fields of numbered parts: the type, the arguments `dense` and `most` of `numbers`, and the arguments of `field_of`.
+const FIELDS: &[(&str, usize, usize, (&str, &str, &str, &str))] = &[
+    ("list", 601, MOST_PARTS, ("", "$", ", ", "")),
+    ("list", 601, NEAR, ("", "$;a", ", ", "")),
+    ("list", 601, 50_000, ("(", "$;a", " ", ")")),
+    ("list", 601, MOST_PARTS, ("(", "$", " ", ");b")),
+    ("list", 601, MOST_PARTS, ("", "($)", ", ", "")),
+    ("list", 0, NEAR, ("", "($);k~", ", ", "")),
+    ("list", 0, NEAR, ("1", ";k#~", "", "")),
+    ("list", 0, NEAR, ("()", ";k#~", "", "")),
+    ("list", 0, NEAR, ("(1", ";k#~", "", ")")),
+    ("item", 601, MOST_PARTS, ("1", ";k#~", "", "")),
+    ("item", 601, NEAR, ("a", ";k#", "", "")),
+    ("dict", 601, MOST_PARTS, ("", "k#~", ", ", "")),
+    ("dict", 601, NEAR, ("", "k#;a", ", ", "")),
+    ("dict", 0, NEAR, ("", "k#=($;b~ $);c", ", ", "")),
+    ("dict", 0, NEAR, ("a=(", "$", " ", ");b")),
+    ("dict", 0, NEAR, ("a", ";k#~", "", "")),
 ];
 
-/// A value of each kind, and whether RFC 8941 has it.
-const VALUES: &[(&str, bool)] = &[
-    ("-1", true),
-    ("1.5", true),
-    ("\"a\\\"b\"", true),
-    ("tok", true),
-    (":aGk=:", true),
-    ("?0", true),
-    ("@12", false),
-    ("%\"f%c3%bcr\"", false),
-];
+/// The most bytes of a text.
+const MOST_BYTES: usize = 33_554_432;
 
-/// The numbers of pieces of a text. The last one makes more than a megabyte.
-const LENGTHS: &[usize] = &[
-    0, 1, 7, 8, 9, 31, 32, 33, 63, 64, 65, 255, 256, 257, 4_096, 65_537, 200_000, 1_048_577,
-];
+/// The most bytes of a text that is not a power of two.
+pub const FAR: usize = 2_097_152;
 
 /// Texts: a text before the pieces, a piece, and a text after them; and whether RFC 8941 has such a value.
-const TEXTS: &[(&str, &str, &str, bool)] = &[
+pub const TEXTS: &[(&str, &str, &str, bool)] = &[
+    ("", "b", "", true),
     ("\"", "a", "\"", true),
     ("\"", "\\\\", "\"", true),
-    ("a", "b", "", true),
+    ("\"", "a", "\\\\\"", true),
     (":", "aGkh", ":", true),
-    (":", "aGkh", "aA==:", true),
     ("%\"", "a", "\"", false),
     ("%\"", "%c3%bc", "\"", false),
+    ("%\"", "a", "%c3%bc\"", false),
 ];
 
-/// Fields with a text in the place of `$`.
-const PLACES: &[(&str, &str)] = &[
+/// Fields with a text in the place of `$`, for short texts and for long ones.
+const SHORT: &[(&str, &str)] = &[("item", "$;k=$"), ("dict", "a=$;k=$, b=($;k=$);k=$")];
+
+const LONG: &[(&str, &str)] = &[
     ("item", "$"),
     ("item", "1;k=$"),
-    ("list", "($;k=$)"),
+    ("list", "$"),
     ("dict", "a=$"),
 ];
 
 /// Fields with a key in the place of `$`.
 const KEYS: &[(&str, &str)] = &[("item", "1;$"), ("list", "();$=?0"), ("dict", "$;$=2")];
+
+const LONG_KEYS: &[(&str, &str)] = &[("dict", "$;$")];
 
 /// Returns the text of a field with this text in the place of each `$`.
 pub fn filled(alloc: Global, place: &str, text: &str) -> Result<String, Fail> {
@@ -82,29 +80,14 @@ pub fn filled(alloc: Global, place: &str, text: &str) -> Result<String, Fail> {
     Ok(all)
 }
 
-/// Returns the text of a field with so many parts.
-pub fn field_of(
-    alloc: Global,
-    (begin, part, separator, end): (&str, &str, &str, &str),
-    value: &str,
-    count: usize,
-) -> Result<String, Fail> {
-    let mut text = String::from_str(alloc, begin)?;
-    let (name, value) = match part.split_once('$') {
-        Some((name, rest)) => (name, format!(in alloc; "{value}{rest}")?),
-        None => (part, String::new(alloc)),
-    };
-    for number in 0..count {
-        if number > 0 {
-            text.push_str(separator)?;
-        }
-        match name.split_once('#') {
-            Some((front, back)) => write!(text, "{front}{number}{back}{value}")?,
-            None => write!(text, "{name}{value}")?,
-        }
-    }
-    text.push_str(end)?;
-    Ok(text)
+/// Returns an empty text of half the capacity that the wanted text needs.
+fn half_room(alloc: Global, wanted: &str) -> Option<String> {
+    String::with_capacity(alloc, wanted.len().div_ceil(2)).ok()
+}
+
+/// Returns `true` if the text of `half_room` is `wanted`, and has doubled its capacity if that is needed.
+fn is_written(text: &String, wanted: &str) -> bool {
+    text.as_str() == wanted && is_grown(text.capacity(), wanted.len().div_ceil(2), wanted.len())
 }
 
 /// Returns `true` if the text is `wanted`, or if there is none and `wanted` is empty.
@@ -193,11 +176,31 @@ fn is_built_item(alloc: Global, parser: Parser<'_>, item: &Item) -> Option<bool>
     Some(built == *item)
 }
 
-/// Returns `true` if a copy of the item and one of its parameters are equal to them.
+/// Returns `true` if the parameters of the item have no unused memory.
+fn is_exact_item(item: &Item) -> bool {
+    item.params.capacity() == item.params.len()
+}
+
+/// Returns `true` if the parameters and the items of the member have no unused memory.
+fn is_exact_member(member: &ListEntry) -> bool {
+    match member {
+        ListEntry::Item(item) => is_exact_item(item),
+        ListEntry::InnerList(list) => {
+            let mut holds = list.params.capacity() == list.params.len();
+            for item in list.items.iter() {
+                holds &= is_exact_item(item);
+            }
+            holds && list.items.capacity() == list.items.len()
+        }
+    }
+}
+
+/// Returns `true` if a copy of the item and one of its parameters are equal to them, and have little unused memory.
 fn is_copied_item(alloc: Global, item: &Item) -> Option<bool> {
     let copy = item.clone().ok()?;
     let params = inserted_params(alloc, &item.params)?;
-    Some(copy == *item && params == item.params)
+    let is_kept = is_exact_item(&copy) && params.capacity() == map_capacity(params.len());
+    Some(copy == *item && params == item.params && is_kept)
 }
 
 /// Returns `true` if the parser reads this bare item, owned and borrowed, and a copy is equal to it.
@@ -211,18 +214,18 @@ fn is_bare_item(alloc: Global, parser: Parser<'_>, value: &BareItem) -> Option<b
 
 /// Returns `true` if `ItemSerializer` writes this text.
 fn is_item_text(alloc: Global, version: Version, item: &Item, text: &str) -> Option<bool> {
-    let mut written = String::new(alloc);
+    let mut written = half_room(alloc, text)?;
     let serializer = ItemSerializer::with_buffer_for(&mut written, version);
     let serializer = serializer.bare_item(item.bare_item.as_ref_item()).ok()?;
     serializer.parameters(item.params.iter()).ok()?.finish();
-    Some(written.as_str() == text)
+    Some(is_written(&written, text))
 }
 
 /// Returns `true` if the calls of the item write this text.
 fn is_item_called(alloc: Global, version: Version, item: &Item, text: &str) -> Option<bool> {
-    let mut called = String::new(alloc);
+    let mut called = half_room(alloc, text)?;
     run_item_for(version, &mut called, &item_calls(alloc, item)?).ok()?;
-    Some(called.as_str() == text)
+    Some(is_written(&called, text))
 }
 
 /// Reads, copies and writes an item.
@@ -246,22 +249,32 @@ fn is_built_list(alloc: Global, parser: Parser<'_>, list: &List) -> Option<bool>
     Some(built == *list)
 }
 
-/// Returns `true` if each member is equal to its copy.
-fn are_copied(list: &List) -> Option<bool> {
+/// Returns `true` if a new item or inner list with the contents of the member has no memory for parameters.
+fn is_new_bare(alloc: Global, member: ListEntry) -> bool {
+    match member {
+        ListEntry::Item(item) => Item::new(alloc, item.bare_item).params.capacity() == 0,
+        ListEntry::InnerList(list) => InnerList::new(alloc, list.items).params.capacity() == 0,
+    }
+}
+
+/// Returns `true` if each member is equal to its copy, which has no unused memory.
+fn are_copied(alloc: Global, list: &List) -> Option<bool> {
     let mut holds = true;
     for member in list.iter() {
-        holds &= member.clone().ok()? == *member;
+        let copy = member.clone().ok()?;
+        holds &= copy == *member && is_exact_member(&copy);
+        holds &= is_new_bare(alloc, copy);
     }
     Some(holds)
 }
 
 /// Returns `true` if `ListSerializer` writes this text.
 fn is_list_text(alloc: Global, version: Version, list: &List, text: &str) -> Option<bool> {
-    let mut written = String::new(alloc);
+    let mut written = half_room(alloc, text)?;
     let mut serializer = ListSerializer::with_buffer_for(&mut written, version);
     serializer.members(list.iter()).ok()?;
     let _ = serializer.finish();
-    Some(written.as_str() == text)
+    Some(is_written(&written, text))
 }
 
 /// Returns `true` if the calls of the list write this text.
@@ -270,9 +283,9 @@ fn is_list_called(alloc: Global, version: Version, list: &List, text: &str) -> O
     for member in list.iter() {
         calls.push(member_calls(alloc, member)?).ok()?;
     }
-    let mut called = String::new(alloc);
+    let mut called = half_room(alloc, text)?;
     run_list_for(version, &mut called, &calls[..]).ok()?;
-    Some(called.as_str() == text)
+    Some(is_written(&called, text))
 }
 
 /// Reads, copies and writes a list.
@@ -281,7 +294,7 @@ fn list_holds(alloc: Global, version: Version, text: &str) -> Option<bool> {
     let list = parser.parse::<List>(alloc).ok()?;
     Some(
         is_built_list(alloc, parser, &list)?
-            && are_copied(&list)?
+            && are_copied(alloc, &list)?
             && is_list_text(alloc, version, &list, text)?
             && is_list_called(alloc, version, &list, text)?
             && is_serialized(alloc, version, &list, text),
@@ -295,13 +308,16 @@ fn is_built_dictionary(alloc: Global, parser: Parser<'_>, dictionary: &Dictionar
     Some(built == *dictionary)
 }
 
-/// Returns `true` if the dictionary of copies of the members is equal.
+/// Returns `true` if the dictionary of copies of the members is equal, and has little unused memory.
 fn is_copied_dictionary(alloc: Global, dictionary: &Dictionary) -> Option<bool> {
     let mut copy = sfv::dictionary(alloc);
+    let mut holds = true;
     for (key, member) in dictionary.iter() {
-        insert_entry(&mut copy, key.clone().ok()?, member.clone().ok()?).ok()?;
+        let member = member.clone().ok()?;
+        holds &= is_exact_member(&member);
+        insert_entry(&mut copy, key.clone().ok()?, member).ok()?;
     }
-    Some(copy == *dictionary)
+    Some(holds && copy == *dictionary && copy.capacity() == map_capacity(copy.len()))
 }
 
 /// Returns `true` if `DictSerializer` writes this text.
@@ -311,11 +327,11 @@ fn is_dictionary_text(
     dictionary: &Dictionary,
     text: &str,
 ) -> Option<bool> {
-    let mut written = String::new(alloc);
+    let mut written = half_room(alloc, text)?;
     let mut serializer = DictSerializer::with_buffer_for(&mut written, version);
     serializer.members(dictionary.iter()).ok()?;
     let _ = serializer.finish();
-    Some(written.as_str() == text)
+    Some(is_written(&written, text))
 }
 
 /// Returns `true` if the calls of the dictionary write this text.
@@ -331,9 +347,9 @@ fn is_dictionary_called(
             .push((key.as_key_ref(), member_calls(alloc, member)?))
             .ok()?;
     }
-    let mut called = String::new(alloc);
+    let mut called = half_room(alloc, text)?;
     run_dict_for(version, &mut called, &calls[..]).ok()?;
-    Some(called.as_str() == text)
+    Some(is_written(&called, text))
 }
 
 /// Reads, copies and writes a dictionary.
@@ -349,40 +365,110 @@ fn dictionary_holds(alloc: Global, version: Version, text: &str) -> Option<bool>
     )
 }
 
-/// Returns `true` if this text of a field is read, copied and written by each call, under RFC 9651 and, if that has the
-/// values, under RFC 8941.
-pub fn holds(alloc: Global, field: &str, is_older: bool, text: &str) -> bool {
-    let versions: &[Version] = if is_older {
-        &[Version::Rfc9651, Version::Rfc8941]
-    } else {
-        &[Version::Rfc9651]
+/// Returns `true` if this text of a field is read, copied and written by each call under this version.
+pub fn holds_for(alloc: Global, field: &str, version: Version, text: &str) -> bool {
+    let answer = match field {
+        "item" => item_holds(alloc, version, text),
+        "list" => list_holds(alloc, version, text),
+        _ => dictionary_holds(alloc, version, text),
     };
-    let mut all = true;
-    for &version in versions {
-        let answer = match field {
-            "item" => item_holds(alloc, version, text),
-            "list" => list_holds(alloc, version, text),
-            _ => dictionary_holds(alloc, version, text),
-        };
-        all &= answer == Some(true);
-    }
-    all
+    answer == Some(true)
 }
 
-#[test]
-fn fields_of_each_size_are_read_and_written(rt: HostRuntime) -> Result<(), Fail> {
-    let alloc = rt.alloc();
+/// The same under RFC 9651 and, if that has the values, under RFC 8941.
+pub fn holds(alloc: Global, field: &str, is_older: bool, text: &str) -> bool {
+    holds_for(alloc, field, Version::Rfc9651, text)
+        && (!is_older || holds_for(alloc, field, Version::Rfc8941, text))
+}
+
+/// Returns `true` if a field of so many parts is read, copied and written under this version.
+fn parts_hold(
+    alloc: Global,
+    field: &str,
+    is_newer: bool,
+    parts: (&str, &str, &str, &str),
+    count: usize,
+) -> Result<bool, Fail> {
+    let (version, values) = version_of(is_newer);
+    let text = field_of(alloc, parts, values, count)?;
+    Ok(holds_for(alloc, field, version, text.as_str()))
+}
+
+/// Returns `true` if fields of this type are read, copied and written: those of up to `NEAR` parts, or those of more.
+/// The versions take turns, so both have each number of parts up to 600. No list of more than `NEAR` parts has nine times
+/// a power of two.
+fn fields_hold(alloc: Global, field: &str, are_many: bool) -> Result<bool, Fail> {
     let mut all = true;
-    for &(field, begin, part, separator, end) in FIELDS {
-        for &(value, is_older) in VALUES {
-            for &count in COUNTS {
-                let text = field_of(alloc, (begin, part, separator, end), value, count)?;
-                all &= holds(alloc, field, is_older, text.as_str());
+    for (row, &(kind, dense, most, parts)) in FIELDS.iter().enumerate() {
+        for (place, &count) in numbers(alloc, dense, most)?.iter().enumerate() {
+            let is_many = count > NEAR;
+            let is_skipped = is_many && field == "list" && count % 9 == 0;
+            if kind == field && is_many == are_many && !is_skipped {
+                let is_newer = row % 2 == place % 2;
+                all &= parts_hold(alloc, field, is_newer, parts, count)?;
             }
         }
     }
-    assert!(rt; all);
+    Ok(all)
+}
+
+#[test]
+fn lists_of_each_size_are_read_and_written(rt: HostRuntime) -> Result<(), Fail> {
+    assert!(rt; fields_hold(rt.alloc(), "list", false)?);
     Ok(())
+}
+
+#[test]
+fn long_lists_are_read_and_written(rt: HostRuntime) -> Result<(), Fail> {
+    assert!(rt; fields_hold(rt.alloc(), "list", true)?);
+    Ok(())
+}
+
+#[test]
+fn items_of_each_size_are_read_and_written(rt: HostRuntime) -> Result<(), Fail> {
+    let alloc = rt.alloc();
+    assert!(rt; fields_hold(alloc, "item", false)? && fields_hold(alloc, "item", true)?);
+    Ok(())
+}
+
+#[test]
+fn dictionaries_of_each_size_are_read_and_written(rt: HostRuntime) -> Result<(), Fail> {
+    let alloc = rt.alloc();
+    assert!(rt; fields_hold(alloc, "dict", false)? && fields_hold(alloc, "dict", true)?);
+    Ok(())
+}
+
+#[test]
+fn many_parameters_are_read_and_written(rt: HostRuntime) -> Result<(), Fail> {
+    let alloc = rt.alloc();
+    let params = field_of(alloc, ("", ";k#~", "", ""), OLDER, 200_000)?;
+    let list = filled(alloc, "1$, (1$)$", params.as_str())?;
+    let dictionary = filled(alloc, "a$, b=(1$)$", params.as_str())?;
+    let holds = holds_for(alloc, "list", Version::Rfc9651, list.as_str())
+        & holds_for(alloc, "dict", Version::Rfc8941, dictionary.as_str());
+    assert!(rt; holds);
+    Ok(())
+}
+
+/// Returns `true` if the fields with this text in the place of each `$` are read, copied and written. More than `FAR`
+/// bytes are tried under RFC 9651 only.
+fn places_hold(
+    alloc: Global,
+    places: &[(&str, &str)],
+    text: &str,
+    is_older: bool,
+) -> Result<bool, Fail> {
+    let mut all = true;
+    for &(field, place) in places {
+        let whole = filled(alloc, place, text)?;
+        all &= holds(alloc, field, is_older && text.len() <= FAR, whole.as_str());
+    }
+    Ok(all)
+}
+
+/// Returns `true` if a text of so many pieces of this length is tried. Above `FAR` bytes, only powers of two are.
+fn is_tried(times: usize, piece: usize) -> bool {
+    times.saturating_mul(piece) <= FAR || (piece == 1 && times.count_ones() == 1)
 }
 
 #[test]
@@ -390,12 +476,32 @@ fn texts_of_each_length_are_read_and_written(rt: HostRuntime) -> Result<(), Fail
     let alloc = rt.alloc();
     let mut all = true;
     for &(front, piece, end, is_older) in TEXTS {
-        for &times in LENGTHS {
-            let text = repeated(alloc, front, piece, times, end)?;
-            for &(field, place) in PLACES {
-                let whole = filled(alloc, place, text.as_str())?;
-                all &= holds(alloc, field, is_older, whole.as_str());
+        let most = if is_older { MOST_BYTES } else { FAR };
+        for &times in numbers(alloc, 1_101, most)?.iter() {
+            // There is no empty token.
+            if (times > 0 || end.len() > 0) && is_tried(times, piece.len()) {
+                let text = repeated(alloc, front, piece, times, end)?;
+                let places = if text.len() <= NEAR { SHORT } else { LONG };
+                all &= places_hold(alloc, places, text.as_str(), is_older)?;
             }
+        }
+    }
+    assert!(rt; all);
+    Ok(())
+}
+
+/// The ends of a byte sequence of this number of bytes after whole groups.
+const ENDS: &[&str; 3] = &[":", "aA==:", "aGk=:"];
+
+#[test]
+fn byte_sequences_of_each_length_are_read_and_written(rt: HostRuntime) -> Result<(), Fail> {
+    let alloc = rt.alloc();
+    let mut all = true;
+    for &len in numbers(alloc, 1_101, MOST_BYTES)?.iter() {
+        if is_tried(len, 1) {
+            let text = repeated(alloc, ":", "aGkh", len / 3, ENDS[len % 3])?;
+            let places = if text.len() <= NEAR { SHORT } else { LONG };
+            all &= places_hold(alloc, places, text.as_str(), true)?;
         }
     }
     assert!(rt; all);
@@ -406,11 +512,45 @@ fn texts_of_each_length_are_read_and_written(rt: HostRuntime) -> Result<(), Fail
 fn keys_of_each_length_are_read_and_written(rt: HostRuntime) -> Result<(), Fail> {
     let alloc = rt.alloc();
     let mut all = true;
-    for &times in LENGTHS {
-        let key = repeated(alloc, "a", "b", times, "")?;
-        for &(field, place) in KEYS {
-            let whole = filled(alloc, place, key.as_str())?;
-            all &= holds(alloc, field, true, whole.as_str());
+    for &len in numbers(alloc, 1_101, MOST_BYTES)?.iter() {
+        if len > 0 && is_tried(len, 1) {
+            let key = repeated(alloc, "", "a", len, "")?;
+            let places = if len <= NEAR { KEYS } else { LONG_KEYS };
+            all &= places_hold(alloc, places, key.as_str(), true)?;
+        }
+    }
+    assert!(rt; all);
+    Ok(())
+}
+
+#[test]
+fn short_keys_are_read_and_written(rt: HostRuntime) -> Result<(), Fail> {
+    let alloc = rt.alloc();
+    let mut all = true;
+    for first in "*abcdefghijklmnopqrstuvwxyz".chars() {
+        let mut key = String::new(alloc);
+        key.push(first)?;
+        all &= places_hold(alloc, KEYS, key.as_str(), true)?;
+        for second in "*abcdefghijklmnopqrstuvwxyz0123456789_-.".chars() {
+            let key = format!(in alloc; "{first}{second}")?;
+            all &= places_hold(alloc, KEYS, key.as_str(), true)?;
+        }
+    }
+    assert!(rt; all);
+    Ok(())
+}
+
+// Each number of items with each number of parameters.
+#[test]
+fn small_inner_lists_are_read_and_written(rt: HostRuntime) -> Result<(), Fail> {
+    let alloc = rt.alloc();
+    let mut all = true;
+    for items in 0..20usize {
+        let items = field_of(alloc, ("", "$;b~", " ", ""), OLDER, items)?;
+        for count in 0..20usize {
+            let params = field_of(alloc, ("", ";k#~", "", ""), OLDER, count)?;
+            let list = format!(in alloc; "({items}){params}, 1{params}")?;
+            all &= holds(alloc, "list", true, list.as_str());
         }
     }
     assert!(rt; all);
