@@ -1,6 +1,6 @@
 //! Errors: their kinds, indexes and texts.
 
-use crate::common::{is_text, near_power, prints};
+use crate::common::{is_shown, is_text, near_power, prints};
 use sfv::visitor::{BareItemType, ItemFault};
 use sfv::{Error, ErrorKind, OutOfMemory, ParseError, SerializeError};
 use std::alloc::{AllocError, AllocFailed, Global};
@@ -19,6 +19,30 @@ fn errors_print_their_message_and_place(rt: HostRuntime) {
         & unplaced.index().is_none()
         & !placed.is_out_of_memory();
     assert!(rt; printed & seen);
+}
+
+#[test]
+fn errors_are_shown_with_their_parts(rt: HostRuntime) {
+    let alloc = rt.alloc();
+    let placed = Error::at(ErrorKind::TooManyDigits, 15);
+    let unplaced = Error::with_kind(ErrorKind::Empty, None);
+    let syntax: ParseError<OutOfMemory> = ParseError::Syntax(unplaced);
+    let visitor: ParseError<OutOfMemory> = ParseError::Visitor(OutOfMemory);
+    let holds = is_shown(
+        alloc,
+        &placed,
+        "Error { kind: TooManyDigits, index: Some(15) }",
+    ) & is_shown(alloc, &unplaced, "Error { kind: Empty, index: None }")
+        & is_shown(alloc, &OutOfMemory, "OutOfMemory")
+        & is_shown(alloc, &syntax, "Syntax(Error { kind: Empty, index: None })")
+        & is_shown(alloc, &visitor, "Visitor(OutOfMemory)")
+        & is_shown(alloc, &SerializeError::OutOfMemory, "OutOfMemory")
+        & is_shown(
+            alloc,
+            &SerializeError::Unsupported(BareItemType::Date),
+            "Unsupported(Date)",
+        );
+    assert!(rt; holds);
 }
 
 /// Returns `true` if an error of this kind prints its message and this index, also in an error of a parser with a

@@ -1,6 +1,6 @@
 //! Integers, decimals and dates: their ranges, texts and order.
 
-use crate::common::{hash_of, near_power, prints, value};
+use crate::common::{hash_of, is_shown, near_power, prints, value};
 use sfv::{Date, Decimal, Integer, RefBareItem, integer};
 use std::alloc::Global;
 use std::cmp::Ordering;
@@ -102,6 +102,18 @@ fn numbers_of_each_size_parse_back(rt: HostRuntime) {
         let number = i64::try_from(near_power(place)).unwrap_or(0);
         holds &= is_given_back(alloc, number);
     }
+    assert!(rt; holds);
+}
+
+#[test]
+fn numbers_are_shown_with_their_parts(rt: HostRuntime) {
+    let alloc = rt.alloc();
+    let decimal = "Decimal { thousandths: Integer { value: 999999999999999 } }";
+    let date = "Date { seconds: Integer { value: -999999999999999 } }";
+    let holds = is_shown(alloc, &Integer::ZERO, "Integer { value: 0 }")
+        & is_shown(alloc, &Integer::MIN, "Integer { value: -999999999999999 }")
+        & is_shown(alloc, &Decimal::MAX, decimal)
+        & is_shown(alloc, &Date::MIN, date);
     assert!(rt; holds);
 }
 
