@@ -319,7 +319,8 @@ list_told version l t q h ended =
     subst (λ a. Begins (visited member_events a) (open_events (inner_list l)))
     (sym (ap (member_at version) all ∙ branch_take _ _ _ left_parenthesis (p.items ++ (p.rest ++ q)) refl
     ∙ ap (λ a. led_answer (begins_inner_list ∷ []) (and_then a (λ is. led (closed_events is)
-    (parameters_at version >>= λ ps. give (inner_of is ps))))) (items_read version l.items p.items (p.rest ++ q) p.are_items)))
+    (parameters_at version >>= λ ps. give (inner_of is ps)))))
+    (items_read version l.items p.items (p.rest ++ q) p.are_items)))
     (on (parameters_at version (p.rest ++ q))
     (given_after (begins_inner_list ∷ closed_events l.items) l.parameters _ ps.0))
   where
@@ -327,7 +328,8 @@ list_told version l t q h ended =
         → Begins (visited (λ qs. (begins_inner_list ∷ closed_events l.items) ++ parameters_events qs)
         (led_answer (begins_inner_list ∷ closed_events l.items) a)) (open_events (inner_list l))
         → Begins (visited member_events (led_answer (begins_inner_list ∷ [])
-        (led_answer (closed_events l.items) (and_then a (λ ps. give (inner_of l.items ps)))))) (open_events (inner_list l))
+        (led_answer (closed_events l.items) (and_then a (λ ps. give (inner_of l.items ps))))))
+        (open_events (inner_list l))
     on (Ok x) b = (
       b.0,
       ap (λ (y : List TreeEvent). begins_inner_list ∷ y)

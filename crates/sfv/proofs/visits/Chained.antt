@@ -1,5 +1,6 @@
 -- Values with separators: what is told of the first of them, whatever comes of the next one.
-use Rattle.std.proofs.Common.{◌≡◌, ℕ, List, [], ◌∷◌, ◌++◌, Option, Some, Ok, Err, refl, sym, ap, subst, ◌∙◌, append_assoc}
+use Rattle.std.proofs.Common.{◌≡◌, ℕ, List, [], ◌∷◌, ◌++◌, Option, Some, Ok, Err, refl, sym, ap, subst, ◌∙◌}
+use Rattle.std.proofs.Common.{append_assoc}
 use Rattle.std.proofs.lemmas.List.{append-nil}
 use Rattle.std.specs.Prelude.{flat_map}
 use Rattle.sfv_spec.specs.Texts.{◌⨾◌, IsJoining, IsSeparated}
@@ -122,7 +123,8 @@ parted_of S P m [] t h = record {
   back = t;
   text = refl;
   each = joining_none (λ m. P m ⨾ S);
-  end = subst (P m) (sym (h.text ∙ ap (λ (l : List ℕ). h.front ++ l) (joining-nil h.second) ∙ append-nil h.front)) h.first;
+  end = subst (P m) (sym (h.text ∙ ap (λ (l : List ℕ). h.front ++ l) (joining-nil h.second) ∙ append-nil h.front))
+      h.first;
 }
 parted_of S P m (n ∷ ms) t h =
     let j = joining-cons h.second in

@@ -259,13 +259,15 @@ items_told version (i ∷ is) s t blank h = record {
         ∙ append_assoc h.front h.back q) in
         subst (λ (l : List ℕ). Begins (visited member_events (member_at version (left_parenthesis ∷ l)))
         (begins_inner_list ∷ (Flat o.init ++ es))) (sym text)
-        (begins_trans _ _ (begins_inner_list ∷ (Flat o.init ++ es)) (open_told version (s ++ (h.front ++ (h.back ++ q))))
+        (begins_trans _ _ (begins_inner_list ∷ (Flat o.init ++ es))
+        (open_told version (s ++ (h.front ++ (h.back ++ q))))
         (begins_after (begins_inner_list ∷ []) _ _
         (begins_trans _ _ _ (items_begun version i is s h.front (h.back ++ q) blank o)
         (begins_after (Flat o.init) _ es b))))
 
     all : Flat (i ∷ is) ≡ Flat o.init ++ inner_item_events o.last
-    all = ap Flat o.same ∙ sym (append-nil (Flat (o.init ++ o.last ∷ []))) ∙ events_push inner_item_events o.init o.last []
+    all = ap Flat o.same ∙ sym (append-nil (Flat (o.init ++ o.last ∷ [])))
+        ∙ events_push inner_item_events o.init o.last []
         ∙ ap (λ (l : List TreeEvent). Flat o.init ++ l) (append-nil (inner_item_events o.last))
 
 -- ---- the last value of a field, with an open inner list
@@ -344,7 +346,8 @@ open_keyed version m t before after h e = on h.second
     on (inr k) = let same : item (record { bare = boolean true; parameters = k.0 }) ≡ inner_of c.0 [] = sym k.1 ∙ c.1 in
         absurd cc
     on (inl g) =
-        let o = open_member version c.0 g.back (subst (λ (m : RawMember). IsMemberText version m g.back) c.1 g.second) in
+        let o = open_member version c.0 g.back
+        (subst (λ (m : RawMember). IsMemberText version m g.back) c.1 g.second) in
         let own : List ℕ = equals_sign ∷ left_parenthesis ∷ o.own in
         let starts : (q : List ℕ) (es : List TreeEvent)
         → Begins (visited member_events (member_at version (left_parenthesis ∷ (o.own ++ q)))) es
@@ -450,7 +453,8 @@ module _ {A : Type 0} (P : A → List ℕ → Type 0) (parts : A → List TreeEv
       let all = all_push (m ∷ ms) o.init o.last o.same in
       elim (before_cases (All (m ∷ ms)) first q b) [
         | inl k ↦
-            let read = again o.last o.back (h.second.back ++ q) o.end (apart_behind h.second.back q h.second.second k.1) in
+            let read = again o.last o.back (h.second.back ++ q) o.end
+            (apart_behind h.second.back q h.second.second k.1) in
             subst (Begins (visited All (members_at parts one (t ++ q)))) (sym (k.0 ∙ all))
             (last_begun m ms t q h (parts o.last) o
             ([], ap (visited parts) read ∙ sym (append-nil (parts o.last))))
@@ -551,7 +555,8 @@ visited_whole version item_field i t q first h b =
     (ap (λ (l : List ℕ). l ++ q) (h.text ∙ ap (λ (l : List ℕ). h.front ++ l) k.text) ∙ simp append_assoc)
     ∙ item_visited version h.front (k.front ++ rest) h.first (item_no space version i k.front rest refl k.first) in
     subst (λ (l : List TreeEvent). Begins l first) (sym seen)
-    (elim (before_cases (item_events i) first q b) as (λ _. Begins (visited item_events (item_at version (k.front ++ rest))) first) [
+    (elim (before_cases (item_events i) first q b)
+    as (λ _. Begins (visited item_events (item_at version (k.front ++ rest))) first) [
       | inl e ↦ subst (Begins (visited item_events (item_at version (k.front ++ rest)))) (sym e.0) (
         [],
         ap (visited item_events) (item_complete version i k.front rest k.first (apart_behind k.back q blanks e.1))
@@ -573,7 +578,8 @@ pub visited_open_list : (version : Version) (kind : FieldKind) (raw : RawField k
     → events kind raw ≡ all ++ inner_list_end ∷ parameters_end ∷ [] → AreBefore all first q
     → Begins (visited (events kind) (whole_field_at version kind (t ++ q))) first
 unfolding whole_field_at
-visited_open_list version item_field i t q all first h e b = absurd (not_last [] all (bare_item i.bare) i.parameters refl e)
+visited_open_list version item_field i t q all first h e b =
+    absurd (not_last [] all (bare_item i.bare) i.parameters refl e)
 visited_open_list version list_field ms t q all first h e b = members_inner (IsMemberText version) entry_events
     (entry_at version) (Sound-entry version) (entry_complete version) (entry_fresh version) (open_entry version) ms t q
     all first h e b
@@ -601,18 +607,21 @@ list_begun version ms front rest first h fresh b =
     (entry_complete version) (entry_fresh version) ms front rest h fresh)
     (begins_after (events list_field ms) (visited entry_events (entry_at version rest)) first b)
 
-keyed_begun : (version : Version) (ms : List (List ℕ × RawMember)) (front rest key : List ℕ)
-    (first : List TreeEvent) → IsBeforeMember version dictionary_field ms front → IsKeyText key key
-    → Apart is_key_inner rest → Begins (visited member_events (member_value_at version rest)) first
-    → Begins (visited (events dictionary_field) (whole_field_at version dictionary_field (front ++ (key ++ rest))))
+keyed_begun : {Q : List ℕ → Type 0} (version : Version) (ms : List (List ℕ × RawMember)) (front rest key : List ℕ)
+    (first : List TreeEvent) → IsBeforeMember version dictionary_field ms front → (b : (IsKeyText key ⨾ Q) rest)
+    → Apart is_key_inner b.back → Begins (visited member_events (member_value_at version b.back)) first
+    → Begins (visited (events dictionary_field) (whole_field_at version dictionary_field (front ++ rest)))
     (events dictionary_field ms ++ keyed_entry key ∷ first)
 unfolding whole_field_at
-keyed_begun version ms front rest key first h k apart b =
+keyed_begun version ms front rest key first h b apart told =
+    let read : Begins (visited keyed_events (keyed_at version rest)) (keyed_entry key ∷ first) =
+    subst (λ (l : List ℕ). Begins (visited keyed_events (keyed_at version l)) (keyed_entry key ∷ first)) (sym b.text)
+    (keyed_begins version key b.front b.back first b.first apart told) in
     begins_trans _ _ _ (members_begun (IsDictionaryMemberText version) keyed_events (keyed_at version)
-    (Sound-keyed version) (keyed_complete version) (keyed_fresh version) ms front (key ++ rest) h
-    (keyed_fresh version (key, true_with []) key rest (true_of_key version key key k)))
-    (begins_after (events dictionary_field ms) _ (keyed_entry key ∷ first)
-    (keyed_begins version key key rest first k apart b))
+    (Sound-keyed version) (keyed_complete version) (keyed_fresh version) ms front rest h
+    (subst IsFresh (sym b.text) (keyed_fresh version (key, true_with []) b.front b.back
+    (true_of_key version key b.front b.first))))
+    (begins_after (events dictionary_field ms) _ (keyed_entry key ∷ first) read)
 
 -- what is visited of a field in whose text a member begins
 pub visited_begun : (version : Version) (kind : FieldKind) (raw : RawField kind) (front rest : List ℕ)
@@ -623,14 +632,8 @@ visited_begun version list_field ms front rest first h (list_member fresh) =
     list_begun version ms front rest (entry ∷ first_event rest ∷ []) h (some_fresh rest fresh)
     (entry_begins version rest (first_event rest ∷ []) (first_told version rest))
 visited_begun version dictionary_field ms front rest first h (dictionary_key key b) =
-    subst (λ (l : List ℕ). Begins (visited (events dictionary_field) (whole_field_at version dictionary_field (front ++ l)))
-    (events dictionary_field ms ++ keyed_entry key ∷ [])) (sym (b.text ∙ ap (λ (l : List ℕ). l ++ b.back) b.first.1))
-    (keyed_begun version ms front b.back key [] h (b.first.0, refl) (apart_of is_key_inner b.back b.second)
-    (begins_all _))
+    keyed_begun version ms front rest key [] h b (apart_of is_key_inner b.back b.second) (begins_all _)
 visited_begun version dictionary_field ms front rest first h (dictionary_value key more b) =
-    subst (λ (l : List ℕ). Begins (visited (events dictionary_field) (whole_field_at version dictionary_field (front ++ l)))
-    (events dictionary_field ms ++ keyed_entry key ∷ first_event more ∷ []))
-    (sym (b.text ∙ ap (λ (l : List ℕ). l ++ b.back) b.first.1 ∙ ap (λ (l : List ℕ). key ++ l) b.second))
-    (keyed_begun version ms front (equals_sign ∷ more) key (first_event more ∷ []) h (b.first.0, refl)
-    (Apart-cons is_key_inner equals_sign more refl)
-    (value_begins version more (first_event more ∷ []) (first_told version more)))
+    keyed_begun version ms front rest key (first_event more ∷ []) h b
+    (rw b.second (Apart-cons is_key_inner equals_sign more refl))
+    (rw b.second (value_begins version more (first_event more ∷ []) (first_told version more)))
