@@ -93,7 +93,7 @@ IsBeforeMember version item_field i t = ⊥
 IsBeforeMember version list_field ms t = (Spaces ⨾ IsJoining (λ m. IsMemberText version m ⨾ Comma) ms) t
 IsBeforeMember version dictionary_field ms t = (Spaces ⨾ IsJoining (λ m. IsDictionaryMemberText version m ⨾ Comma) ms) t
 
--- the first event of an item or an inner list with this text
+-- the first event of a value with this text: an inner list begins with a parenthesis, and an item does not
 abbrev pub first_event : List ℕ → TreeEvent
 first_event t = if begins_with (λ c. c == byte "(") t then begins_inner_list else begins_item
 

@@ -1,4 +1,4 @@
--- What a visitor was told of the member that begins, whatever comes of it.
+-- The first events of items and members, whatever follows.
 use Rattle.std.proofs.Common.{◌≡◌, ℕ, ◌≤◌, eqb, true, false, List, [], ◌∷◌, ◌++◌, length, Some, None, Ok, Err, refl}
 use Rattle.std.proofs.Common.{sym, ap, subst, ◌∙◌, append_assoc, arith, inl, inr}
 use Rattle.std.proofs.lemmas.List.{append-nil, length-append}
@@ -41,14 +41,14 @@ use Rattle.sfv.specs.Parsers.{first_event}
 pub no_space : (q : List ℕ) → Apart is_space_or_tab q → Apart is_space q
 no_space q h = record { apart = λ c e. (or_parts (is_space c) (eqb c tab) (h.apart c e)).0 }
 
--- ---- what each kind of member tells first
+-- ---- the first event of each kind of member
 
 led_events : {A : Type 0} (es : List TreeEvent) (parts few : A → List TreeEvent) (a : Answer A)
     → ((v : A) → parts v ≡ es ++ few v) → visited parts (led_answer es a) ≡ es ++ visited few a
 led_events es parts few (Ok x) each = each x.0
 led_events es parts few (Err e) each = refl
 
--- a list member tells of itself before it is read
+-- a list member, before it is read
 entry_told : (version : Version) (t : List ℕ)
     → visited entry_events (entry_at version t) ≡ entry ∷ visited member_events (member_at version t)
 unfolding entry_at led
@@ -60,7 +60,7 @@ key_read : (version : Version) (key t q : List ℕ) → IsKeyText key t → Apar
 unfolding keyed_at
 key_read version key t q k h = bind_complete _ _ _ _ _ (key_complete key t q k h)
 
--- a dictionary member does once its key is read
+-- a dictionary member, after its key
 pub keyed_told : (version : Version) (key t q : List ℕ) → IsKeyText key t → Apart is_key_inner q
     → visited keyed_events (keyed_at version (t ++ q))
     ≡ keyed_entry key ∷ visited member_events (member_value_at version q)
@@ -107,7 +107,7 @@ true_of_key version key t k = record {
   second = inr ([], refl, joining_none (IsParameterText version));
 }
 
--- what stands after a key is no more of it
+-- the text after a key does not extend it
 value_apart : (version : Version) (value : BareValue) (t q : List ℕ) → IsValueText version value t
     → Apart is_key_inner q → Apart is_key_inner (t ++ q)
 value_apart version value t q (inl none) h = subst (λ (l : List ℕ). Apart is_key_inner (l ++ q)) (sym none.1) h
@@ -164,7 +164,7 @@ one_more version p t q e =
     ∙ ap (λ a. and_then a (go_on parameter_event (many parameter_event (parameter_at version)))) e)
     ∙ put_events parameter_event p (many parameter_event (parameter_at version) q)
 
--- parameters, whatever comes of those after them
+-- parameters, whatever follows them
 parameters_told : (version : Version) (ps : RawParameters) (t q : List ℕ) → IsParametersText version ps t
     → Apart lengthens q → Begins (visited Given (parameters_at version (t ++ q))) (Given ps) × Apart lengthens (t ++ q)
 parameters_told version [] t q i h =
@@ -206,7 +206,7 @@ item_read version i t q h f =
     ap (item_at version) (ap (λ (l : List ℕ). l ++ q) h.text ∙ append_assoc h.front h.back q)
     ∙ bind_complete _ _ _ _ _ (bare_complete version i.bare h.front (h.back ++ q) h.first f)
 
--- an item tells of its bare item and of these parameters, whatever comes of those after them
+-- an item up to these parameters, whatever follows them
 pub item_told : (version : Version) (i : RawItem) (t q : List ℕ) → IsItemText version i t → IsEnded q
     → Begins (visited item_events (item_at version (t ++ q))) (bare_item i.bare ∷ Pairs i.parameters)
 unfolding led bind give
@@ -337,7 +337,7 @@ list_told version l t q h ended =
     )
     on (Err e) b = b
 
--- a member tells of its parts up to these parameters, whatever comes of those after them
+-- a member up to these parameters, whatever follows them
 pub member_told : (version : Version) (m : RawMember) (t q : List ℕ) → IsMemberText version m t → IsEnded q
     → Begins (visited member_events (member_at version (t ++ q))) (open_events m)
 unfolding member_at led bind give
@@ -349,7 +349,7 @@ member_told version (item i) t q h ended =
     )
 member_told version (inner_list l) t q h ended = list_told version l t q h ended
 
--- so does a dictionary member after its key, where the bare item may be left out
+-- a dictionary member after its key, up to these parameters; the bare item may be omitted
 pub value_told : (version : Version) (m : RawMember) (t q : List ℕ) → IsMemberValueText version m t → IsEnded q
     → Begins (visited member_events (member_value_at version (t ++ q))) (open_events m) × Apart is_key_inner (t ++ q)
 unfolding member_value_at led bind give
@@ -384,7 +384,7 @@ value_told version m t q (inr h) ended =
     on ps (Ok x) b = b
     on ps (Err e) b = b
 
--- an inner list tells of its items
+-- an inner list with its items
 inner_begins : (version : Version) (u : List ℕ)
     → Begins (visited member_events (led_answer (begins_inner_list ∷ []) (inner_at version u)))
     (begins_inner_list ∷ visited (λ is. flat_map inner_item_events is) (inner_items_at version u))
@@ -408,7 +408,7 @@ inner_begins version u = on (inner_items_at version u)
     on (Ok x) = closed x.0 (parameters_at version x.1)
     on (Err e) = ([], sym (append-nil (begins_inner_list ∷ e.events)))
 
--- after an opening parenthesis
+-- an inner list from its opening parenthesis
 pub open_told : (version : Version) (u : List ℕ)
     → Begins (visited member_events (member_at version (left_parenthesis ∷ u)))
     (begins_inner_list ∷ visited (λ is. flat_map inner_item_events is) (inner_items_at version u))

@@ -1,4 +1,4 @@
--- Values with separators: what is told of the first of them, whatever comes of the next one.
+-- Values with separators: the events of complete values, and the first events of the next one.
 use Rattle.std.proofs.Common.{◌≡◌, ℕ, List, [], ◌∷◌, ◌++◌, Option, Some, Ok, Err, refl, sym, ap, subst, ◌∙◌}
 use Rattle.std.proofs.Common.{append_assoc}
 use Rattle.std.proofs.lemmas.List.{append-nil}
@@ -21,7 +21,7 @@ unfolding give
 put_events parts m (Ok x) = refl
 put_events parts m (Err e) = refl
 
--- texts of P with separators of S; before a text of F, `next` reads a separator and goes on as `one`
+-- texts of P with separators of S; before a text of F, `next` reads a separator and continues as `one`
 module _ {A : Type 0} (P : A → List ℕ → Type 0) (S F : List ℕ → Type 0) (parts : A → List TreeEvent) (one : Reader A)
     (next : Reader (Option A)) (takes : Consumes next) (again : (m : A) (t q : List ℕ) → P m t
     → Apart lengthens_item q → one (t ++ q) ≡ Ok (m, q)) (fresh : (m : A) (t q : List ℕ) → P m t → F (t ++ q))
@@ -43,7 +43,7 @@ module _ {A : Type 0} (P : A → List ℕ → Type 0) (S F : List ℕ → Type 0
   another (Ok x) = refl
   another (Err e) = refl
 
-  -- after a separator the values go on as they begin
+  -- after a separator, the values continue as they begin
   after_separator : (c y : List ℕ) → S c → F y → More (c ++ y) ≡ Members y
   unfolding bind
   after_separator c y h f =
@@ -95,7 +95,7 @@ module _ {A : Type 0} (P : A → List ℕ → Type 0) (S F : List ℕ → Type 0
       on (Ok x) = (visited All (More x.1), put_events parts x.0 (More x.1))
       on (Err e) = ([], sym (append-nil e.events))
 
-  -- after these values, the next one begins with what its reader tells
+  -- the events of these values, and the first events of the next one
   pub each_begun : (ms : List A) (u rest : List ℕ) → Each ms u → F rest
       → Begins (visited All (Members (u ++ rest))) (All ms ++ visited parts (one rest))
   each_begun ms u rest h f = subst (λ (l : List TreeEvent). Begins l (All ms ++ visited parts (one rest)))

@@ -1,4 +1,4 @@
--- What a visitor was told of a field whose text goes on, or has a fault, after some part of it.
+-- The events of a field that are visited before its text continues, and before its last inner list is closed.
 use Rattle.std.proofs.Common.{◌≡◌, ℕ, ◌≤◌, Bool, eqb, true, false, List, [], ◌∷◌, ◌++◌, length, Some, Ok, Err, refl}
 use Rattle.std.proofs.Common.{sym, ap, subst, ◌∙◌, append_assoc, arith, inl, inr, ◌⊎◌}
 use Rattle.std.proofs.lemmas.List.{append-nil, append_cancel_right, length-append}
@@ -48,7 +48,7 @@ use Rattle.sfv.specs.Parsers.{AreBefore}
 
 -- ---- what may follow
 
--- blanks may stand before what ends a text
+-- blanks, and a text that may follow a bare item
 ended_behind : (b q : List ℕ) → RunOf is_space_or_tab b → IsEnded q → IsEnded (b ++ q)
 ended_behind [] q each ended = ended
 ended_behind (c ∷ b) q each ended = elim (or_cases (is_space c) (eqb c tab) (run_head is_space_or_tab c b each)) [
@@ -64,7 +64,7 @@ spaces_blank : (s : List ℕ) → RunOf is_space s → RunOf is_space_or_tab s
 spaces_blank [] each = refl
 spaces_blank (c ∷ s) each = rw (run_head is_space c s each) (spaces_blank s (run_tail is_space c s each))
 
--- all events are before the text, or all but the end of some parameters
+-- all events come before the text, or all but the end of the parameters
 before_cases : (all es : List TreeEvent) (t : List ℕ) → AreBefore all es t
     → ((es ≡ all) × Apart lengthens_item t) ⊎ (all ≡ es ++ parameters_end ∷ [])
 before_cases all es [] h = inl (sym (h.1 ∙ append-nil es), Apart-nil lengthens_item)
@@ -91,7 +91,7 @@ abbrev is_list_end : TreeEvent → Bool
 is_list_end inner_list_end = true
 is_list_end _ = false
 
--- whether the last event after e, or e itself, ends the items of an inner list
+-- the last event of e ∷ es ends the items of an inner list
 abbrev last_is : TreeEvent → List TreeEvent → Bool
 last_is e [] = is_list_end e
 last_is e (f ∷ es) = last_is f es
@@ -104,7 +104,7 @@ last_of_pairs : (e : TreeEvent) (ps : RawParameters) → is_list_end e ≡ false
 last_of_pairs e [] h = h
 last_of_pairs e (p ∷ ps) h = last_of_pairs (parameter p.0 p.1) ps refl
 
--- parameters are the last, or there are none
+-- after the end of an inner list, its parameters come last, or there are none
 not_last : (before after : List TreeEvent) (e : TreeEvent) (ps : RawParameters) → is_list_end e ≡ false
     → ¬ (before ++ (e ∷ (Pairs ps ++ parameters_end ∷ [])) ≡ after ++ inner_list_end ∷ parameters_end ∷ [])
 not_last before after e ps none same =
@@ -115,7 +115,7 @@ not_last before after e ps none same =
     true≢false (sym (last_after e inner_list_end after []) ∙ ap (last_is e) (sym cut)
     ∙ last_after e e before (Pairs ps) ∙ last_of_pairs e ps none)
 
--- a member that ends so is an inner list without parameters
+-- a member with these last events is an inner list without parameters
 closed_member : (m : RawMember) (before after : List TreeEvent)
     → before ++ member_events m ≡ after ++ inner_list_end ∷ parameters_end ∷ []
     → (is : List RawItem) × (m ≡ inner_of is [])
@@ -142,7 +142,7 @@ run_last : (t : List ℕ) → ¬ RunOf is_space_or_tab (t ++ right_parenthesis �
 run_last [] each = true≢false (sym each)
 run_last (c ∷ t) each = run_last t (run_tail is_space_or_tab c (t ++ right_parenthesis ∷ []) each)
 
--- blanks after a parenthesis that ends the text: there are none
+-- no blanks follow a parenthesis at the end of a text
 cut_text : (a t b : List ℕ) → RunOf is_space_or_tab b → a ++ right_parenthesis ∷ b ≡ t ++ right_parenthesis ∷ []
     → (b ≡ []) × (a ≡ t)
 cut_text [] [] b each e = (cc, refl)
@@ -156,7 +156,7 @@ cut_text (c ∷ a) (d ∷ t) b each e =
     let on = cut_text a t b each rest in
     (on.0, cc (on.1))
 
--- ---- the items of an inner list that is open
+-- ---- the items of an open inner list
 
 abbrev Flat : List RawItem → List TreeEvent
 Flat is = flat_map inner_item_events is
@@ -180,7 +180,7 @@ next_item_is version c y h f =
     ∙ bind_complete _ _ _ _ _ (span_complete is_space h.back y h.second f.0)
     ∙ branch_past _ _ _ y f.1
 
--- what is told of these items, whatever follows them
+-- the events of these items before any text q that may follow them: all, or all but the last
 pub record ItemsTold (version : Version) (is : List RawItem) (t : List ℕ) : Type 0 where
   pub most : List TreeEvent
   pub last : TreeEvent
@@ -270,9 +270,9 @@ items_told version (i ∷ is) s t blank h = record {
         ∙ events_push inner_item_events o.init o.last []
         ∙ ap (λ (l : List TreeEvent). Flat o.init ++ l) (append-nil (inner_item_events o.last))
 
--- ---- the last value of a field, with an open inner list
+-- ---- the last member of a field, with an open inner list
 
--- Here t without its closing parenthesis is told as far as its last event but one, or whole.
+-- `t` is a text of `m` that ends with a parenthesis: the events before it, all or all but the last
 pub record Unclosed {A : Type 0} (parts : A → List TreeEvent) (one : Reader A) (m : A) (t : List ℕ) : Type 0 where
   pub opened : List ℕ
   pub text : t ≡ opened ++ right_parenthesis ∷ []
@@ -284,7 +284,7 @@ pub record Unclosed {A : Type 0} (parts : A → List TreeEvent) (one : Reader A)
   pub whole : (q : List ℕ) → IsEnded q → Apart lengthens_item q
       → Begins (visited parts (one (opened ++ q))) (most ++ last ∷ [])
 
--- a member, before what is told of a list member or a dictionary member
+-- an inner list without parameters, and the text between its parentheses
 pub record OpenMember (version : Version) (is : List RawItem) (t : List ℕ) : Type 0 where
   pub own : List ℕ
   pub text : t ≡ left_parenthesis ∷ (own ++ right_parenthesis ∷ [])
@@ -405,7 +405,7 @@ module _ {A : Type 0} (P : A → List ℕ → Type 0) (parts : A → List TreeEv
       ∙ ahead_any _ _ (comma ∷ (w ++ y)) (omega arith) ∙ ahead_take _ _ _ comma (w ++ y) refl
       ∙ bind_complete _ _ _ _ _ (comma_complete P parts one w y h.second.second f.0 f.1)
 
-  -- after these members, the next one begins with what its reader tells
+  -- the events of these members, and the first events of the next one
   pub members_begun : (ms : List A) (front rest : List ℕ) → (Spaces ⨾ IsJoining (λ m. P m ⨾ Comma) ms) front
       → IsFresh rest
       → Begins (visited All (members_at parts one (front ++ rest))) (All ms ++ visited parts (one rest))
@@ -426,7 +426,7 @@ module _ {A : Type 0} (P : A → List ℕ → Type 0) (parts : A → List TreeEv
   all_push ms init last same = ap All same ∙ sym (append-nil (All (init ++ last ∷ [])))
       ∙ events_push parts init last [] ∙ ap (λ (l : List TreeEvent). All init ++ l) (append-nil (parts last))
 
-  -- the last member and what is told of it, before the text q that follows
+  -- the first events of the last member, before any text q that follows
   last_begun : (m : A) (ms : List A) (t q : List ℕ) (h : AreMembersText P (m ∷ ms) t) (es : List TreeEvent)
       → (o : Parted Comma P (m ∷ ms) h.second.front)
       → Begins (visited parts (one (o.back ++ (h.second.back ++ q)))) es
@@ -441,7 +441,7 @@ module _ {A : Type 0} (P : A → List ℕ → Type 0) (parts : A → List TreeEv
       (in_turn h.front o.front h.first o.each) (fresh o.last o.back (h.second.back ++ q) o.end))
       (begins_after (All o.init) _ es b))
 
-  -- members, before what may follow them
+  -- members, before any text that may follow them
   pub members_whole : ((m : A) (t q : List ℕ) → P m t → IsEnded q
       → (es : List TreeEvent) × (parts m ≡ es ++ parameters_end ∷ []) × Begins (visited parts (one (t ++ q))) es)
       → (ms : List A) (t q : List ℕ) (first : List TreeEvent) → AreMembersText P ms t
@@ -467,7 +467,7 @@ module _ {A : Type 0} (P : A → List ℕ → Type 0) (parts : A → List TreeEv
             subst (Begins (visited All (members_at parts one (t ++ q)))) same (last_begun m ms t q h w.0 o w.2)
       ]
 
-  -- members, the last of which has an inner list that is open
+  -- members; the inner list of the last one is open
   pub members_inner : ((m : A) (t : List ℕ) (before after : List TreeEvent) → P m t
       → before ++ parts m ≡ after ++ inner_list_end ∷ parameters_end ∷ [] → Unclosed parts one m t)
       → (ms : List A) (t q : List ℕ) (all first : List TreeEvent) → AreMembersText P ms (t ++ right_parenthesis ∷ [])
@@ -504,7 +504,7 @@ module _ {A : Type 0} (P : A → List ℕ → Type 0) (parts : A → List TreeEv
             (append_assoc (All o.init) u.most (u.last ∷ []) ∙ whole ∙ k)) (told u.most (u.begun q b.0))
       ]
 
--- ---- of a whole field
+-- ---- fields
 
 entry_whole : (version : Version) (m : RawMember) (t q : List ℕ) → IsMemberText version m t → IsEnded q
     → (es : List TreeEvent) × (entry_events m ≡ es ++ parameters_end ∷ [])
@@ -527,7 +527,7 @@ keyed_whole version m t q h ended =
           (keyed_begins version m.0 h.front (h.back ++ q) (open_events m.1) h.first told.1 told.0),
     )
 
--- an item that is the field tells of itself as any item does
+-- an item that is the field has the events of an item
 item_visited : (version : Version) (s t : List ℕ) → Spaces s → Apart is_space t
     → visited item_events (whole_field_at version item_field (s ++ t)) ≡ visited item_events (item_at version t)
 unfolding whole_field_at bind give
@@ -540,7 +540,7 @@ item_visited version s t each h = ap (visited item_events) (bind_complete (span 
     on (Ok x) = let m = (Steady-span is_space).steady x.1 in rw m.3 refl
     on (Err e) = refl
 
--- what is visited of a field whose text is followed by q
+-- the events of a field before any text q that may follow it
 pub visited_whole : (version : Version) (kind : FieldKind) (raw : RawField kind) (t q : List ℕ) (first : List TreeEvent)
     → IsFieldText version kind raw t → AreBefore (events kind raw) first q
     → Begins (visited (events kind) (whole_field_at version kind (t ++ q))) first
@@ -572,7 +572,7 @@ visited_whole version dictionary_field ms t q first h b = members_whole (IsDicti
     (keyed_at version) (Sound-keyed version) (keyed_complete version) (keyed_fresh version) (keyed_whole version) ms t q
     first h b
 
--- what is visited of a field in which an inner list is open before q
+-- the events of a field before any text q that may follow its open inner list
 pub visited_open_list : (version : Version) (kind : FieldKind) (raw : RawField kind) (t q : List ℕ)
     (all first : List TreeEvent) → IsFieldText version kind raw (t ++ right_parenthesis ∷ [])
     → events kind raw ≡ all ++ inner_list_end ∷ parameters_end ∷ [] → AreBefore all first q
@@ -623,7 +623,7 @@ keyed_begun version ms front rest key first h b apart told =
     (true_of_key version key b.front b.first))))
     (begins_after (events dictionary_field ms) _ (keyed_entry key ∷ first) read)
 
--- what is visited of a field in whose text a member begins
+-- the events of members, and the first events of the next one
 pub visited_begun : (version : Version) (kind : FieldKind) (raw : RawField kind) (front rest : List ℕ)
     (first : List TreeEvent) → IsBeforeMember version kind raw front → BeginsMember kind first rest
     → Begins (visited (events kind) (whole_field_at version kind (front ++ rest))) (events kind raw ++ first)
