@@ -448,24 +448,32 @@ module _ {A : Type 0} (P : A → List ℕ → Type 0) (parts : A → List TreeEv
       → AreBefore (All ms) first q → Begins (visited All (members_at parts one (t ++ q))) first
   members_whole told [] t q [] h b = begins_all _
   members_whole told [] t q (e ∷ first) h b = absurd cc
-  members_whole told (m ∷ ms) t q first h b =
-      let o = parted_of Comma P m ms h.second.front h.second.first in
-      let all = all_push (m ∷ ms) o.init o.last o.same in
-      elim (before_cases (All (m ∷ ms)) first q b) [
-        | inl k ↦
-            let read = again o.last o.back (h.second.back ++ q) o.end
-            (apart_behind h.second.back q h.second.second k.1) in
-            subst (Begins (visited All (members_at parts one (t ++ q)))) (sym (k.0 ∙ all))
-            (last_begun m ms t q h (parts o.last) o
-            ([], ap (visited parts) read ∙ sym (append-nil (parts o.last))))
-        | inr e ↦
-            let w = told o.last o.back (h.second.back ++ q) o.end (ended_behind h.second.back q h.second.second b.0) in
-            let same : All o.init ++ w.0 ≡ first =
-            append_cancel_right (All o.init ++ w.0) first (parameters_end ∷ [])
-            (append_assoc (All o.init) w.0 (parameters_end ∷ [])
-            ∙ ap (λ (l : List TreeEvent). All o.init ++ l) (sym w.1) ∙ sym all ∙ e) in
-            subst (Begins (visited All (members_at parts one (t ++ q)))) same (last_begun m ms t q h w.0 o w.2)
-      ]
+  members_whole told (m ∷ ms) t q first h b = elim (before_cases (All (m ∷ ms)) first q b) [
+    | inl k ↦ subst (Begins seen) (sym (k.0 ∙ pushed)) (last_begun m ms t q h (parts o.last) o (
+      [],
+      ap (visited parts) (again o.last o.back (h.second.back ++ q) o.end
+          (apart_behind h.second.back q h.second.second k.1)) ∙ sym (append-nil (parts o.last)),
+    ))
+    | inr e ↦ subst (Begins seen) (cut e) (last_begun m ms t q h (w b.0).0 o (w b.0).2)
+  ]
+    where
+      seen : List TreeEvent
+      seen = visited All (members_at parts one (t ++ q))
+
+      o : Parted Comma P (m ∷ ms) h.second.front
+      o = parted_of Comma P m ms h.second.front h.second.first
+
+      pushed : All (m ∷ ms) ≡ All o.init ++ parts o.last
+      pushed = all_push (m ∷ ms) o.init o.last o.same
+
+      w : IsEnded q → (es : List TreeEvent) × (parts o.last ≡ es ++ parameters_end ∷ [])
+          × Begins (visited parts (one (o.back ++ (h.second.back ++ q)))) es
+      w ended = told o.last o.back (h.second.back ++ q) o.end (ended_behind h.second.back q h.second.second ended)
+
+      cut : All (m ∷ ms) ≡ first ++ parameters_end ∷ [] → All o.init ++ (w b.0).0 ≡ first
+      cut e = append_cancel_right (All o.init ++ (w b.0).0) first (parameters_end ∷ [])
+          (append_assoc (All o.init) (w b.0).0 (parameters_end ∷ [])
+          ∙ ap (λ (l : List TreeEvent). All o.init ++ l) (sym (w b.0).1) ∙ sym pushed ∙ e)
 
   -- members; the inner list of the last one is open
   pub members_inner : ((m : A) (t : List ℕ) (before after : List TreeEvent) → P m t
@@ -475,34 +483,43 @@ module _ {A : Type 0} (P : A → List ℕ → Type 0) (parts : A → List TreeEv
       → Begins (visited All (members_at parts one (t ++ q))) first
   members_inner unclosed [] t q all first h e b =
       absurd (omega (arith, ap length e, length-append all (inner_list_end ∷ parameters_end ∷ [])))
-  members_inner unclosed (m ∷ ms) t q all first h e b =
-      let o = parted_of Comma P m ms h.second.front h.second.first in
-      let pushed = all_push (m ∷ ms) o.init o.last o.same in
-      let u = unclosed o.last o.back (All o.init) all o.end (sym pushed ∙ e) in
-      let front : List ℕ = h.front ++ o.front in
-      let text : (front ++ u.opened) ++ right_parenthesis ∷ h.second.back ≡ t ++ right_parenthesis ∷ [] =
-      sym (h.text ∙ ap (λ (l : List ℕ). h.front ++ l) (h.second.text
-      ∙ ap (λ (l : List ℕ). l ++ h.second.back) (o.text ∙ ap (λ (l : List ℕ). o.front ++ l) u.text))
-      ∙ simp append_assoc) in
-      let same : t ++ q ≡ front ++ (u.opened ++ q) =
-      ap (λ (l : List ℕ). l ++ q) (sym (cut_text (front ++ u.opened) t h.second.back h.second.second text).1)
-      ∙ append_assoc front u.opened q in
-      let begun = members_begun o.init front (u.opened ++ q) (in_turn h.front o.front h.first o.each) (u.fresh q) in
-      let told : (es : List TreeEvent) → Begins (visited parts (one (u.opened ++ q))) es
-      → Begins (visited All (members_at parts one (t ++ q))) (All o.init ++ es) =
-      λ es k. subst (λ (l : List ℕ). Begins (visited All (members_at parts one l)) (All o.init ++ es)) (sym same)
-      (begins_trans _ _ (All o.init ++ es) begun (begins_after (All o.init) _ es k)) in
-      let whole : All o.init ++ (u.most ++ u.last ∷ []) ≡ all =
-      append_cancel_right (All o.init ++ (u.most ++ u.last ∷ [])) all (inner_list_end ∷ parameters_end ∷ [])
-      (append_assoc (All o.init) (u.most ++ u.last ∷ []) (inner_list_end ∷ parameters_end ∷ [])
-      ∙ ap (λ (l : List TreeEvent). All o.init ++ l) (sym u.all) ∙ sym pushed ∙ e) in
-      elim (before_cases all first q b) [
-        | inl k ↦ subst (Begins (visited All (members_at parts one (t ++ q)))) (whole ∙ sym k.0)
-            (told (u.most ++ u.last ∷ []) (u.whole q b.0 k.1))
-        | inr k ↦ subst (Begins (visited All (members_at parts one (t ++ q))))
-            (snoc_same (All o.init ++ u.most) first u.last parameters_end
-            (append_assoc (All o.init) u.most (u.last ∷ []) ∙ whole ∙ k)) (told u.most (u.begun q b.0))
-      ]
+  members_inner unclosed (m ∷ ms) t q all first h e b = elim (before_cases all first q b) [
+    | inl k ↦ subst (Begins seen) (whole ∙ sym k.0) (told (u.most ++ u.last ∷ []) (u.whole q b.0 k.1))
+    | inr k ↦ subst (Begins seen) (snoc_same (All o.init ++ u.most) first u.last parameters_end
+        (append_assoc (All o.init) u.most (u.last ∷ []) ∙ whole ∙ k)) (told u.most (u.begun q b.0))
+  ]
+    where
+      seen : List TreeEvent
+      seen = visited All (members_at parts one (t ++ q))
+
+      o : Parted Comma P (m ∷ ms) h.second.front
+      o = parted_of Comma P m ms h.second.front h.second.first
+
+      pushed : All (m ∷ ms) ≡ All o.init ++ parts o.last
+      pushed = all_push (m ∷ ms) o.init o.last o.same
+
+      u : Unclosed parts one o.last o.back
+      u = unclosed o.last o.back (All o.init) all o.end (sym pushed ∙ e)
+
+      text : ((h.front ++ o.front) ++ u.opened) ++ right_parenthesis ∷ h.second.back ≡ t ++ right_parenthesis ∷ []
+      text = sym (h.text ∙ ap (λ (l : List ℕ). h.front ++ l) (h.second.text
+          ∙ ap (λ (l : List ℕ). l ++ h.second.back) (o.text ∙ ap (λ (l : List ℕ). o.front ++ l) u.text))
+          ∙ simp append_assoc)
+
+      same : t ++ q ≡ (h.front ++ o.front) ++ (u.opened ++ q)
+      same = ap (λ (l : List ℕ). l ++ q)
+          (sym (cut_text ((h.front ++ o.front) ++ u.opened) t h.second.back h.second.second text).1)
+          ∙ append_assoc (h.front ++ o.front) u.opened q
+
+      told : (es : List TreeEvent) → Begins (visited parts (one (u.opened ++ q))) es → Begins seen (All o.init ++ es)
+      told es k = subst (λ (l : List ℕ). Begins (visited All (members_at parts one l)) (All o.init ++ es)) (sym same)
+          (begins_trans _ _ (All o.init ++ es) (members_begun o.init (h.front ++ o.front) (u.opened ++ q)
+          (in_turn h.front o.front h.first o.each) (u.fresh q)) (begins_after (All o.init) _ es k))
+
+      whole : All o.init ++ (u.most ++ u.last ∷ []) ≡ all
+      whole = append_cancel_right (All o.init ++ (u.most ++ u.last ∷ [])) all (inner_list_end ∷ parameters_end ∷ [])
+          (append_assoc (All o.init) (u.most ++ u.last ∷ []) (inner_list_end ∷ parameters_end ∷ [])
+          ∙ ap (λ (l : List TreeEvent). All o.init ++ l) (sym u.all) ∙ sym pushed ∙ e)
 
 -- ---- fields
 
