@@ -5,7 +5,9 @@ pub mod Loops
 pub mod InnerLists
 pub mod Keyed
 pub mod Parameters
+pub mod Chained
 pub mod Begun
+pub mod Received
 pub mod Fields
 pub mod First
 pub mod Whole

@@ -1,21 +1,22 @@
 -- The input and the results of a parser.
 use Rattle.std.specs.Prelude.{◌≡◌, ◌≤◌, ⊤, ℕ, true, List, [], ◌∷◌, ◌++◌, codes, length, map, take, drop, Some, Result}
-use Rattle.std.specs.Prelude.{◌⊎◌, ◌↔◌, ◌==◌, ◌||◌, IfOk, IfErr, IsTrue, IsFalse, not}
+use Rattle.std.specs.Prelude.{◌⊎◌, ◌↔◌, ◌==◌, ◌||◌, if◌then◌else◌, IfOk, IfErr, IsTrue, IsFalse, not}
 use Rattle.std.specs.List.{FoldsTo}
 use Rattle.std.specs.Borrow.{Bor}
-use Rattle.sfv_spec.specs.Values.{RawField, BareValue, boolean, RawItem, item, IsFieldValue}
+use Rattle.sfv_spec.specs.Values.{RawField, BareValue, boolean, RawItem, IsFieldValue}
 use Rattle.sfv_spec.specs.declared.field_kind.FieldKind.{FieldKind}
 use Rattle.sfv_spec.specs.declared.field_kind.FieldKind.TheVariants.{Item as item_field, List as list_field}
 use Rattle.sfv_spec.specs.declared.field_kind.FieldKind.TheVariants.{Dictionary as dictionary_field}
 use Rattle.sfv_spec.specs.declared.version.Version.{Version}
 use Rattle.sfv_spec.specs.Ascii.{byte}
-use Rattle.sfv_spec.specs.Texts.{RunOf, ◌⨾◌, IsJoining, begins_with}
+use Rattle.sfv_spec.specs.Texts.{Exactly, RunOf, ◌⨾◌, IsJoining, begins_with}
 use Rattle.sfv_spec.specs.Classes.{is_key_inner}
-use Rattle.sfv_spec.specs.Grammar.{Spaces, Comma, IsBareText, IsKeyText, IsItemText, IsMemberText}
+use Rattle.sfv_spec.specs.Grammar.{Spaces, Comma, IsBareText, IsKeyText, IsMemberText}
 use Rattle.sfv_spec.specs.Grammar.{IsDictionaryMemberText, IsFieldText, IsEnded, IsAccepted, BeginsWithLongest}
 use Rattle.sfv_spec.specs.Grammar.{BeginsWithComplete, HasField}
 use Rattle.sfv_spec.specs.Reach.{IsReach}
-use Rattle.sfv_spec.specs.Events.{TreeEvent, entry, keyed_entry, begins_item, bare_item, parameter, item_events, events}
+use Rattle.sfv_spec.specs.Events.{TreeEvent, entry, keyed_entry, begins_item, begins_inner_list, bare_item}
+use Rattle.sfv_spec.specs.Events.{parameters_end, inner_list_end, item_events, events}
 use Rattle.sfv_spec.specs.Visiting.{BeginsEventsAfter}
 use Rattle.sfv_spec.specs.Faults.{IsFaultAt}
 use Rattle.sfv_spec.specs.declared.error_kind.ErrorKind.{ErrorKind}
@@ -92,24 +93,30 @@ IsBeforeMember version item_field i t = ⊥
 IsBeforeMember version list_field ms t = (Spaces ⨾ IsJoining (λ m. IsMemberText version m ⨾ Comma) ms) t
 IsBeforeMember version dictionary_field ms t = (Spaces ⨾ IsJoining (λ m. IsDictionaryMemberText version m ⨾ Comma) ms) t
 
--- the events of an item before the end of its parameters
-abbrev pub open_events : RawItem → List TreeEvent
-open_events i = begins_item ∷ bare_item i.bare ∷ map (λ p. parameter p.0 p.1) i.parameters
+-- the first event of a value with this text: an inner list begins with a parenthesis, and an item does not
+abbrev pub first_event : List ℕ → TreeEvent
+first_event t = if begins_with (λ c. c == byte "(") t then begins_inner_list else begins_item
 
--- At the start of `t`, a member begins with these events, whatever follows.
-pub data BeginsMember (version : Version) (t : List ℕ) : FieldKind → List TreeEvent → Type 0 where
+-- At the start of this text, a member begins with these events, whatever follows.
+pub data BeginsMember : FieldKind → List TreeEvent → List ℕ → Type 0 where
   -- a list member: the text is not empty, and does not begin with SP or a tab
-  list_member : IsTrue (begins_with (λ c. not (c == byte " " || c == byte "\t")) t)
-      → BeginsMember version t list_field (entry ∷ [])
-  -- a list member that begins with this item, which has ended or continues with more parameters
-  list_item : (i : RawItem) → (IsItemText version i ⨾ IsEnded) t
-      → BeginsMember version t list_field (entry ∷ open_events i)
+  list_member : {t : List ℕ} → IsTrue (begins_with (λ c. not (c == byte " " || c == byte "\t")) t)
+      → BeginsMember list_field (entry ∷ first_event t ∷ []) t
   -- a dictionary member with a key that has ended
-  dictionary_key : (key : List ℕ) → (IsKeyText key ⨾ (λ more. IsFalse (begins_with is_key_inner more))) t
-      → BeginsMember version t dictionary_field (keyed_entry key ∷ [])
-  -- a dictionary member with this key and this item, in the same way
-  dictionary_item : (key : List ℕ) (i : RawItem) → (IsDictionaryMemberText version (key, item i) ⨾ IsEnded) t
-      → BeginsMember version t dictionary_field (keyed_entry key ∷ open_events i)
+  dictionary_key : {t : List ℕ} (key : List ℕ) → (IsKeyText key ⨾ (λ more. IsFalse (begins_with is_key_inner more))) t
+      → BeginsMember dictionary_field (keyed_entry key ∷ []) t
+  -- a dictionary member with a key and "="
+  dictionary_value : {t : List ℕ} (key more : List ℕ) → (IsKeyText key ⨾ Exactly (codes "=" ++ more)) t
+      → BeginsMember dictionary_field (keyed_entry key ∷ first_event more ∷ []) t
+
+-- `t` follows a text with the events `all`, and a bare item may end there. Before `t` come the events `es`: all of
+-- them, or, if `t` begins with a semicolon, all but the last, which is the end of the parameters that `t` continues.
+abbrev pub AreBefore : List TreeEvent → List TreeEvent → List ℕ → Type 0
+AreBefore all es t = IsEnded t × (all ≡ es ++ (if begins_with (λ c. c == byte ";") t then parameters_end ∷ [] else []))
+
+-- the events `es` begin with `first`
+abbrev pub BeginWith : List TreeEvent → List TreeEvent → Type 0
+BeginWith first es = (others : List TreeEvent) × (es ≡ first ++ others)
 
 -- what a visitor in the state `from` does
 module _ {S O E : Type 0} (v : Visitor S O E) (from : S) where
@@ -146,19 +153,22 @@ module _ {S O E : Type 0} (v : Visitor S O E) (p : Parser) (kind : FieldKind) (f
   IsSyntaxErrorBy (parse_errors.Visitor error) = ⊤
 
   -- The visitor received these events. On a rejected text, they begin the events of some field that begins with the
-  -- bytes before the reach. If a field is followed by a comma in the text, all events of that field are among them. If
-  -- a member begins after other members, so are its first events, directly after the events of those members.
+  -- bytes before the reach. `whole`: if the text begins with a field, they begin with the events of that field before
+  -- the rest. `open_inner_list`: so it is if the field lacks only the `)` of its last inner list. `begun`: if a member
+  -- begins after other members, they begin with the events of those members and the first events of this one.
   pub record ReceivesUpTo : Type 0 where
     pub es : List TreeEvent
     pub to : S
     pub taken : FoldsTo v.takes from es to
     pub begins : (n : ℕ) → IsReach (version_of p) kind (input_of p) n
         → BeginsEventsAfter (version_of p) kind (take n (input_of p)) es
-    pub whole : (raw : RawField kind) (front rest : List ℕ) → input_of p ≡ front ++ codes "," ++ rest
-        → IsFieldText (version_of p) kind raw front → (others : List TreeEvent) × (es ≡ events kind raw ++ others)
-    pub begun : (raw : RawField kind) (front rest : List ℕ) (first : List TreeEvent) → input_of p ≡ front ++ rest
-        → IsBeforeMember (version_of p) kind raw front → BeginsMember (version_of p) rest kind first
-        → (others : List TreeEvent) × (es ≡ events kind raw ++ first ++ others)
+    pub whole : (raw : RawField kind) (first : List TreeEvent)
+        → (IsFieldText (version_of p) kind raw ⨾ AreBefore (events kind raw) first) (input_of p) → BeginWith first es
+    pub open_inner_list : (raw : RawField kind) (all first : List TreeEvent)
+        → ((λ front. IsFieldText (version_of p) kind raw (front ++ codes ")")) ⨾ AreBefore all first) (input_of p)
+        → events kind raw ≡ all ++ inner_list_end ∷ parameters_end ∷ [] → BeginWith first es
+    pub begun : (raw : RawField kind) (first : List TreeEvent) → (IsBeforeMember (version_of p) kind raw
+        ⨾ BeginsMember kind first) (input_of p) → BeginWith (events kind raw ++ first) es
 
   -- A syntax error comes only after the visitor has received the events before it.
   abbrev pub ReceivesBeforeErrorBy : ParseError E → Type 0
@@ -179,6 +189,16 @@ module _ {S O E : Type 0} (v : Visitor S O E) (p : Parser) (kind : FieldKind) (f
       × IsFieldText (version_of p) kind raw (take n (input_of p) ++ more)
       × FailsOn v from (events kind raw) ((kind ≡ item_field) × (more ≡ [])) error))
 
+  -- The clauses of `parse_.._with_visitor` for one visitor. They describe its result, the events as read, a syntax
+  -- error and the events before it, its own error, and the texts for which memory is allocated.
+  pub record ReadsBy (result : Result O (ParseError E)) : Type 0 where
+    pub visited : IfOk result IsAnswerBy
+    pub as_read : IfOk result ReceivesAsReadBy
+    pub syntax : IfErr result IsSyntaxErrorBy
+    pub before_error : IfErr result ReceivesBeforeErrorBy
+    pub visitor : IfErr result IsVisitorErrorBy
+    pub memory : IfErr result (NeedsMark (input_of p))
+
 -- how the parser's call for an item ends, with this visitor in the state `from`
 module _ {S O E : Type 0} (v : Visitor S O E) (p : Parser) (from : S) where
   -- If a complete bare item comes first in the text, the visitor receives it before any later syntax error. An error
@@ -191,19 +211,7 @@ module _ {S O E : Type 0} (v : Visitor S O E) (p : Parser) (from : S) where
       × ((value : BareValue) → BeginsWithComplete (version_of p) value (input_of p) → raw.bare ≡ value)
       × FailsOn v from (item_events raw) ⊤ error
 
--- The clauses of `parse_.._with_visitor` for one visitor. They describe its result, the events as read, a syntax error
--- and the events before it, its own error, and the texts for which memory is allocated.
-pub record ReadsBy {S O E : Type 0} (v : Visitor S O E) (p : Parser) (kind : FieldKind) (from : S)
-    (result : Result O (ParseError E)) : Type 0 where
-  pub visited : IfOk result (IsAnswerBy v p kind from)
-  pub as_read : IfOk result (ReceivesAsReadBy v p kind from)
-  pub syntax : IfErr result (IsSyntaxErrorBy v p kind from)
-  pub before_error : IfErr result (ReceivesBeforeErrorBy v p kind from)
-  pub visitor : IfErr result (IsVisitorErrorBy v p kind from)
-  pub memory : IfErr result (NeedsMark (input_of p))
-
--- The same for an item. In addition, the visitor receives the bare item first.
-pub record ReadsItemBy {S O E : Type 0} (v : Visitor S O E) (p : Parser) (from : S) (result : Result O (ParseError E))
-    : Type 0 where
-  pub all : ReadsBy v p item_field from result
-  pub first : IfErr result (ReceivesFirstBy v p from)
+  -- The clauses of the call for an item. In addition, the visitor receives the bare item first.
+  pub record ReadsItemBy (result : Result O (ParseError E)) : Type 0 where
+    pub all : ReadsBy v p item_field from result
+    pub first : IfErr result ReceivesFirstBy

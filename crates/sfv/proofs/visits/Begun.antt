@@ -1,184 +1,54 @@
--- What a visitor was told of the member that begins after others, whatever comes of it.
-use Rattle.std.proofs.Common.{◌≡◌, ℕ, ◌≤◌, eqb, true, false, List, [], ◌∷◌, ◌++◌, length, Some, Ok, Err, refl, sym, ap}
-use Rattle.std.proofs.Common.{subst, ◌∙◌, append_assoc, arith, inl, inr}
-use Rattle.std.proofs.lemmas.List.{append-nil}
-use Rattle.std.proofs.lemmas.Bool.{or_parts, and_parts, or_cases, eqb-true, not-true, true≢false}
-use Rattle.std.specs.Prelude.{Bool, IsTrue, IsFalse, map, flat_map, ◌||◌, codes, not, ◌==◌}
+-- The first events of items and members, whatever follows.
+use Rattle.std.proofs.Common.{◌≡◌, ℕ, ◌≤◌, eqb, true, false, List, [], ◌∷◌, ◌++◌, length, Some, None, Ok, Err, refl}
+use Rattle.std.proofs.Common.{sym, ap, subst, ◌∙◌, append_assoc, arith, inl, inr}
+use Rattle.std.proofs.lemmas.List.{append-nil, length-append}
+use Rattle.std.proofs.lemmas.Bool.{or_parts, and_parts, or_cases, eqb-true, not-true, true≢false, cases_Bool}
+use Rattle.std.specs.Prelude.{Bool, map, flat_map, ◌||◌, codes, not, ◌==◌}
 use Rattle.std.specs.List.{list_all}
-use Rattle.sfv_spec.proofs.Marks.{comma, tab, equals_sign, semicolon, left_parenthesis, true_with, is_space}
-use Rattle.sfv_spec.proofs.Marks.{is_space_or_tab}
-use Rattle.sfv_spec.specs.Texts.{RunOf, begins_with, ◌⨾◌, IsJoining}
+use Rattle.sfv_spec.proofs.Marks.{space, tab, equals_sign, semicolon, left_parenthesis, right_parenthesis, true_with}
+use Rattle.sfv_spec.proofs.Marks.{is_space, is_space_or_tab}
+use Rattle.sfv_spec.proofs.Bare.{is_bare_start}
+use Rattle.sfv_spec.specs.Texts.{RunOf}
 use Rattle.sfv_spec.specs.Classes.{is_key_inner, is_token_inner, is_one_of}
-use Rattle.sfv_spec.specs.Values.{BareValue, boolean, RawParameters, RawItem, RawMember, item, inner_list, RawField}
-use Rattle.sfv_spec.specs.declared.field_kind.FieldKind.{FieldKind}
-use Rattle.sfv_spec.specs.declared.field_kind.FieldKind.TheVariants.{Item as item_field, List as list_field}
-use Rattle.sfv_spec.specs.declared.field_kind.FieldKind.TheVariants.{Dictionary as dictionary_field}
+use Rattle.sfv_spec.specs.Values.{BareValue, boolean, RawParameters, RawItem, RawMember, RawInnerList, item, inner_list}
 use Rattle.sfv_spec.specs.declared.version.Version.{Version}
-use Rattle.sfv_spec.specs.Grammar.{Spaces, Comma, IsKeyText, IsValueText, IsParameterText, IsEnded, IsItemText}
+use Rattle.sfv_spec.specs.Grammar.{IsKeyText, IsValueText, IsParameterText, IsEnded, IsItemText}
 use Rattle.sfv_spec.specs.Grammar.{IsMemberText, IsDictionaryMemberText, IsParametersText, IsMemberValueText}
-use Rattle.sfv_spec.specs.Events.{TreeEvent, entry, keyed_entry, begins_item, bare_item, parameter, parameters_end}
-use Rattle.sfv_spec.specs.Events.{parameters_events, item_events, member_events, entry_events, keyed_events, events}
+use Rattle.sfv_spec.specs.Events.{TreeEvent, entry, keyed_entry, begins_item, begins_inner_list, bare_item, parameter}
+use Rattle.sfv_spec.specs.Events.{parameters_end, inner_list_end, parameters_events, item_events, inner_item_events}
+use Rattle.sfv_spec.specs.Events.{member_events, entry_events, keyed_events}
 use Rattle.sfv_spec.proofs.Settled.{joining-nil, joining-cons}
-use Rattle.sfv_model.specs.Reader.{Answer, Reader, Apart, visited, and_then, give, ◌>>=◌, bind, led, led_answer, many}
-use Rattle.sfv_model.specs.Reader.{go_on, one_and_more}
+use Rattle.sfv_model.specs.Reader.{Answer, Apart, visited, and_then, give, ◌>>=◌, bind, led, led_answer, many}
+use Rattle.sfv_model.specs.Reader.{branch, go_on}
 use Rattle.sfv_model.specs.Items.{value_at, parameter_at, parameter_event, parameters_at, item_of, item_at}
+use Rattle.sfv_model.specs.Members.{inner_item_at, next_item_at, inner_items_at, inner_at, inner_of, closed_events}
 use Rattle.sfv_model.specs.Members.{member_at, entry_at, member_value_at, keyed_at}
-use Rattle.sfv_model.specs.Fields.{next_at, members_at, whole_field_at}
-use Rattle.sfv_model.proofs.sound.Combinators.{Begins, Reads, Goes, begins_after, begins_longer, run_head}
+use Rattle.sfv_model.proofs.sound.Combinators.{Begins, begins_after, begins_longer, run_head, run_tail}
 use Rattle.sfv_model.proofs.sound.Items.{Consumes-parameter}
-use Rattle.sfv_model.proofs.sound.Many.{many_is}
-use Rattle.sfv_model.proofs.sound.Separated.{Consumes-next, comma_complete}
+use Rattle.sfv_model.proofs.sound.Many.{many_is, many_complete}
+use Rattle.sfv_model.proofs.sound.Members.{IsClosed, IsNextItem, IsItems, Consumes-next_item}
 use Rattle.sfv_model.proofs.complete.Combinators.{Apart-nil, Apart-cons, Apart-part, branch_past, branch_take}
-use Rattle.sfv_model.proofs.complete.Combinators.{ahead_take, ahead_any, bind_complete, span_complete}
+use Rattle.sfv_model.proofs.complete.Combinators.{ahead_any, bind_complete, led_complete, span_complete}
 use Rattle.sfv_model.proofs.complete.Bare.{bare_complete}
-use Rattle.sfv_model.proofs.complete.Items.{lengthens, lengthens_item, blank_ends, key_complete, item_no, key_apart}
-use Rattle.sfv_model.proofs.complete.Items.{equals_apart}
+use Rattle.sfv_model.proofs.complete.Items.{lengthens, lengthens_item, key_complete, item_no, item_begun, begun_some}
+use Rattle.sfv_model.proofs.complete.Items.{key_apart, equals_apart, space_ends}
 use Rattle.sfv_model.proofs.texts.Joining.{joining_none}
-use Rattle.sfv_model.proofs.complete.Fields.{comma_ends}
-use Rattle.sfv_model.proofs.complete.Members.{entry_complete, entry_fresh, keyed_complete, keyed_fresh}
-use Rattle.sfv_model.proofs.sound.Members.{Sound-entry, Sound-keyed}
-use Rattle.sfv_model.proofs.visits.EventsBeforeRuleAlike.{begins_all, begins_trans}
-use Rattle.sfv.specs.Parsers.{open_events, IsBeforeMember, BeginsMember, list_member, list_item, dictionary_key}
-use Rattle.sfv.specs.Parsers.{dictionary_item}
+use Rattle.sfv_model.proofs.complete.Members.{inner_item_complete, next_item_complete, inner_parts, keyed_fresh}
+use Rattle.sfv_model.proofs.visits.EventsBeforeRuleAlike.{begins_all}
+use Rattle.sfv.proofs.visits.Chained.{put_events}
+use Rattle.sfv.specs.Parsers.{first_event}
 
--- a comma may stand after a member
-comma_apart : (b q : List ℕ) → RunOf is_space_or_tab b → Apart lengthens_item (b ++ comma ∷ q)
-comma_apart [] q each = comma_ends q
-comma_apart (c ∷ b) q each = blank_ends c (b ++ comma ∷ q) (run_head is_space_or_tab c b each)
-
-no_space : (q : List ℕ) → Apart is_space_or_tab q → Apart is_space q
+pub no_space : (q : List ℕ) → Apart is_space_or_tab q → Apart is_space q
 no_space q h = record { apart = λ c e. (or_parts (is_space c) (eqb c tab) (h.apart c e)).0 }
 
-comma_text : (c y : List ℕ) (h : Comma c) → c ++ y ≡ h.front ++ comma ∷ (h.second.back ++ y)
-comma_text c y h =
-    ap (λ (l : List ℕ). l ++ y) (h.text ∙ ap (λ (l : List ℕ). h.front ++ l) (h.second.text
-    ∙ ap (λ (l : List ℕ). l ++ h.second.back) h.second.first)) ∙ append_assoc h.front (comma ∷ h.second.back) y
-
-put_events : {A : Type 0} (parts : A → List TreeEvent) (m : A) (a : Answer (List A))
-    → visited (λ ms. flat_map parts ms) (led_answer (parts m) (and_then a (λ vs. give (m ∷ vs))))
-    ≡ parts m ++ visited (λ ms. flat_map parts ms) a
-unfolding give
-put_events parts m (Ok x) = refl
-put_events parts m (Err e) = refl
-
-module _ {A : Type 0} (P : A → List ℕ → Type 0) (parts : A → List TreeEvent) (one : Reader A)
-    (reads : Reads one P (Goes P parts)) (again : (m : A) (t q : List ℕ) → P m t → Apart lengthens_item q
-    → one (t ++ q) ≡ Ok (m, q)) (fresh : (m : A) (t q : List ℕ) → P m t
-    → Apart is_space_or_tab (t ++ q) × (1 ≤ length (t ++ q))) where
-  abbrev All : List A → List TreeEvent
-  All ms = flat_map parts ms
-
-  abbrev More : Reader (List A)
-  More = many parts (next_at one)
-
-  abbrev Members : Reader (List A)
-  Members = one_and_more parts one (next_at one)
-
-  another : (a : Answer A)
-      → and_then (and_then a (λ m. give (Some m))) (go_on parts More)
-      ≡ and_then a (λ v. led (parts v) (More >>= λ vs. give (v ∷ vs)))
-  unfolding give
-  another (Ok x) = refl
-  another (Err e) = refl
-
-  -- a comma, and a member
-  next_is : (c y : List ℕ) → Comma c → Apart is_space_or_tab y → 1 ≤ length y
-      → next_at one (c ++ y) ≡ (one >>= λ m. give (Some m)) y
-  unfolding next_at
-  next_is c y h none some =
-      let w : List ℕ = h.second.back in
-      ap (next_at one) (comma_text c y h) ∙ bind_complete _ _ _ _ _
-      (span_complete is_space_or_tab h.front (comma ∷ (w ++ y)) h.first
-      (Apart-cons is_space_or_tab comma (w ++ y) refl))
-      ∙ ahead_any _ _ (comma ∷ (w ++ y)) (omega arith) ∙ ahead_take _ _ _ comma (w ++ y) refl
-      ∙ bind_complete _ _ _ _ _ (comma_complete P parts one w y h.second.second none some)
-
-  -- after a comma the members go on as they begin
-  after_comma : (c y : List ℕ) → Comma c → Apart is_space_or_tab y → 1 ≤ length y → More (c ++ y) ≡ Members y
-  unfolding bind
-  after_comma c y h none some =
-      many_is parts (next_at one) (Consumes-next P parts one reads) (c ++ y)
-      ∙ ap (λ a. and_then a (go_on parts More)) (next_is c y h none some) ∙ another (one y)
-
-  member_read : (m : A) (t q : List ℕ) → P m t → Apart lengthens_item q
-      → Members (t ++ q) ≡ led (parts m) (More >>= λ vs. give (m ∷ vs)) q
-  member_read m t q h f = bind_complete _ _ _ _ _ (again m t q h f)
-
-  member_events_first : (m : A) (t q : List ℕ) → P m t → Apart lengthens_item q
-      → visited All (Members (t ++ q)) ≡ parts m ++ visited All (More q)
-  unfolding bind led
-  member_events_first m t q h f = ap (visited All) (member_read m t q h f) ∙ put_events parts m (More q)
-
-  -- members with a comma after each
-  abbrev Each : List A → List ℕ → Type 0
-  Each ms = IsJoining (λ m. P m ⨾ Comma) ms
-
-  fresh_after : (ms : List A) (u rest : List ℕ) → Each ms u → Apart is_space_or_tab rest → 1 ≤ length rest
-      → Apart is_space_or_tab (u ++ rest) × (1 ≤ length (u ++ rest))
-  fresh_after [] u rest h none some =
-      subst (λ (l : List ℕ). Apart is_space_or_tab (l ++ rest) × (1 ≤ length (l ++ rest))) (sym (joining-nil h))
-      (none, some)
-  fresh_after (m ∷ ms) u rest h none some =
-      let j = joining-cons h in
-      let all : u ++ rest ≡ j.first.front ++ (j.first.back ++ (j.back ++ rest)) =
-      ap (λ (l : List ℕ). l ++ rest) (j.text ∙ ap (λ (l : List ℕ). l ++ j.back) j.first.text) ∙ simp append_assoc in
-      subst (λ (l : List ℕ). Apart is_space_or_tab l × (1 ≤ length l)) (sym all)
-      (fresh m j.first.front (j.first.back ++ (j.back ++ rest)) j.first.first)
-
-  after_members : (ms : List A) (u rest : List ℕ) → Each ms u → Apart is_space_or_tab rest → 1 ≤ length rest
-      → visited All (Members (u ++ rest)) ≡ All ms ++ visited All (Members rest)
-  after_members [] u rest h none some = ap (λ (l : List ℕ). visited All (Members (l ++ rest))) (joining-nil h)
-  after_members (m ∷ ms) u rest h none some =
-      let j = joining-cons h in
-      let c = j.first.second in
-      let y : List ℕ = j.back ++ rest in
-      let all : u ++ rest ≡ j.first.front ++ (j.first.back ++ y) =
-      ap (λ (l : List ℕ). l ++ rest) (j.text ∙ ap (λ (l : List ℕ). l ++ j.back) j.first.text) ∙ simp append_assoc in
-      let on = fresh_after ms j.back rest j.second none some in
-      let ends : Apart lengthens_item (j.first.back ++ y) =
-      subst (Apart lengthens_item) (sym (comma_text j.first.back y c))
-      (comma_apart c.front (c.second.back ++ y) c.first) in
-      ap (λ (l : List ℕ). visited All (Members l)) all
-      ∙ member_events_first m j.first.front (j.first.back ++ y) j.first.first ends
-      ∙ ap (λ a. parts m ++ visited All a) (after_comma j.first.back y c on.0 on.1)
-      ∙ ap (λ (l : List TreeEvent). parts m ++ l) (after_members ms j.back rest j.second none some)
-      ∙ sym (append_assoc (parts m) (All ms) (visited All (Members rest)))
-
-  -- the first member
-  first_begins : (q : List ℕ) → Begins (visited All (Members q)) (visited parts (one q))
-  unfolding bind led
-  first_begins q = on (one q)
-    where
-      on : (a : Answer A) → Begins (visited All (and_then a (λ v. led (parts v) (More >>= λ vs. give (v ∷ vs)))))
-          (visited parts a)
-      on (Ok x) = (visited All (More x.1), put_events parts x.0 (More x.1))
-      on (Err e) = ([], sym (append-nil e.events))
-
-  -- after these members, the next one begins with what its reader tells
-  pub members_begun : (ms : List A) (front rest : List ℕ) → (Spaces ⨾ Each ms) front → Apart is_space_or_tab rest
-      → 1 ≤ length rest
-      → Begins (visited All (members_at parts one (front ++ rest))) (All ms ++ visited parts (one rest))
-  unfolding members_at
-  members_begun ms front rest h none some =
-      let on = fresh_after ms h.back rest h.second none some in
-      let all : front ++ rest ≡ h.front ++ (h.back ++ rest) =
-      ap (λ (l : List ℕ). l ++ rest) h.text ∙ append_assoc h.front h.back rest in
-      let read : members_at parts one (front ++ rest) ≡ Members (h.back ++ rest) =
-      ap (members_at parts one) all
-      ∙ bind_complete _ _ _ _ _ (span_complete is_space h.front (h.back ++ rest) h.first (no_space _ on.0))
-      ∙ ahead_any _ _ (h.back ++ rest) on.1 in
-      subst (λ (l : List TreeEvent). Begins l (All ms ++ visited parts (one rest)))
-      (sym (ap (visited All) read ∙ after_members ms h.back rest h.second none some))
-      (begins_after (All ms) (visited All (Members rest)) (visited parts (one rest)) (first_begins rest))
-
--- ---- what each kind of member tells first
+-- ---- the first event of each kind of member
 
 led_events : {A : Type 0} (es : List TreeEvent) (parts few : A → List TreeEvent) (a : Answer A)
     → ((v : A) → parts v ≡ es ++ few v) → visited parts (led_answer es a) ≡ es ++ visited few a
 led_events es parts few (Ok x) each = each x.0
 led_events es parts few (Err e) each = refl
 
--- a list member tells of itself before it is read
+-- a list member, before it is read
 entry_told : (version : Version) (t : List ℕ)
     → visited entry_events (entry_at version t) ≡ entry ∷ visited member_events (member_at version t)
 unfolding entry_at led
@@ -190,8 +60,8 @@ key_read : (version : Version) (key t q : List ℕ) → IsKeyText key t → Apar
 unfolding keyed_at
 key_read version key t q k h = bind_complete _ _ _ _ _ (key_complete key t q k h)
 
--- a dictionary member does once its key is read
-keyed_told : (version : Version) (key t q : List ℕ) → IsKeyText key t → Apart is_key_inner q
+-- a dictionary member, after its key
+pub keyed_told : (version : Version) (key t q : List ℕ) → IsKeyText key t → Apart is_key_inner q
     → visited keyed_events (keyed_at version (t ++ q))
     ≡ keyed_entry key ∷ visited member_events (member_value_at version q)
 unfolding led bind give
@@ -217,17 +87,17 @@ none_of class (b ∷ bytes) c h e =
     ]
 
 -- no byte of this class ends a bare item
-ended_of : (class : ℕ → Bool) (q : List ℕ) → list_all (λ b. not (class b)) (codes "; \t,)") ≡ true → IsEnded q
+pub ended_of : (class : ℕ → Bool) (q : List ℕ) → list_all (λ b. not (class b)) (codes "; \t,)") ≡ true → IsEnded q
     → Apart class q
 ended_of class [] none ended = Apart-nil class
 ended_of class (c ∷ q) none ended = Apart-cons class c q (none_of class (codes "; \t,)") c none ended)
 
-token_apart : (q : List ℕ) → Apart lengthens q → Apart is_token_inner q
+pub token_apart : (q : List ℕ) → Apart lengthens q → Apart is_token_inner q
 token_apart q h = Apart-part is_token_inner lengthens q
     (λ c e. (or_parts (is_token_inner c) (is_key_inner c || eqb c equals_sign) e).0) h
 
 -- a dictionary member of this key, with nothing after it
-true_of_key : (version : Version) (key t : List ℕ) → IsKeyText key t
+pub true_of_key : (version : Version) (key t : List ℕ) → IsKeyText key t
     → IsDictionaryMemberText version (key, true_with []) t
 true_of_key version key t k = record {
   front = t;
@@ -237,7 +107,7 @@ true_of_key version key t k = record {
   second = inr ([], refl, joining_none (IsParameterText version));
 }
 
--- what stands after a key is no more of it
+-- the text after a key does not extend it
 value_apart : (version : Version) (value : BareValue) (t q : List ℕ) → IsValueText version value t
     → Apart is_key_inner q → Apart is_key_inner (t ++ q)
 value_apart version value t q (inl none) h = subst (λ (l : List ℕ). Apart is_key_inner (l ++ q)) (sym none.1) h
@@ -279,7 +149,7 @@ parameter_read version p t q i h =
 abbrev Given : RawParameters → List TreeEvent
 Given ps = flat_map parameter_event ps
 
-abbrev Pairs : RawParameters → List TreeEvent
+abbrev pub Pairs : RawParameters → List TreeEvent
 Pairs ps = map (λ p. parameter p.0 p.1) ps
 
 given_is : (ps : RawParameters) → Given ps ≡ Pairs ps
@@ -294,7 +164,7 @@ one_more version p t q e =
     ∙ ap (λ a. and_then a (go_on parameter_event (many parameter_event (parameter_at version)))) e)
     ∙ put_events parameter_event p (many parameter_event (parameter_at version) q)
 
--- parameters, whatever comes of those after them
+-- parameters, whatever follows them
 parameters_told : (version : Version) (ps : RawParameters) (t q : List ℕ) → IsParametersText version ps t
     → Apart lengthens q → Begins (visited Given (parameters_at version (t ++ q))) (Given ps) × Apart lengthens (t ++ q)
 parameters_told version [] t q i h =
@@ -336,8 +206,8 @@ item_read version i t q h f =
     ap (item_at version) (ap (λ (l : List ℕ). l ++ q) h.text ∙ append_assoc h.front h.back q)
     ∙ bind_complete _ _ _ _ _ (bare_complete version i.bare h.front (h.back ++ q) h.first f)
 
--- an item tells of its bare item and of these parameters, whatever comes of those after them
-item_told : (version : Version) (i : RawItem) (t q : List ℕ) → IsItemText version i t → IsEnded q
+-- an item up to these parameters, whatever follows them
+pub item_told : (version : Version) (i : RawItem) (t q : List ℕ) → IsItemText version i t → IsEnded q
     → Begins (visited item_events (item_at version (t ++ q))) (bare_item i.bare ∷ Pairs i.parameters)
 unfolding led bind give
 item_told version i t q h ended =
@@ -356,44 +226,145 @@ item_told version i t q h ended =
     on (Ok x) b = b
     on (Err e) b = b
 
--- a member tells of its item first
-member_told : (version : Version) (i : RawItem) (t q : List ℕ) → IsItemText version i t → IsEnded q
-    → Begins (visited member_events (member_at version (t ++ q))) (open_events i)
+-- an item of an inner list
+pub inner_item_told : (version : Version) (i : RawItem) (t q : List ℕ) → IsItemText version i t → IsEnded q
+    → Begins (visited inner_item_events (inner_item_at version (t ++ q)))
+    (begins_item ∷ bare_item i.bare ∷ Pairs i.parameters)
+unfolding inner_item_at led
+inner_item_told version i t q h ended =
+    let told = item_told version i t q h ended in (
+      told.0,
+      led_events (begins_item ∷ []) inner_item_events item_events (item_at version (t ++ q)) (λ i. refl)
+          ∙ ap (λ (l : List TreeEvent). begins_item ∷ l) told.1,
+    )
+
+-- ---- the items of an inner list, with the closing parenthesis
+
+closed_on : (version : Version) (spaces q : List ℕ) → RunOf is_space spaces
+    → (next_item_at version (spaces ++ right_parenthesis ∷ q) ≡ Ok (None, q))
+    × Apart lengthens_item (spaces ++ right_parenthesis ∷ q)
+unfolding next_item_at give
+closed_on version [] q each = (
+  branch_past _ _ _ (right_parenthesis ∷ q) (Apart-cons is_space right_parenthesis q refl)
+      ∙ branch_take _ _ _ right_parenthesis q refl,
+  Apart-cons lengthens_item right_parenthesis q refl,
+)
+closed_on version (c ∷ s) q each = (
+  branch_take _ _ _ c (s ++ right_parenthesis ∷ q) (run_head is_space c s each)
+      ∙ bind_complete _ _ _ _ _ (span_complete is_space s (right_parenthesis ∷ q) (run_tail is_space c s each)
+      (Apart-cons is_space right_parenthesis q refl)) ∙ branch_take _ _ _ right_parenthesis q refl,
+  rw (eqb-true c space (run_head is_space c s each)) (space_ends (s ++ right_parenthesis ∷ q)),
+)
+
+closed_whole : (e q : List ℕ) (h : IsClosed e) → e ++ q ≡ h.front ++ right_parenthesis ∷ q
+closed_whole e q h = simp (h.text, h.second, append_assoc)
+
+items_read : (version : Version) (is : List RawItem) (t q : List ℕ) → IsItems version is t
+    → inner_items_at version (t ++ q) ≡ Ok (is, q)
+unfolding inner_items_at give
+items_read version [] t q h =
+    ap (inner_items_at version) (closed_whole t q h)
+    ∙ ahead_any _ _ (h.front ++ right_parenthesis ∷ q) (omega (arith, length-append {A = ℕ}))
+    ∙ bind_complete _ _ _ _ _ (span_complete is_space h.front (right_parenthesis ∷ q) h.first
+    (Apart-cons is_space right_parenthesis q refl)) ∙ branch_take _ _ _ right_parenthesis q refl
+items_read version (i ∷ is) t q h =
+    let o = h.second in
+    let more = many_complete inner_item_events (next_item_at version) (Consumes-next_item version) (IsNextItem version)
+    IsClosed (Apart lengthens_item) q (λ v a q p f. next_item_complete version v a q p f)
+    (λ e c. rw (closed_whole e q c) (closed_on version c.front q c.first)) is o.back o.second in
+    let all : t ++ q ≡ h.front ++ (o.front ++ (o.back ++ q)) =
+    ap (λ (l : List ℕ). l ++ q) (h.text ∙ ap (λ (l : List ℕ). h.front ++ l) o.text) ∙ simp append_assoc in
+    let some : 1 ≤ length (o.front ++ (o.back ++ q)) =
+    begun_some is_bare_start (o.front ++ (o.back ++ q)) (item_begun version i o.front (o.back ++ q) o.first) in
+    ap (inner_items_at version) all ∙ ahead_any _ _ (h.front ++ (o.front ++ (o.back ++ q)))
+    (omega (arith, length-append {A = ℕ}))
+    ∙ bind_complete _ _ _ _ _ (span_complete is_space h.front (o.front ++ (o.back ++ q)) h.first
+    (item_no space version i o.front (o.back ++ q) refl o.first))
+    ∙ branch_past _ _ _ (o.front ++ (o.back ++ q))
+    (item_no right_parenthesis version i o.front (o.back ++ q) refl o.first)
+    ∙ bind_complete _ _ _ _ _ (inner_item_complete version i o.front (o.back ++ q) o.first more.1)
+    ∙ led_complete _ _ _ _ _ (bind_complete _ _ _ _ _ more.0)
+
+-- ---- members
+
+-- the events of a member before the end of its parameters
+abbrev pub open_events : RawMember → List TreeEvent
+open_events (item i) = begins_item ∷ bare_item i.bare ∷ Pairs i.parameters
+open_events (inner_list l) = begins_inner_list ∷ (closed_events l.items ++ Pairs l.parameters)
+
+pub member_open : (m : RawMember) → member_events m ≡ open_events m ++ parameters_end ∷ []
+member_open (item i) = refl
+member_open (inner_list l) = ap (λ (l : List TreeEvent). begins_inner_list ∷ l)
+    (sym (ap (λ (x : List TreeEvent). x ++ parameters_end ∷ []) (append_assoc (flat_map inner_item_events l.items)
+    (inner_list_end ∷ []) (Pairs l.parameters))
+    ∙ append_assoc (flat_map inner_item_events l.items) (inner_list_end ∷ Pairs l.parameters) (parameters_end ∷ [])))
+
+-- an item that is a member
+item_begins : (a : Answer RawItem)
+    → visited member_events (led_answer (begins_item ∷ []) (and_then a (λ i. give (item i))))
+    ≡ begins_item ∷ visited item_events a
+unfolding give
+item_begins (Ok x) = refl
+item_begins (Err e) = refl
+
+-- an inner list
+list_told : (version : Version) (l : RawInnerList) (t q : List ℕ) → IsMemberText version (inner_list l) t → IsEnded q
+    → Begins (visited member_events (member_at version (t ++ q))) (open_events (inner_list l))
+unfolding member_at inner_at led bind give
+list_told version l t q h ended =
+    let p = inner_parts version l.items l.parameters t h in
+    let all : t ++ q ≡ left_parenthesis ∷ (p.items ++ (p.rest ++ q)) =
+    ap (λ (l : List ℕ). l ++ q) p.text ∙ ap (λ (l : List ℕ). left_parenthesis ∷ l) (append_assoc p.items p.rest q) in
+    let ps = parameters_told version l.parameters p.rest q p.are_parameters (ended_of lengthens q refl ended) in
+    subst (λ a. Begins (visited member_events a) (open_events (inner_list l)))
+    (sym (ap (member_at version) all ∙ branch_take _ _ _ left_parenthesis (p.items ++ (p.rest ++ q)) refl
+    ∙ ap (λ a. led_answer (begins_inner_list ∷ []) (and_then a (λ is. led (closed_events is)
+    (parameters_at version >>= λ ps. give (inner_of is ps)))))
+    (items_read version l.items p.items (p.rest ++ q) p.are_items)))
+    (on (parameters_at version (p.rest ++ q))
+    (given_after (begins_inner_list ∷ closed_events l.items) l.parameters _ ps.0))
+  where
+    on : (a : Answer RawParameters)
+        → Begins (visited (λ qs. (begins_inner_list ∷ closed_events l.items) ++ parameters_events qs)
+        (led_answer (begins_inner_list ∷ closed_events l.items) a)) (open_events (inner_list l))
+        → Begins (visited member_events (led_answer (begins_inner_list ∷ [])
+        (led_answer (closed_events l.items) (and_then a (λ ps. give (inner_of l.items ps))))))
+        (open_events (inner_list l))
+    on (Ok x) b = (
+      b.0,
+      ap (λ (y : List TreeEvent). begins_inner_list ∷ y)
+          (sym (append_assoc (flat_map inner_item_events l.items) (inner_list_end ∷ []) (parameters_events x.0))) ∙ b.1,
+    )
+    on (Err e) b = b
+
+-- a member up to these parameters, whatever follows them
+pub member_told : (version : Version) (m : RawMember) (t q : List ℕ) → IsMemberText version m t → IsEnded q
+    → Begins (visited member_events (member_at version (t ++ q))) (open_events m)
 unfolding member_at led bind give
-member_told version i t q h ended =
+member_told version (item i) t q h ended =
     let told = item_told version i t q h ended in (
       told.0,
       ap (visited member_events) (branch_past _ _ _ (t ++ q) (item_no left_parenthesis version i t q refl h))
-          ∙ on (item_at version (t ++ q)) ∙ ap (λ (l : List TreeEvent). begins_item ∷ l) told.1,
+          ∙ item_begins (item_at version (t ++ q)) ∙ ap (λ (l : List TreeEvent). begins_item ∷ l) told.1,
     )
-  where
-    on : (a : Answer RawItem)
-        → visited member_events (led_answer (begins_item ∷ []) (and_then a (λ i. give (item i))))
-        ≡ begins_item ∷ visited item_events a
-    on (Ok x) = refl
-    on (Err e) = refl
+member_told version (inner_list l) t q h ended = list_told version l t q h ended
 
--- what an item has told, of a member
-abbrev open_of : RawMember → List TreeEvent
-open_of (item i) = open_events i
-open_of (inner_list l) = []
-
--- so does a dictionary member after its key, where the bare item may be left out
-value_told : (version : Version) (i : RawItem) (t q : List ℕ) → IsMemberValueText version (item i) t → IsEnded q
-    → Begins (visited member_events (member_value_at version (t ++ q))) (open_events i) × Apart is_key_inner (t ++ q)
+-- a dictionary member after its key, up to these parameters; the bare item may be omitted
+pub value_told : (version : Version) (m : RawMember) (t q : List ℕ) → IsMemberValueText version m t → IsEnded q
+    → Begins (visited member_events (member_value_at version (t ++ q))) (open_events m) × Apart is_key_inner (t ++ q)
 unfolding member_value_at led bind give
-value_told version i t q (inl h) ended =
+value_told version m t q (inl h) ended =
     let all : t ++ q ≡ equals_sign ∷ (h.back ++ q) =
     ap (λ (l : List ℕ). l ++ q) (h.text ∙ ap (λ (l : List ℕ). l ++ h.back) h.first) in (
-      subst (λ a. Begins (visited member_events a) (open_events i))
+      subst (λ a. Begins (visited member_events a) (open_events m))
           (sym (ap (member_value_at version) all ∙ branch_take _ _ _ equals_sign (h.back ++ q) refl))
-          (member_told version i h.back q h.second ended),
+          (member_told version m h.back q h.second ended),
       subst (Apart is_key_inner) (sym all) (Apart-cons is_key_inner equals_sign (h.back ++ q) refl),
     )
-value_told version i t q (inr h) ended =
+value_told version m t q (inr h) ended =
     let ps = parameters_told version h.0 t q h.2 (ended_of lengthens q refl ended) in
-    let is : open_events i ≡ begins_item ∷ bare_item (boolean true) ∷ Pairs h.0 = ap open_of h.1 in (
-      subst (λ a. Begins (visited member_events a) (open_events i))
+    let is : open_events m ≡ begins_item ∷ bare_item (boolean true) ∷ Pairs h.0 = ap open_events h.1 in (
+      subst (λ a. Begins (visited member_events a) (open_events m))
           (sym (branch_past _ _ _ (t ++ q) (equals_apart (t ++ q) ps.1)))
           (subst (λ (l : List TreeEvent). Begins (visited member_events
           (led_answer (begins_item ∷ bare_item (boolean true) ∷ [])
@@ -413,78 +384,58 @@ value_told version i t q (inr h) ended =
     on ps (Ok x) b = b
     on ps (Err e) b = b
 
--- ---- of a whole field
+-- an inner list with its items
+inner_begins : (version : Version) (u : List ℕ)
+    → Begins (visited member_events (led_answer (begins_inner_list ∷ []) (inner_at version u)))
+    (begins_inner_list ∷ visited (λ is. flat_map inner_item_events is) (inner_items_at version u))
+unfolding inner_at bind led give
+inner_begins version u = on (inner_items_at version u)
+  where
+    closed : (is : List RawItem) (a : Answer RawParameters)
+        → Begins (visited member_events (led_answer (begins_inner_list ∷ []) (led_answer (closed_events is)
+        (and_then a (λ ps. give (inner_of is ps)))))) (begins_inner_list ∷ flat_map inner_item_events is)
+    closed is (Ok x) = (inner_list_end ∷ parameters_events x.0, refl)
+    closed is (Err e) = (
+      inner_list_end ∷ e.events,
+      ap (λ (l : List TreeEvent). begins_inner_list ∷ l)
+          (append_assoc (flat_map inner_item_events is) (inner_list_end ∷ []) e.events),
+    )
 
--- a text that begins with no blank is not empty
-some_fresh : (t : List ℕ) → IsTrue (begins_with (λ c. not (is_space_or_tab c)) t)
-    → Apart is_space_or_tab t × (1 ≤ length t)
-some_fresh [] h = absurd (true≢false (sym h))
-some_fresh (c ∷ t) h = (Apart-cons is_space_or_tab c t (not-true (is_space_or_tab c) h), omega arith)
+    on : (a : Answer (List RawItem))
+        → Begins (visited member_events (led_answer (begins_inner_list ∷ []) (and_then a (λ is. led (closed_events is)
+        (parameters_at version >>= λ ps. give (inner_of is ps))))))
+        (begins_inner_list ∷ visited (λ is. flat_map inner_item_events is) a)
+    on (Ok x) = closed x.0 (parameters_at version x.1)
+    on (Err e) = ([], sym (append-nil (begins_inner_list ∷ e.events)))
 
-apart_of : (class : ℕ → Bool) (t : List ℕ) → IsFalse (begins_with class t) → Apart class t
-apart_of class [] h = Apart-nil class
-apart_of class (c ∷ t) h = Apart-cons class c t h
+-- an inner list from its opening parenthesis
+pub open_told : (version : Version) (u : List ℕ)
+    → Begins (visited member_events (member_at version (left_parenthesis ∷ u)))
+    (begins_inner_list ∷ visited (λ is. flat_map inner_item_events is) (inner_items_at version u))
+unfolding member_at led
+open_told version u = subst (λ a. Begins (visited member_events a)
+    (begins_inner_list ∷ visited (λ is. flat_map inner_item_events is) (inner_items_at version u)))
+    (sym (branch_take _ _ _ left_parenthesis u refl)) (inner_begins version u)
 
-list_begun : (version : Version) (ms : List RawMember) (front rest : List ℕ) (first : List TreeEvent)
-    → IsBeforeMember version list_field ms front → Apart is_space_or_tab rest × (1 ≤ length rest)
-    → Begins (visited entry_events (entry_at version rest)) first
-    → Begins (visited (events list_field) (whole_field_at version list_field (front ++ rest)))
-    (events list_field ms ++ first)
-unfolding whole_field_at
-list_begun version ms front rest first h fresh b =
-    begins_trans _ _ _ (members_begun (IsMemberText version) entry_events (entry_at version) (Sound-entry version)
-    (entry_complete version) (entry_fresh version) ms front rest h fresh.0 fresh.1)
-    (begins_after (events list_field ms) (visited entry_events (entry_at version rest)) first b)
+-- the first event of a member
+pub first_told : (version : Version) (t : List ℕ)
+    → Begins (visited member_events (member_at version t)) (first_event t ∷ [])
+unfolding member_at branch led bind give
+first_told version [] = (_, item_begins (item_at version []))
+first_told version (c ∷ t) = elim (cases_Bool (c == left_parenthesis)) [
+  | inl e ↦ rw e (_, (inner_begins version t).1)
+  | inr e ↦ rw e (_, item_begins (item_at version (c ∷ t)))
+]
 
-dictionary_begun : (version : Version) (ms : List (List ℕ × RawMember)) (front rest : List ℕ) (first : List TreeEvent)
-    → IsBeforeMember version dictionary_field ms front → Apart is_space_or_tab rest × (1 ≤ length rest)
-    → Begins (visited keyed_events (keyed_at version rest)) first
-    → Begins (visited (events dictionary_field) (whole_field_at version dictionary_field (front ++ rest)))
-    (events dictionary_field ms ++ first)
-unfolding whole_field_at
-dictionary_begun version ms front rest first h fresh b =
-    begins_trans _ _ _ (members_begun (IsDictionaryMemberText version) keyed_events (keyed_at version)
-    (Sound-keyed version) (keyed_complete version) (keyed_fresh version) ms front rest h fresh.0 fresh.1)
-    (begins_after (events dictionary_field ms) (visited keyed_events (keyed_at version rest)) first b)
+-- ---- list members and dictionary members, with their first event
 
-keyed_begins : (version : Version) (key t q : List ℕ) (first : List TreeEvent) → IsKeyText key t → Apart is_key_inner q
-    → Begins (visited member_events (member_value_at version q)) first
-    → Begins (visited keyed_events (keyed_at version (t ++ q))) (keyed_entry key ∷ first)
-keyed_begins version key t q first k h b =
-    (b.0, keyed_told version key t q k h ∙ ap (λ (l : List TreeEvent). keyed_entry key ∷ l) b.1)
-
-entry_begins : (version : Version) (t : List ℕ) (first : List TreeEvent)
+pub entry_begins : (version : Version) (t : List ℕ) (first : List TreeEvent)
     → Begins (visited member_events (member_at version t)) first
     → Begins (visited entry_events (entry_at version t)) (entry ∷ first)
 entry_begins version t first b = (b.0, entry_told version t ∙ ap (λ (l : List TreeEvent). entry ∷ l) b.1)
 
--- what is visited of a field in whose text a member begins
-pub visited_begun : (version : Version) (kind : FieldKind) (raw : RawField kind) (front rest : List ℕ)
-    (first : List TreeEvent) → IsBeforeMember version kind raw front → BeginsMember version rest kind first
-    → Begins (visited (events kind) (whole_field_at version kind (front ++ rest))) (events kind raw ++ first)
-visited_begun version item_field i front rest first h member = absurd h
-visited_begun version list_field ms front rest first h (list_member fresh) =
-    list_begun version ms front rest (entry ∷ []) h (some_fresh rest fresh)
-    (entry_begins version rest [] (begins_all _))
-visited_begun version list_field ms front rest first h (list_item i b) =
-    list_begun version ms front rest (entry ∷ open_events i) h
-    (subst (λ (l : List ℕ). Apart is_space_or_tab l × (1 ≤ length l)) (sym b.text)
-    (entry_fresh version (item i) b.front b.back b.first))
-    (subst (λ (l : List ℕ). Begins (visited entry_events (entry_at version l)) (entry ∷ open_events i)) (sym b.text)
-    (entry_begins version (b.front ++ b.back) (open_events i) (member_told version i b.front b.back b.first b.second)))
-visited_begun version dictionary_field ms front rest first h (dictionary_key key b) =
-    dictionary_begun version ms front rest (keyed_entry key ∷ []) h
-    (subst (λ (l : List ℕ). Apart is_space_or_tab l × (1 ≤ length l)) (sym b.text)
-    (keyed_fresh version (key, true_with []) b.front b.back (true_of_key version key b.front b.first)))
-    (subst (λ (l : List ℕ). Begins (visited keyed_events (keyed_at version l)) (keyed_entry key ∷ [])) (sym b.text)
-    (keyed_begins version key b.front b.back [] b.first (apart_of is_key_inner b.back b.second) (begins_all _)))
-visited_begun version dictionary_field ms front rest first h (dictionary_item key i b) =
-    let m = b.first in
-    let told = value_told version i m.back b.back m.second b.second in
-    let all : rest ≡ m.front ++ (m.back ++ b.back) =
-    b.text ∙ ap (λ (l : List ℕ). l ++ b.back) m.text ∙ append_assoc m.front m.back b.back in
-    dictionary_begun version ms front rest (keyed_entry key ∷ open_events i) h
-    (subst (λ (l : List ℕ). Apart is_space_or_tab l × (1 ≤ length l)) (sym b.text)
-    (keyed_fresh version (key, item i) b.front b.back m))
-    (subst (λ (l : List ℕ). Begins (visited keyed_events (keyed_at version l)) (keyed_entry key ∷ open_events i))
-    (sym all) (keyed_begins version key m.front (m.back ++ b.back) (open_events i) m.first told.1 told.0))
+pub keyed_begins : (version : Version) (key t q : List ℕ) (first : List TreeEvent) → IsKeyText key t
+    → Apart is_key_inner q → Begins (visited member_events (member_value_at version q)) first
+    → Begins (visited keyed_events (keyed_at version (t ++ q))) (keyed_entry key ∷ first)
+keyed_begins version key t q first k h b =
+    (b.0, keyed_told version key t q k h ∙ ap (λ (l : List TreeEvent). keyed_entry key ∷ l) b.1)

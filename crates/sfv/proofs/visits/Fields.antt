@@ -2,9 +2,9 @@
 use Rattle.std.proofs.Common.{◌≡◌, ℕ, ◌≤◌, List, [], ◌∷◌, ◌++◌, length, take, drop, Option, Some, None, Result, Ok, Err}
 use Rattle.std.proofs.Common.{refl, sym, ap, subst, ◌∙◌, append_assoc, inl, inr}
 use Rattle.std.proofs.lemmas.List.{append_cancel_right, append-nil, take-append-drop}
-use Rattle.std.specs.Prelude.{⊤, codes, Bool, true, false, MatchOption, IfOk, IfErr, flat_map, ◌⊎◌}
+use Rattle.std.specs.Prelude.{⊤, Bool, true, false, MatchOption, IfOk, IfErr, flat_map, ◌⊎◌}
 use Rattle.std.specs.declared.alloc.Global.{Global}
-use Rattle.sfv_spec.proofs.Marks.{is_space, comma}
+use Rattle.sfv_spec.proofs.Marks.{is_space}
 use Rattle.sfv_spec.specs.Values.{RawField, RawItem, IsFieldValue}
 use Rattle.sfv_spec.specs.declared.field_kind.FieldKind.{FieldKind}
 use Rattle.sfv_spec.specs.declared.field_kind.FieldKind.TheVariants.{Item as item_field, List as list_field}
@@ -35,7 +35,6 @@ use Rattle.sfv_model.proofs.Theorems.{read_is_accepted, fault_is_placed}
 use Rattle.sfv_model.proofs.TrailingBytes.{read_before}
 use Rattle.sfv_model.proofs.visits.Fields.{visited_begins}
 use Rattle.sfv_model.proofs.visits.EventsBeforeReach.{visited_reach}
-use Rattle.sfv_model.proofs.visits.EventsBeforeComma.{visited_before}
 use Rattle.sfv.specs.declared.parser.Parser.{Parser}
 use Rattle.sfv.specs.declared.parser.cursor.Cursor.{Cursor}
 use Rattle.sfv.specs.parser.Cursor.{kept_input, located, IsErrorOf, located_whole}
@@ -44,11 +43,11 @@ use Rattle.sfv_tree.specs.declared.visitor.Visitor.{Ghosts}
 use Rattle.sfv.specs.parser.Visits.{VisitsAnswer, IsOfVisitor, VisitsField, IsFinishedAt, IsAskedThere, ReturnsAfter}
 use Rattle.sfv.specs.parser.Visits.{TookAllOf, TookAll}
 use Rattle.sfv.specs.Parsers.{version_of, input_of, IsParseError, FailsOn, Returns, IsAnswerBy, IsSyntaxErrorBy}
-use Rattle.sfv.specs.Parsers.{IsBeforeMember, BeginsMember, ReceivesUpTo, ReceivesBeforeErrorBy, IsVisitorErrorBy}
+use Rattle.sfv.specs.Parsers.{BeginWith, ReceivesUpTo, ReceivesBeforeErrorBy, IsVisitorErrorBy}
 use Rattle.sfv.proofs.visits.Whole.{spaced, field_error, ending_located}
 use Rattle.sfv.proofs.Parsed.{located_fault, parse_error}
 use Rattle.sfv.proofs.reads.Delimiters.{span_total}
-use Rattle.sfv.proofs.visits.Begun.{visited_begun}
+use Rattle.sfv.proofs.visits.Received.{visited_whole, visited_open_list, visited_begun}
 use Rattle.sfv.specs.Memory.{IsRefusal}
 
 whole_is : (version : Version) (t s r : List ℕ) → span is_space t ≡ Ok (s, r)
@@ -486,21 +485,10 @@ module _ {S O E : Type 0} (v : Ghosts S O E) (p : Parser) (kind : FieldKind) (fr
       at_index None same m = absurd cc
       at_index (Some n) same m = m
 
-      before : (raw : RawField kind) (front rest : List ℕ) → t ≡ front ++ codes "," ++ rest
-          → IsFieldText version kind raw front
-          → (others : List TreeEvent) × (visited (events kind) (whole_field_at version kind t) ≡ events kind raw ++ others)
-      before raw front rest text accepted =
-          let all : t ≡ front ++ comma ∷ rest = text ∙ simp append_assoc in
-          let b = visited_before version kind raw front rest accepted in
-          (b.0, ap (λ (l : List ℕ). visited (events kind) (whole_field_at version kind l)) all ∙ b.1)
-
-      begun : (raw : RawField kind) (front rest : List ℕ) (first : List TreeEvent) → t ≡ front ++ rest
-          → IsBeforeMember version kind raw front → BeginsMember version rest kind first
-          → (others : List TreeEvent)
-          × (visited (events kind) (whole_field_at version kind t) ≡ events kind raw ++ first ++ others)
-      begun raw front rest first text h member =
-          let b = visited_begun version kind raw front rest first h member in
-          (b.0, ap (λ (l : List ℕ). visited (events kind) (whole_field_at version kind l)) text ∙ b.1)
+      seen : (u : List ℕ) (first : List TreeEvent) → t ≡ u
+          → BeginWith first (visited (events kind) (whole_field_at version kind u))
+          → BeginWith first (visited (events kind) (whole_field_at version kind t))
+      seen u first same b = (b.0, ap (λ (l : List ℕ). visited (events kind) (whole_field_at version kind l)) same ∙ b.1)
 
       on : IsParseError version kind t e → (e ≡ out_of_memory) ⊎ ReceivesUpTo v p kind from
       on (inl same) = inl same
@@ -511,8 +499,12 @@ module _ {S O E : Type 0} (v : Ghosts S O E) (p : Parser) (kind : FieldKind) (fr
             to = took.0;
             taken = took.1;
             begins = λ n reach. visited_reach version kind t s.rejected n reach;
-            whole = before;
-            begun = begun;
+            whole = λ raw first h. seen (h.front ++ h.back) first h.text
+                (visited_whole version kind raw h.front h.back first h.first h.second);
+            open_inner_list = λ raw all first h e. seen (h.front ++ h.back) first h.text
+                (visited_open_list version kind raw h.front h.back all first h.first e h.second);
+            begun = λ raw first h. seen (h.front ++ h.back) (events kind raw ++ first) h.text
+                (visited_begun version kind raw h.front h.back first h.first h.second);
           })
 
   pub visits_failure : (r : Result O (ParseError E)) → Visits r → IfErr r (IsVisitorErrorBy v p kind from)
