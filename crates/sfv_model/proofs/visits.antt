@@ -5,4 +5,3 @@ pub mod EventsBeforeRuleAlike
 pub mod EventsBeforeRule
 pub mod BareFaultOffReach
 pub mod EventsBeforeReach
-pub mod EventsBeforeComma
