@@ -1,7 +1,6 @@
 //! The Cache-Status field: its last hit.
 
-use crate::common::repeated;
-use sfv::{ErrorKind, Version};
+use sfv::Version;
 use sfv_http_fields::cache_status::last_hit;
 use std::alloc::Global;
 
@@ -54,54 +53,5 @@ fn last_hits_are_found(rt: HostRuntime) {
     ];
     for &(input, expected) in rows {
         assert!(rt; has_hit(rt.alloc(), input, expected));
-    }
-}
-
-// Returns `true` if the field of repeated parts has this last hit.
-fn has_hit_after(alloc: Global, field: (&str, &str, &str), times: u32, ttl: i64) -> bool {
-    let (first, part, last) = field;
-    match repeated(alloc, first, part, times, last) {
-        Some(field) => has_hit(alloc, field.as_str(), Some(Some(ttl))),
-        None => false,
-    }
-}
-
-#[test]
-fn long_fields_are_read_to_the_end(rt: HostRuntime) {
-    let alloc = rt.alloc();
-    for &times in &[255, 300, 70_000] {
-        assert!(rt; has_hit_after(alloc, ("a", ";p", ";hit;ttl=7"), times, 7));
-        assert!(rt; has_hit_after(alloc, ("", "a;hit, ", "b;hit;ttl=7"), times, 7));
-        assert!(rt; has_hit_after(alloc, ("a;hit;ttl=7", ", (b;x c);hit", ""), times, 7));
-    }
-}
-
-// Returns `true` if the field has an error of this kind at this index.
-fn has_fault(alloc: Global, input: &str, version: Version, kind: ErrorKind, index: usize) -> bool {
-    match last_hit(alloc, input.as_bytes(), version) {
-        Ok(_) => false,
-        Err(error) => error.kind() == kind && error.index() == Some(index),
-    }
-}
-
-#[test]
-fn faults_have_their_place(rt: HostRuntime) {
-    let rows = &[
-        ("a; hit,", Version::Rfc9651, ErrorKind::TrailingComma, 6),
-        (
-            "a; hit, b; Hit",
-            Version::Rfc9651,
-            ErrorKind::ExpectedStartOfKey,
-            11,
-        ),
-        (
-            "a; hit; stored=@1",
-            Version::Rfc8941,
-            ErrorKind::Rfc8941Date,
-            15,
-        ),
-    ];
-    for &(input, version, kind, index) in rows {
-        assert!(rt; has_fault(rt.alloc(), input, version, kind, index));
     }
 }

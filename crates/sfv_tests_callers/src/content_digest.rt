@@ -1,9 +1,9 @@
 //! The Content-Digest field.
 
-use crate::common::{has_text, repeated};
-use sfv::{Error, ErrorKind};
+use crate::common::{has_text, is_tight, ladder};
 use sfv_http_fields::content_digest::{ContentDigest, DigestError, read, reread, write};
 use std::alloc::Global;
+use std::test::Fail;
 
 // Both digests of a content (RFC 9530, section 2), after an earlier one and another algorithm.
 const FIELD: &[u8] = b"sha-256=:AAAA:, md5=1, \
@@ -54,40 +54,10 @@ fn is_of_wrong_type(alloc: Global, field: &str) -> bool {
     matches!(read(alloc, field.as_bytes()), Err(DigestError::WrongType))
 }
 
-/// Returns `true` if the field has this syntax error.
-fn has_fault(alloc: Global, field: &str, fault: Error) -> bool {
-    matches!(read(alloc, field.as_bytes()), Err(DigestError::Field(error)) if error == fault)
-}
-
 #[test]
-fn faults_have_their_error(rt: HostRuntime) {
+fn other_types_have_their_error(rt: HostRuntime) {
     for &field in &["sha-256=1", "sha-512=(:AA==:)", "sha-256=:AA==:, sha-256"] {
         assert!(rt; is_of_wrong_type(rt.alloc(), field), "{field}");
-    }
-    let fault = Error::at(ErrorKind::InvalidByteSequence, 10);
-    assert!(rt; has_fault(rt.alloc(), "sha-256=:A?:", fault));
-}
-
-/// Returns `true` if the field of repeated parts has a SHA-512 digest of three bytes, and no other.
-fn has_last(alloc: Global, field: (&str, &str, &str), times: u32) -> bool {
-    let (first, part, last) = field;
-    let Some(field) = repeated(alloc, first, part, times, last) else {
-        return false;
-    };
-    match read(alloc, field.as_str().as_bytes()) {
-        Ok(digest) => match &digest.sha_512 {
-            Some(bytes) => digest.sha_256.is_none() & (bytes.as_slice() == b"abc".as_slice()),
-            None => false,
-        },
-        Err(_) => false,
-    }
-}
-
-#[test]
-fn long_fields_are_read_to_the_end(rt: HostRuntime) {
-    for &times in &[255, 300, 70_000] {
-        assert!(rt; has_last(rt.alloc(), ("", "sha-512=1, ", "sha-512=:YWJj:"), times));
-        assert!(rt; has_last(rt.alloc(), ("sha-512=:YWJj:", ";p", ", md5=:AA==:"), times));
     }
 }
 
@@ -103,19 +73,47 @@ fn digests_are_written(rt: HostRuntime) {
     assert!(rt; matches!(write(rt.alloc(), &NONE), Ok(None)));
 }
 
-/// Returns `true` if both digests parse back.
-fn come_back(alloc: Global) -> bool {
-    let Ok(digest) = read(alloc, FIELD) else {
-        return false;
-    };
-    match reread(alloc, &digest) {
-        Ok(Some(again)) => { (again.sha_256 == digest.sha_256) & (again.sha_512 == digest.sha_512) }
-        _ => false,
+/// Returns so many bytes, or none.
+fn bytes(alloc: Global, length: Option<usize>) -> Result<Option<Vec<u8>>, Fail> {
+    match length {
+        Some(length) => Ok(Some(vec![in alloc; 171; length]?)),
+        None => Ok(None),
     }
 }
 
+/// Returns `true` if digests are equal, and the second one keeps little unused memory.
+fn is_same(digest: &Option<Vec<u8>>, again: &Option<Vec<u8>>) -> bool {
+    match again {
+        Some(bytes) => digest == again && is_tight(bytes.capacity(), bytes.len()),
+        None => digest.is_none(),
+    }
+}
+
+/// Returns `true` if digests of these lengths are written, and parse back.
+fn come_back(alloc: Global, sha_256: Option<usize>, sha_512: Option<usize>) -> Result<bool, Fail> {
+    let digest = ContentDigest {
+        sha_256: bytes(alloc, sha_256)?,
+        sha_512: bytes(alloc, sha_512)?,
+    };
+    let (Ok(Some(text)), Ok(Some(again))) = (write(alloc, &digest), reread(alloc, &digest)) else {
+        return Ok(false);
+    };
+    Ok(
+        is_tight(text.capacity(), text.len())
+            && is_same(&digest.sha_256, &again.sha_256)
+            && is_same(&digest.sha_512, &again.sha_512),
+    )
+}
+
 #[test]
-fn digests_come_back(rt: HostRuntime) {
-    assert!(rt; come_back(rt.alloc()));
-    assert!(rt; matches!(reread(rt.alloc(), &NONE), Ok(None)));
+fn digests_of_every_length_come_back(rt: HostRuntime) -> Result<(), Fail> {
+    let alloc = rt.alloc();
+    let mut holds = matches!(reread(alloc, &NONE), Ok(None));
+    for &length in ladder(alloc, 2_200, 1 << 17)?.iter() {
+        holds &= come_back(alloc, Some(length), None)?
+            & come_back(alloc, None, Some(length))?
+            & come_back(alloc, Some(length / 2), Some(length))?;
+    }
+    assert!(rt; holds);
+    Ok(())
 }

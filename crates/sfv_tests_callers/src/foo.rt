@@ -1,6 +1,6 @@
 //! The example field, with and without a tree.
 
-use sfv::{Dictionary, Error, ErrorKind, ParseError, Parser, Version};
+use sfv::{Dictionary, ParseError, Parser, Version};
 use sfv_examples::foo::{Color, Foo, FooFault, foo_from_dictionary, read_foo};
 use std::alloc::Global;
 
@@ -73,15 +73,6 @@ fn both_ways(rt: HostRuntime) {
             && is_found(alloc, Version::Rfc9651, input.as_bytes(), expected);
         assert!(rt; holds, "{input}");
     }
-}
-
-#[test]
-fn a_text_that_is_no_dictionary(rt: HostRuntime) {
-    let fault = match read_foo(rt.alloc(), Version::Rfc9651, b"color=red,") {
-        Err(ParseError::Syntax(error)) => Some(error),
-        _ => None,
-    };
-    assert!(rt; fault == Some(Error::with_kind(ErrorKind::TrailingComma, Some(9))));
 }
 
 /// Returns `true` if the error prints as this text.

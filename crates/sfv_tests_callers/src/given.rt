@@ -11,7 +11,7 @@ use sfv::{
     BareItemFromInput, Date, Decimal, HashSeed, Integer, ParseError, Parser, TokenRef, integer,
     key_ref, token_ref,
 };
-use sfv_examples::expecting::{dictionary, expect, item, list, string, token};
+use sfv_examples::expecting::{expect, string, token};
 use std::alloc::Global;
 use std::convert::Infallible;
 use std::fmt::Display;
@@ -155,14 +155,6 @@ fn an_item_of_another_kind_fails_with_its_kind(rt: HostRuntime) {
         let fault = Err(ItemFault::WrongType { expected, got });
         assert!(rt; first_of(rt.alloc(), input.as_bytes()) == fault, "{input}");
     }
-}
-
-#[test]
-fn fields_are_made_visitors(rt: HostRuntime) {
-    let alloc = rt.alloc();
-    assert!(rt; item(alloc, b"1;a=2").is_ok());
-    assert!(rt; list(alloc, b"1,(2 3)").is_ok());
-    assert!(rt; dictionary(alloc, b"a=1,b,a=2").is_ok());
 }
 
 /// Returns the result of an optional visitor.

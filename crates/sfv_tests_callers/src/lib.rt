@@ -20,6 +20,8 @@ mod proxy_status;
 #[cfg(test)]
 mod readers;
 #[cfg(test)]
+mod reading;
+#[cfg(test)]
 mod requests;
 #[cfg(test)]
 mod seeds;

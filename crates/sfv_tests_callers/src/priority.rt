@@ -1,7 +1,8 @@
 //! The Priority field, with and without a tree, and its text.
 
-use crate::common::repeated;
+use crate::common::is_tight;
 use sfv::{Dictionary, Parser, Version};
+use sfv_answers::answer::answer_priority;
 use sfv_answers::priority::{Priority, priority_from_dictionary, read_priority, write_priority};
 use std::alloc::Global;
 
@@ -42,7 +43,16 @@ fn is_read(alloc: Global, version: Version, text: &str, wanted: (u8, bool)) -> b
     }
 }
 
-/// Returns `true` if the priority is written as this text, and the text parses to it under both versions.
+/// Returns `true` if the program returns the text and a newline for it.
+fn is_answered(alloc: Global, version: Version, text: &str) -> bool {
+    match answer_priority(alloc, version, text.as_bytes()) {
+        Ok(line) => line.as_str().strip_suffix('\n') == Some(text),
+        Err(_) => false,
+    }
+}
+
+/// Returns `true` if the priority is written as this text, which keeps little unused memory. The text parses to the
+/// priority, and the program returns it, under both versions.
 fn is_written_and_read(alloc: Global, urgency: u8, incremental: bool, wanted: &str) -> bool {
     if urgency > 7 {
         return false;
@@ -51,6 +61,9 @@ fn is_written_and_read(alloc: Global, urgency: u8, incremental: bool, wanted: &s
     let is_any = write_priority(&mut text, Priority::new(urgency, incremental));
     (is_any == Ok(!wanted.is_empty()))
         & (text.as_str() == wanted)
+        & is_tight(text.capacity(), text.len())
+        & is_answered(alloc, Version::Rfc8941, wanted)
+        & is_answered(alloc, Version::Rfc9651, wanted)
         & is_read(alloc, Version::Rfc8941, wanted, (urgency, incremental))
         & is_read(alloc, Version::Rfc9651, wanted, (urgency, incremental))
 }
@@ -104,26 +117,4 @@ fn priorities_are_read_and_written(rt: HostRuntime) {
         );
     }
     assert!(rt; Priority::new(3, false) == Priority::default());
-}
-
-/// Returns `true` if the field of repeated parts has this urgency and flag under both versions.
-fn is_read_after(alloc: Global, field: (&str, &str, &str), times: u32, wanted: (u8, bool)) -> bool {
-    let (first, part, last) = field;
-    match repeated(alloc, first, part, times, last) {
-        Some(field) => {
-            is_read(alloc, Version::Rfc8941, field.as_str(), wanted)
-                && is_read(alloc, Version::Rfc9651, field.as_str(), wanted)
-        }
-        None => false,
-    }
-}
-
-#[test]
-fn long_fields_are_read_to_the_end(rt: HostRuntime) {
-    let alloc = rt.alloc();
-    for &times in &[255, 300, 70_000] {
-        assert!(rt; is_read_after(alloc, ("", "u=1, ", "u=5, i"), times, (5, true)));
-        assert!(rt; is_read_after(alloc, ("u=6, i", ", a", ""), times, (6, true)));
-        assert!(rt; is_read_after(alloc, ("u=1", ";x=9", ", i"), times, (1, true)));
-    }
 }

@@ -1,9 +1,11 @@
 //! The Proxy-Status field.
 
-use sfv::{StringFromInput, Version, string_ref, token_ref};
+use crate::common::{is_tight, ladder, of_size};
+use sfv::{StringFromInput, StringRef, TokenRef, Version, string_ref, token_ref};
 use sfv_http_fields::proxy_status::reading::{Name, Proxy, last_proxy};
 use sfv_http_fields::proxy_status::writing::write_proxy;
 use std::alloc::Global;
+use std::test::Fail;
 
 /// Returns `true` if the name is this string or token.
 fn is_named(name: &Name<'_>, wanted: &str) -> bool {
@@ -109,4 +111,47 @@ fn members_are_written(rt: HostRuntime) {
             "\"c \\\"\";error=b;received-status=200"
         )
     );
+}
+
+/// Returns `true` if the member of this name is written, and parses back to the same name, which borrows the text unless
+/// it has an escape there.
+fn comes_back(alloc: Global, name: &Name<'_>, wanted: &str, status: u16) -> bool {
+    if status < 100 || status > 599 {
+        return false;
+    }
+    let mut text = String::new(alloc);
+    if write_proxy(&mut text, name, token_ref("b"), status).is_err() {
+        return false;
+    }
+    let is_borrowed = !text.as_str().contains('\\');
+    match last_proxy(alloc, text.as_str().as_bytes(), Version::Rfc8941) {
+        Ok(Some(proxy)) => {
+            is_proxy(&proxy, wanted, Some("b"), Some(status))
+                && is_tight(text.capacity(), text.len())
+                && is_borrowed != matches!(proxy.name, Name::String(StringFromInput::Owned(_)))
+        }
+        _ => false,
+    }
+}
+
+#[test]
+fn members_of_every_name_and_status_come_back(rt: HostRuntime) -> Result<(), Fail> {
+    let alloc = rt.alloc();
+    let mut holds = true;
+    for status in 100..600 {
+        holds &= comes_back(alloc, &Name::Token(token_ref("c")), "c", status);
+    }
+    for &length in ladder(alloc, 2_200, 1 << 17)?.iter() {
+        for &front in &["", " ", "\"", "\\a"] {
+            let text = of_size(alloc, (front, "a", "", ""), length)?;
+            let string = StringRef::from_str(text.as_str())?;
+            let name = Name::String(StringFromInput::Borrowed(string));
+            holds &= comes_back(alloc, &name, text.as_str(), 200);
+        }
+        let text = of_size(alloc, ("c", "a", "", ""), length)?;
+        let name = Name::Token(TokenRef::from_str(text.as_str())?);
+        holds &= comes_back(alloc, &name, text.as_str(), 200);
+    }
+    assert!(rt; holds);
+    Ok(())
 }

@@ -1,8 +1,12 @@
-//! Tests of readers. They parse the rows of a list, and a member of a dictionary.
+//! Tests of readers. They parse the rows of a list, a member of a dictionary, and the items of inner lists.
 
-use sfv::Version;
+ghost use Rattle.std.specs.Prelude.{⊤, codes};
+
+use crate::common::has_text;
+use sfv::{BareItemFromInput, KeyRef, OutOfMemory, Version};
 use sfv_examples::rows::last_row;
 use sfv_first_field::cdn_cache_control::max_age;
+use sfv_readers::{DictionaryReader, InnerListReader, ListReader, read_dictionary, read_list};
 use std::alloc::Global;
 
 // Returns `true` if the last row has these integers.
@@ -51,4 +55,129 @@ fn last_ages_are_found(rt: HostRuntime) {
     for &(input, expected) in rows {
         assert!(rt; has_age(rt.alloc(), input, expected));
     }
+}
+
+/// Appends a token. Runs out of memory at the token `no`.
+fn push(text: &mut String, front: &str, value: &BareItemFromInput<'_>) -> Result<(), OutOfMemory> {
+    let Some(token) = value.as_token() else {
+        return Ok(());
+    };
+    if token.as_str() == "no" {
+        return Err(OutOfMemory);
+    }
+    text.push_str(front)?;
+    text.push_str(token.as_str())?;
+    Ok(())
+}
+
+/// A reader that writes the tokens of an inner list, or of the members `a` of a dictionary, into a text. It ignores a
+/// list. To make one takes long.
+#[derive(Drop)]
+pub struct Teller {
+    told: String,
+}
+
+impl<'de> InnerListReader<'de> for Teller {
+    ghost reads = { λ _ _. ⊤ };
+
+    fn new(alloc: Global) -> Teller {
+        let mut told = String::new(alloc);
+        for _ in 0..3_000 {
+            let _ = told.push_str("a text");
+        }
+        told.clear();
+        Teller { told }
+    }
+
+    fn item(&mut self, item: BareItemFromInput<'de>) -> Result<(), OutOfMemory> {
+        push(&mut self.told, " ", &item)
+    }
+
+    fn parameter(
+        &mut self,
+        _key: KeyRef<'de>,
+        value: BareItemFromInput<'de>,
+    ) -> Result<(), OutOfMemory> {
+        push(&mut self.told, ";", &value)
+    }
+}
+
+impl<'de> ListReader<'de> for Teller {
+    type Member = ();
+
+    type Items = Teller;
+
+    ghost keeps = { λ _ _ _. ⊤ };
+
+    ghost reads = { λ _ _. ⊤ };
+
+    fn item(_item: BareItemFromInput<'de>) {}
+
+    fn inner_list(_items: Teller) {}
+
+    fn parameter(_member: &mut (), _key: KeyRef<'de>, _value: BareItemFromInput<'de>) {}
+
+    fn member(&mut self, _member: ()) -> Result<(), OutOfMemory> {
+        Ok(())
+    }
+}
+
+impl<'de> DictionaryReader<'de> for Teller {
+    type Key = ();
+
+    type Items = Teller;
+
+    ghost text = { λ _. codes "a" };
+
+    ghost reads = { λ _ _. ⊤ };
+
+    fn key(key: KeyRef<'de>) -> Option<()> {
+        if key.as_str() == "a" { Some(()) } else { None }
+    }
+
+    fn item(&mut self, _key: (), item: BareItemFromInput<'de>) {
+        let _ = push(&mut self.told, " ", &item);
+    }
+
+    fn inner_list(&mut self, _key: (), items: Teller) {
+        for part in ["(", items.told.as_str(), ")"] {
+            let _ = self.told.push_str(part);
+        }
+    }
+
+    fn parameter(&mut self, _key: (), _name: KeyRef<'de>, value: BareItemFromInput<'de>) {
+        let _ = push(&mut self.told, ";", &value);
+    }
+}
+
+/// Returns what the reader of a list, or of a dictionary, receives.
+pub fn told(alloc: Global, is_list: bool, input: &[u8]) -> Option<String> {
+    let (told, version) = (String::new(alloc), Version::Rfc9651);
+    let read = if is_list {
+        read_list(alloc, input, version, Teller { told })
+    } else {
+        read_dictionary(alloc, input, version, Teller { told })
+    };
+    Some(read.ok()?.told)
+}
+
+// A reader receives the items of each inner list that matters, and nothing else.
+#[test]
+fn items_are_received(rt: HostRuntime) {
+    let alloc = rt.alloc();
+    let rows = &[
+        ("a=(x;p=y;q z);r=w", "( x;y z);w"),
+        ("b=(no;p=no);p=no, c=no, a=(x), d=(no), e=no", "( x)"),
+        ("a=(x), b=no;p=no, c=(no), a=(y);p=z, d=no", "( x)( y);z"),
+        ("a=x;p=y, b=(no), a=z, c=no;p=no, a=()", " x;y z()"),
+        ("aa=(no), b=no", ""),
+    ];
+    let mut holds = true;
+    for &(input, wanted) in rows {
+        holds &= has_text(told(alloc, false, input.as_bytes()), wanted);
+    }
+    for &(is_list, input) in &[(true, "(no)"), (true, "(x;p=no)"), (false, "a=(x no)")] {
+        holds &= told(alloc, is_list, input.as_bytes()).is_none();
+    }
+    assert!(rt; holds);
 }

@@ -1,20 +1,25 @@
 //! Heads of requests, and their priorities.
 
+use crate::common::{is_tight, ladder, of_size};
 use httparse::Status;
 use httparse::spans::{EMPTY_HEADER_SPAN, HeaderSpan};
 use sfv::{Error, ErrorKind, Version};
 use sfv_http_fields::request::{RequestFault, request_field, request_priority};
 use std::alloc::Global;
+use std::test::Fail;
 
 const ROOM: [HeaderSpan; 4] = [EMPTY_HEADER_SPAN; 4];
 
-// Returns `true` if the request has this urgency and flag.
+// Returns `true` if the request has this urgency and flag under both versions.
 fn has_priority(alloc: Global, input: &[u8], wanted: (u8, bool)) -> bool {
-    let mut headers = ROOM;
-    match request_priority(alloc, Version::Rfc9651, input, &mut headers) {
-        Ok(Status::Complete(priority)) => (priority.urgency, priority.incremental) == wanted,
-        _ => false,
+    let (mut holds, mut headers) = (true, ROOM);
+    for &version in &[Version::Rfc8941, Version::Rfc9651] {
+        holds &= match request_priority(alloc, version, input, &mut headers) {
+            Ok(Status::Complete(priority)) => (priority.urgency, priority.incremental) == wanted,
+            _ => false,
+        };
     }
+    holds
 }
 
 #[test]
@@ -42,13 +47,15 @@ fn requests_have_their_priority(rt: HostRuntime) {
     }
 }
 
-// Returns `true` if the field of the request has an error of this kind at this index of the joined text.
+// Returns `true` if the field of the request has an error of this kind at this index of the joined text, under both
+// versions.
 fn has_fault(alloc: Global, input: &[u8], kind: ErrorKind, index: usize) -> bool {
-    let mut headers = ROOM;
-    match request_priority(alloc, Version::Rfc9651, input, &mut headers) {
-        Err(RequestFault::Field(error)) => error.kind() == kind && error.index() == Some(index),
-        _ => false,
+    let (mut holds, mut headers) = (true, ROOM);
+    let fault = RequestFault::Field(Error::at(kind, index));
+    for &version in &[Version::Rfc8941, Version::Rfc9651] {
+        holds &= request_priority(alloc, version, input, &mut headers) == Err(fault);
     }
+    holds
 }
 
 #[test]
@@ -75,72 +82,92 @@ fn fields_have_their_fault(rt: HostRuntime) {
     }
 }
 
-// Returns `true` if the field of the request has this text.
-fn has_text(alloc: Global, name: &str, input: &[u8], expected: &[u8]) -> bool {
-    let mut headers = ROOM;
-    match request_field(alloc, name, input, &mut headers) {
-        Ok(Status::Complete(text)) => text.as_slice() == expected,
+/// Returns `true` if the field of this name is complete, and its text keeps little unused memory.
+fn is_field(alloc: Global, name: &str, head: &str, lines: usize, expected: &str) -> bool {
+    let Ok(mut headers) = vec![in alloc; EMPTY_HEADER_SPAN; lines] else {
+        return false;
+    };
+    match request_field(alloc, name, head.as_bytes(), &mut headers[..]) {
+        Ok(Status::Complete(text)) => {
+            text.as_slice() == expected.as_bytes() && is_tight(text.capacity(), text.len())
+        }
         _ => false,
     }
 }
 
 #[test]
 fn lines_are_joined(rt: HostRuntime) {
-    let head: &[u8] = b"GET / HTTP/1.1\r\nA: 1 \r\nb: 2\r\na:\r\nA:\t3\r\n\r\n";
-    let rows: &[(&str, &[u8])] = &[("a", b"1, , 3"), ("B", b"2"), ("c", b"")];
-    for &(name, expected) in rows {
-        assert!(rt; has_text(rt.alloc(), name, head, expected));
+    let head = "GET / HTTP/1.1\r\nA: 1 \r\nb: 2\r\na:\r\nA:\t3\r\n\r\n";
+    for &(name, expected) in &[("a", "1, , 3"), ("B", "2"), ("c", "")] {
+        assert!(rt; is_field(rt.alloc(), name, head, 4, expected));
     }
 }
 
-/// The head of a request with `lines` lines of the field `a`, and the text of the field.
-fn long_head(alloc: Global, lines: u8) -> Option<(Vec<u8>, Vec<u8>)> {
-    let mut head = b"GET / HTTP/1.1\r\n".to_vec(alloc).ok()?;
-    let mut text = Vec::new(alloc);
-    for line in 0..lines {
-        let digit = b'0' + line % 10;
-        head.extend_from_slice(b"a: ").ok()?;
-        head.push(digit).ok()?;
-        head.extend_from_slice(b"\r\nb: x\r\n").ok()?;
-        if line > 0 {
-            text.extend_from_slice(b", ").ok()?;
-        }
-        text.push(digit).ok()?;
-    }
-    head.extend_from_slice(b"\r\n").ok()?;
-    Some((head, text))
-}
-
-// Returns `true` if the field of a head with this number of lines is complete.
-fn is_joined(alloc: Global, lines: u8) -> bool {
-    let Some((head, text)) = long_head(alloc, lines) else {
-        return false;
-    };
-    let mut headers = [EMPTY_HEADER_SPAN; 256];
-    match request_field(alloc, "a", head.as_slice(), &mut headers) {
-        Ok(Status::Complete(found)) => found == text,
-        _ => false,
-    }
+/// Returns `true` if so many lines of this name and value are joined, and those of an absent name are none.
+fn are_joined(alloc: Global, name: &str, value: &str, lines: usize) -> Result<bool, Fail> {
+    let part = format!(in alloc; "{name}: {value}\r\nb: x\r\n")?;
+    let head = of_size(
+        alloc,
+        ("GET / HTTP/1.1\r\n", part.as_str(), "", "\r\n"),
+        lines,
+    )?;
+    let text = of_size(alloc, ("", value, ", ", ""), lines)?;
+    let (head, count) = (head.as_str(), lines.saturating_mul(2));
+    Ok(
+        is_field(alloc, name, head, count, text.as_str())
+            && is_field(alloc, "absent", head, count, ""),
+    )
 }
 
 #[test]
-fn many_lines_are_joined(rt: HostRuntime) {
-    for &lines in &[0, 1, 32, 63, 64, 65, 100, 128] {
-        assert!(rt; is_joined(rt.alloc(), lines), "{lines}");
-    }
-}
-
-#[test]
-fn heads_may_be_none(rt: HostRuntime) {
+fn lines_of_every_number_and_length_are_joined(rt: HostRuntime) -> Result<(), Fail> {
     let alloc = rt.alloc();
+    let mut holds = true;
+    for &lines in ladder(alloc, 300, 1 << 12)?.iter() {
+        holds &= are_joined(alloc, "a", "u=1", lines)?;
+    }
+    for &length in ladder(alloc, 2_200, 1 << 17)?.iter() {
+        let text = of_size(alloc, ("", "a", "", ""), length)?;
+        holds &= are_joined(alloc, "a", text.as_str(), 1)?
+            && are_joined(alloc, "a", text.as_str(), 3)?
+            && (length == 0 || are_joined(alloc, text.as_str(), "1", 2)?);
+    }
+    assert!(rt; holds);
+    Ok(())
+}
+
+#[test]
+fn priorities_of_every_length_are_read(rt: HostRuntime) -> Result<(), Fail> {
+    let alloc = rt.alloc();
+    let mut holds = true;
+    for &length in ladder(alloc, 2_200, 1 << 17)?.iter() {
+        let line = of_size(
+            alloc,
+            ("priority: u=1, a", "a", "", "\r\nPriority: i"),
+            length,
+        )?;
+        let head = format!(in alloc; "GET / HTTP/1.1\r\n{line}\r\n\r\n")?;
+        holds &= has_priority(alloc, head.as_str().as_bytes(), (1, true));
+        let text = of_size(alloc, ("a", "a", "", ","), length)?;
+        let head = format!(in alloc; "GET / HTTP/1.1\r\npriority: {text}\r\n\r\n")?;
+        let index = text.len().saturating_sub(1);
+        holds &= has_fault(
+            alloc,
+            head.as_str().as_bytes(),
+            ErrorKind::TrailingComma,
+            index,
+        );
+    }
+    assert!(rt; holds);
+    Ok(())
+}
+
+#[test]
+fn heads_may_be_incomplete(rt: HostRuntime) {
     let mut headers = ROOM;
-    let answer = request_priority(alloc, Version::Rfc9651, b"GET / HTTP/1.1\r\n", &mut headers);
+    let head = b"GET / HTTP/1.1\r\n";
+    let answer = request_priority(rt.alloc(), Version::Rfc9651, head, &mut headers);
     assert!(rt; answer == Ok(Status::Partial));
-    let answer = request_priority(alloc, Version::Rfc9651, b"GET /\r\n", &mut headers);
-    assert!(rt; matches!(answer, Err(RequestFault::Head(_))));
-    let head = b"GET / HTTP/1.1\r\na:1\r\nb:2\r\nc:3\r\nd:4\r\ne:5\r\n\r\n";
-    let answer = request_priority(alloc, Version::Rfc9651, head, &mut headers);
-    assert!(rt; answer == Err(RequestFault::Head(httparse::Error::TooManyHeaders)));
 }
 
 // Returns `true` if the error prints as this text.
@@ -151,10 +178,44 @@ fn is_printed(alloc: Global, fault: RequestFault, wanted: &str) -> bool {
     }
 }
 
+// Returns `true` if a head that goes on so after the target has this error, whatever the length of the target.
+fn is_rejected(alloc: Global, end: &str, wanted: httparse::Error) -> Result<bool, Fail> {
+    let (mut holds, fault) = (true, RequestFault::Head(wanted));
+    for &length in &[0, 100, 10_000] {
+        let head = of_size(alloc, ("GET /", "a", "", end), length)?;
+        let (input, mut headers) = (head.as_str().as_bytes(), ROOM);
+        for &version in &[Version::Rfc8941, Version::Rfc9651] {
+            holds &= request_priority(alloc, version, input, &mut headers) == Err(fault);
+        }
+        holds &= request_field(alloc, "a", input, &mut headers).err() == Some(fault);
+    }
+    Ok(holds)
+}
+
+// The texts of heads after the target, their errors, and what these print.
+#[rattlefmt::skip]
+const HEADS: &[(&str, httparse::Error, &str)] = &[
+    (" HTTP/1.1\r\na:1\r\nb:2\r\nc:3\r\nd:4\r\ne:5\r\n\r\n", httparse::Error::TooManyHeaders, "too many headers"),
+    ("\u{1} HTTP/1.1\r\n\r\n", httparse::Error::Token, "invalid token"),
+    ("\r\n", httparse::Error::Token, "invalid token"),
+    (" HTTP/2.0\r\n\r\n", httparse::Error::Version, "invalid HTTP version"),
+    (" HTTP/1.1\rX", httparse::Error::NewLine, "invalid new line"),
+    (" HTTP/1.1\r\na b: c\r\n\r\n", httparse::Error::HeaderName, "invalid header name"),
+    (" HTTP/1.1\r\na: \u{1}\r\n\r\n", httparse::Error::HeaderValue, "invalid header value"),
+];
+
 #[test]
-fn faults_are_printed(rt: HostRuntime) {
-    let head = RequestFault::Head(httparse::Error::TooManyHeaders);
-    assert!(rt; is_printed(rt.alloc(), head, "too many headers"));
+fn heads_have_their_fault(rt: HostRuntime) -> Result<(), Fail> {
+    let alloc = rt.alloc();
+    let mut holds = true;
+    for &(end, fault, text) in HEADS {
+        holds &= is_rejected(alloc, end, fault)?;
+        holds &= is_printed(alloc, RequestFault::Head(fault), text);
+    }
+    let status = RequestFault::Head(httparse::Error::Status);
     let field = RequestFault::Field(Error::at(ErrorKind::TrailingComma, 3));
-    assert!(rt; is_printed(rt.alloc(), field, "trailing comma at index 3"));
+    holds &= is_printed(alloc, status, "invalid response status");
+    holds &= is_printed(alloc, field, "trailing comma at index 3");
+    assert!(rt; holds);
+    Ok(())
 }

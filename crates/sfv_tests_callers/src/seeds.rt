@@ -1,6 +1,7 @@
 //! The random seed of the program reaches the maps of each type of field. Keys that collide under one seed are slow to
 //! parse under that seed, and fast under another one.
 
+use crate::common::of_size;
 use sfv::{HashSeed, KeyRef};
 use sfv_answers::run::{random_seed, run_with_random_seed};
 use std::alloc::Global;
@@ -94,27 +95,32 @@ fn time_of(
     Ok(least)
 }
 
-/// Fields of colliding keys: the type, the text before the keys, and the separator. The versions alternate.
-const FIELDS: &[(&str, &str, &str)] = &[
-    ("item", "1;", ";"),
-    ("list", "1;", ";"),
-    ("list", "(1 1);", ";"),
-    ("dict", "", ","),
-    ("dict", "a;", ";"),
-    ("item", "1;", ";"),
-    ("dict", "", ","),
+/// Fields of colliding keys: the arguments, the text before the keys, the separator, and whether a long text follows.
+const FIELDS: &[(&str, &str, &str, bool)] = &[
+    ("item 9651", "1;", ";", false),
+    ("item 8941 8941", "1;", ";", true),
+    ("item 9651 8941", "1;", ";", false),
+    ("list 8941", "1;", ";", false),
+    ("list 9651 8941", "(1 1);", ";", true),
+    ("dict 8941 9651", "", ",", false),
+    ("dict 9651 9651", "a;", ";", false),
+    ("dict 9651 8941", "", ",", true),
 ];
 
 #[test]
 fn the_random_seed_is_that_of_all_maps(rt: HostRuntime) -> Result<(), Fail> {
     let alloc = rt.alloc();
     let keys = colliding_keys(alloc, random_seed(&Always(1))?)?;
-    for (number, &(field, begin, separator)) in FIELDS.iter().enumerate() {
-        let version = if number % 2 == 0 { "9651" } else { "8941" };
+    let long = of_size(alloc, (";z=\"", "a", "", "\""), 100_000)?;
+    for &(words, begin, separator, is_long) in FIELDS {
         let mut args = Vec::new(alloc);
-        args.push(String::from_str(alloc, field)?)?;
-        args.push(String::from_str(alloc, version)?)?;
-        let text = joined(alloc, begin, separator, keys.as_slice())?;
+        for word in words.split(' ') {
+            args.push(String::from_str(alloc, word)?)?;
+        }
+        let mut text = joined(alloc, begin, separator, keys.as_slice())?;
+        if is_long {
+            text.push_str(long.as_str())?;
+        }
         let slow = time_of(&rt, Always(1), args.as_slice(), text.as_str(), 3)?;
         let fast = time_of(&rt, Always(2), args.as_slice(), text.as_str(), 7)?;
         assert!(rt; slow.as_nanos() / 2 > fast.as_nanos());

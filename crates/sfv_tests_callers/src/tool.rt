@@ -1,5 +1,6 @@
 //! Runs of the program `sfv_tool` over memory.
 
+use crate::common::{ladder, of_size};
 use sfv::HashSeed;
 use sfv_answers::run::{random_seed, run, run_with_random_seed};
 use std::alloc::Global;
@@ -8,6 +9,7 @@ use std::hash::{BuildHasher, Hasher};
 use std::io;
 use std::io::{ErrorKind, Read, Write};
 use std::random::RandomSource;
+use std::test::Fail;
 
 /// A reader that fails after its bytes, with an error of this kind.
 #[derive(Drop)]
@@ -25,31 +27,42 @@ impl Read for Broken<'_> {
     }
 }
 
-/// A writer whose `write` fails.
+/// A writer with this room. It takes at most 1,000 bytes at once. Perhaps its `flush` fails.
 #[derive(Drop)]
-struct Full;
+struct Output {
+    text: Vec<u8>,
+    room: usize,
+    can_flush: bool,
+    is_flushed: bool,
+}
 
-impl Write for Full {
-    fn write(&mut self, _buf: &[u8]) -> io::Result<usize> {
-        Err(io::Error::from(io::ErrorKind::StorageFull))
+impl Write for Output {
+    fn write(&mut self, buf: &[u8]) -> io::Result<usize> {
+        let count = buf.len().min(1_000).min(self.room);
+        if count == 0 || self.text.extend_from_slice(&buf[..count]).is_err() {
+            return Err(io::Error::from(ErrorKind::StorageFull));
+        }
+        self.room -= count;
+        self.is_flushed = false;
+        Ok(count)
     }
 
     fn flush(&mut self) -> io::Result<()> {
+        if !self.can_flush {
+            return Err(io::Error::from(ErrorKind::StorageFull));
+        }
+        self.is_flushed = true;
         Ok(())
     }
 }
 
-/// A writer whose `flush` fails.
-#[derive(Drop)]
-struct Unflushed;
-
-impl Write for Unflushed {
-    fn write(&mut self, buf: &[u8]) -> io::Result<usize> {
-        Ok(buf.len())
-    }
-
-    fn flush(&mut self) -> io::Result<()> {
-        Err(io::Error::from(io::ErrorKind::StorageFull))
+/// Returns an empty output.
+fn new_output(alloc: Global, room: usize, can_flush: bool) -> Output {
+    Output {
+        text: Vec::new(alloc),
+        room,
+        can_flush,
+        is_flushed: false,
     }
 }
 
@@ -196,23 +209,23 @@ fn faults_are_written_as_errors(rt: HostRuntime) {
     }
 }
 
-/// Returns `true` if a result of more than 64 KB is written completely. No single system call writes this much.
-fn is_long_answer_whole(alloc: Global) -> bool {
-    let mut text = String::new(alloc);
-    for _ in 0..30_000 {
-        if text.push_str("1, ").is_err() {
-            return false;
-        }
-    }
-    if text.push_str("1\n").is_err() {
-        return false;
-    }
-    writes(alloc, "list 9651", text.as_str(), text.as_str())
-}
-
+// The output is the input, or the error at its end, or that of the date.
 #[test]
-fn long_answers_are_written_whole(rt: HostRuntime) {
-    assert!(rt; is_long_answer_whole(rt.alloc()));
+fn inputs_of_every_length_have_their_output(rt: HostRuntime) -> Result<(), Fail> {
+    let alloc = rt.alloc();
+    let mut holds = true;
+    for &length in ladder(alloc, 2_200, 1 << 22)?.iter() {
+        let text = of_size(alloc, ("a", "b", "", "\n"), length)?;
+        holds &= writes(alloc, "item 9651", text.as_str(), text.as_str());
+        let text = of_size(alloc, ("a", "b", "", ",\n"), length)?;
+        let index = text.len().saturating_sub(2);
+        let error = format!(in alloc; "error: trailing comma at index {index}\n")?;
+        holds &= fails(alloc, "dict 9651", text.as_str(), error.as_str());
+        let text = of_size(alloc, ("@1;a", "b", "", "\n"), length)?;
+        holds &= fails(alloc, "item 9651 8941", text.as_str(), NO_DATE);
+    }
+    assert!(rt; holds);
+    Ok(())
 }
 
 const USAGE: &str = "usage: sfv_tool item|list|dict 8941|9651 [8941|9651] | priority 8941|9651\n";
@@ -240,28 +253,54 @@ fn other_arguments_have_the_usage(rt: HostRuntime) {
     }
 }
 
-/// Returns `true` if a run over an input that fails with this kind ends with this error.
-fn is_unreadable(alloc: Global, args: &str, kind: ErrorKind, error: &str) -> bool {
-    let mut input = Broken { left: b"1;a", kind };
+/// Returns `true` if a run over an input that fails with this kind, after so many bytes, ends with this error.
+fn is_unreadable(
+    alloc: Global,
+    args: &str,
+    kind: ErrorKind,
+    length: usize,
+    error: &str,
+) -> Result<bool, Fail> {
+    let text = of_size(alloc, ("1;a", "b", "", ""), length)?;
+    let left = text.as_str().as_bytes();
     let (mut output, mut errors) = (Vec::new(alloc), Vec::new(alloc));
-    let status = status_of(alloc, args, &mut input, &mut output, &mut errors);
-    status == Some(1) && output.is_empty() && errors.as_slice() == error.as_bytes()
+    let status = status_of(
+        alloc,
+        args,
+        &mut Broken { left, kind },
+        &mut output,
+        &mut errors,
+    );
+    Ok(status == Some(1) && output.is_empty() && errors.as_slice() == error.as_bytes())
 }
 
-/// Returns `true` if a run over this output reports that it cannot be written, with status 1.
-fn is_unwritable<W: Write>(alloc: Global, output: &mut W) -> bool {
-    let mut errors = Vec::new(alloc);
-    let mut input = b"1\n".as_slice();
-    let status = status_of(alloc, "item 9651", &mut input, output, &mut errors);
-    status == Some(1) && errors.as_slice() == b"error: cannot write output\n".as_slice()
+/// Returns `true` if a run writes a text of this length, as far as there is room, and flushes it, or has the error.
+fn is_written(alloc: Global, length: usize, room: usize, can_flush: bool) -> Result<bool, Fail> {
+    let text = of_size(alloc, ("a", "b", "", "\n"), length)?;
+    let mut input = text.as_str().as_bytes();
+    let (mut output, mut errors) = (new_output(alloc, room, can_flush), Vec::new(alloc));
+    let status = status_of(alloc, "item 9651", &mut input, &mut output, &mut errors);
+    let is_whole = can_flush && text.len() <= room;
+    let (wanted, error) = if is_whole {
+        (0, "")
+    } else {
+        (1, "error: cannot write output\n")
+    };
+    let written = text.as_str().as_bytes().get(..text.len().min(room));
+    Ok(
+        status == Some(wanted)
+            && errors.as_slice() == error.as_bytes()
+            && written == Some(output.text.as_slice())
+            && output.is_flushed == is_whole,
+    )
 }
 
 /// Returns the status of a run whose errors cannot be written.
 fn status_with_full_errors(alloc: Global, args: &str) -> Option<u8> {
-    let mut output = Vec::new(alloc);
+    let (mut answer, mut errors) = (Vec::new(alloc), new_output(alloc, 0, true));
     let mut input = b"1,\n".as_slice();
-    let status = status_of(alloc, args, &mut input, &mut output, &mut Full)?;
-    if output.is_empty() {
+    let status = status_of(alloc, args, &mut input, &mut answer, &mut errors)?;
+    if answer.is_empty() {
         Some(status)
     } else {
         None
@@ -270,36 +309,72 @@ fn status_with_full_errors(alloc: Global, args: &str) -> Option<u8> {
 
 // If the errors cannot be written, the status is the same.
 #[test]
-fn readers_and_writers_may_fail(rt: HostRuntime) {
+fn writers_may_fail(rt: HostRuntime) -> Result<(), Fail> {
     let alloc = rt.alloc();
-    assert!(rt; is_unwritable(alloc, &mut Full));
-    assert!(rt; is_unwritable(alloc, &mut Unflushed));
-    assert!(rt; status_with_full_errors(alloc, "item 9651") == Some(1));
-    assert!(rt; status_with_full_errors(alloc, "") == Some(2));
+    let mut holds = status_with_full_errors(alloc, "item 9651") == Some(1)
+        && status_with_full_errors(alloc, "") == Some(2);
+    for &length in ladder(alloc, 2, 1 << 19)?.iter() {
+        for &room in &[
+            0,
+            1,
+            length / 2,
+            length.saturating_sub(1),
+            length,
+            usize::MAX,
+        ] {
+            holds &= is_written(alloc, length, room, true)?;
+        }
+        holds &= is_written(alloc, length, usize::MAX, false)?;
+    }
+    for room in 0..300 {
+        holds &= is_written(alloc, 290, room, true)?;
+    }
+    assert!(rt; holds);
+    Ok(())
 }
 
 // A failed allocation while the input is read is reported as such.
 #[test]
-fn failed_reads_have_their_error(rt: HostRuntime) {
+fn failed_reads_have_their_error(rt: HostRuntime) -> Result<(), Fail> {
     let unread = "error: cannot read input\n";
     let rows = &[
         (ErrorKind::BrokenPipe, unread),
+        (ErrorKind::UnexpectedEof, unread),
         (ErrorKind::Other, unread),
         (ErrorKind::OutOfMemory, "error: out of memory\n"),
     ];
+    let mut holds = true;
     for &(kind, error) in rows {
         for &args in &["item 9651", "dict 8941", "priority 9651"] {
-            assert!(rt; is_unreadable(rt.alloc(), args, kind, error), "{args}");
+            for &length in ladder(rt.alloc(), 1, 1 << 19)?.iter() {
+                holds &= is_unreadable(rt.alloc(), args, kind, length, error)?;
+            }
         }
     }
+    assert!(rt; holds);
+    Ok(())
 }
 
-/// A source of random bytes that has none.
-struct NoRandomBytes;
+/// A source of random bytes that fails with an error of this kind.
+#[derive(Drop)]
+struct NoRandomBytes(ErrorKind);
 
 impl RandomSource for NoRandomBytes {
     fn fill_bytes(&self, _buf: &mut [u8]) -> io::Result<()> {
-        Err(io::Error::from(io::ErrorKind::PermissionDenied))
+        Err(io::Error::from(self.0))
+    }
+}
+
+/// A source of these bytes.
+#[derive(Drop)]
+struct Bytes([u8; 8]);
+
+impl RandomSource for Bytes {
+    fn fill_bytes(&self, buf: &mut [u8]) -> io::Result<()> {
+        for (byte, &value) in buf.iter_mut().zip(self.0.iter()) {
+            *byte = value;
+        }
+        Ok(())
     }
 }
 
@@ -321,18 +396,20 @@ impl RandomSource for Counted {
     }
 }
 
-/// Returns `true` if a run with random bytes from this source writes exactly these texts, and has this status.
+/// Returns `true` if a run with random bytes from this source writes exactly these texts, and has this status. It reads
+/// all of the input, or nothing if it fails.
 fn ends_under<S: RandomSource>(
     alloc: Global,
     random: &S,
     args: &str,
+    text: &str,
     wanted: (&str, &str, u8),
 ) -> bool {
     let Some(args) = arguments(alloc, args) else {
         return false;
     };
     let (mut output, mut errors) = (Vec::new(alloc), Vec::new(alloc));
-    let mut input = b"a=1, a=2\n".as_slice();
+    let mut input = text.as_bytes();
     let status = run_with_random_seed(
         alloc,
         random,
@@ -344,6 +421,7 @@ fn ends_under<S: RandomSource>(
     output.as_slice() == wanted.0.as_bytes()
         && errors.as_slice() == wanted.1.as_bytes()
         && status == wanted.2
+        && input.len() == if status == 0 { 0 } else { text.len() }
 }
 
 /// Returns the number of calls of the source in a run that writes exactly these texts, and has this status.
@@ -351,7 +429,7 @@ fn calls_of(alloc: Global, args: &str, wanted: (&str, &str, u8)) -> Option<u32> 
     let random = Counted {
         calls: Cell::new(0),
     };
-    if ends_under(alloc, &random, args, wanted) {
+    if ends_under(alloc, &random, args, "a\n", wanted) {
         Some(random.calls.get())
     } else {
         None
@@ -362,29 +440,69 @@ fn calls_of(alloc: Global, args: &str, wanted: (&str, &str, u8)) -> Option<u32> 
 #[test]
 fn only_fields_take_random_bytes(rt: HostRuntime) {
     let alloc = rt.alloc();
-    let usage = ("", USAGE, 2);
-    let no_seed = ("", "error: no random seed\n", 1);
-    assert!(rt; ends_under(alloc, &NoRandomBytes, "dict", usage));
-    assert!(rt; ends_under(alloc, &NoRandomBytes, "dict 9651", no_seed));
-    assert!(rt; ends_under(alloc, &NoRandomBytes, "priority 9651", ("\n", "", 0)));
+    let denied = NoRandomBytes(ErrorKind::PermissionDenied);
+    let (usage, no_priority) = (("", USAGE, 2), ("\n", "", 0));
+    assert!(rt; ends_under(alloc, &denied, "dict", "a\n", usage));
+    assert!(rt; ends_under(alloc, &denied, "priority 9651", "", no_priority));
     assert!(rt; calls_of(alloc, "dict", usage) == Some(0));
-    assert!(rt; calls_of(alloc, "priority 9651", ("\n", "", 0)) == Some(0));
-    assert!(rt; calls_of(alloc, "dict 9651", ("a=2\n", "", 0)) == Some(1));
+    assert!(rt; calls_of(alloc, "priority 9651", no_priority) == Some(0));
 }
 
-// The seed is that of the source's bytes: another number has another hash of no key.
+// Each field takes random bytes once. It fails if there are none, whatever the error.
 #[test]
-fn seeds_are_the_bytes_of_the_source(rt: HostRuntime) {
-    let random = Counted {
-        calls: Cell::new(0),
-    };
-    let Ok(seed) = random_seed(&random) else {
-        panic!(rt; "no seed");
-    };
-    let hash = seed.build_hasher().finish();
-    assert!(rt; hash == HashSeed::new(0x0807_0605_0403_0201).build_hasher().finish());
-    assert!(rt; hash != HashSeed::new(0x0102_0304_0506_0708).build_hasher().finish());
-    assert!(rt; hash != HashSeed::default().build_hasher().finish());
-    assert!(rt; random.calls.get() == 1);
-    assert!(rt; random_seed(&NoRandomBytes).is_err());
+fn each_field_takes_random_bytes(rt: HostRuntime) -> Result<(), Fail> {
+    let alloc = rt.alloc();
+    let mut holds = true;
+    for &field in &["item", "list", "dict"] {
+        for &versions in &[
+            "8941",
+            "9651",
+            "8941 8941",
+            "8941 9651",
+            "9651 8941",
+            "9651 9651",
+        ] {
+            let args = format!(in alloc; "{field} {versions}")?;
+            holds &= calls_of(alloc, args.as_str(), ("a\n", "", 0)) == Some(1);
+            for &kind in &[
+                ErrorKind::PermissionDenied,
+                ErrorKind::Interrupted,
+                ErrorKind::WouldBlock,
+                ErrorKind::UnexpectedEof,
+                ErrorKind::OutOfMemory,
+                ErrorKind::Other,
+            ] {
+                let no_seed = ("", "error: no random seed\n", 1);
+                let random = NoRandomBytes(kind);
+                holds &= ends_under(alloc, &random, args.as_str(), "a\n", no_seed);
+                holds &= ends_under(alloc, &random, args.as_str(), "", no_seed);
+            }
+        }
+    }
+    assert!(rt; holds);
+    Ok(())
+}
+
+/// Returns `true` if the seed of these bytes is that of the number.
+fn is_seed_of(bytes: [u8; 8], number: u64) -> bool {
+    match random_seed(&Bytes(bytes)) {
+        Ok(seed) => {
+            seed.build_hasher().finish() == HashSeed::new(number).build_hasher().finish()
+        }
+        Err(_) => false,
+    }
+}
+
+// Another number has another hash of no key.
+#[test]
+fn each_bit_of_the_source_is_a_bit_of_the_seed(rt: HostRuntime) {
+    let mut holds = true;
+    for place in 0..8usize {
+        for bit in 0..8usize {
+            let (mut bytes, number) = ([0; 8], 1 << (8 * place + bit));
+            bytes[place] = 1 << bit;
+            holds &= is_seed_of(bytes, number) & !is_seed_of(bytes, number - 1);
+        }
+    }
+    assert!(rt; holds);
 }

@@ -1,21 +1,24 @@
 //! The proved callers of the library, including the examples of `CALLING.md`.
 
-use crate::common::{has_text, is_refused, is_text};
+use crate::common::{has_text, is_text, is_tight, ladder, of_size};
 use sfv::script::{ItemCalls, MemberCalls};
 use sfv::visitor::BareItemType;
 use sfv::{
-    BareItem, Date, Dictionary, FieldType, GenericBareItem, Integer, Item, KeyRef, List, ListEntry,
-    ParseError, Parser, RefBareItem, SerializeError, Version, find_entry, find_param, integer,
-    key_ref, token_ref,
+    BareItem, BareItemFromInput, DictSerializer, Dictionary, FieldType, GenericBareItem, Integer,
+    Item, KeyRef, List, ListEntry, ListSerializer, ParseError, Parser, RefBareItem, SerializeError,
+    TokenRef, Version, find_entry, find_param, integer, key_ref, token_ref,
 };
+use sfv_examples::expecting::string;
 use sfv_examples::lookups::{has_member, member, param, remove_member, replace_member};
-use sfv_examples::reading::{explain, integer_with_default, param_of_member, read_older_list};
+use sfv_examples::reading::{explain, integer_with_default, param_of_member};
 use sfv_examples::serializing::{
-    performed_and_read, write_dictionary, write_item_of_no_bytes, write_list, write_nothing,
+    abandon_one, performed_and_read, write_bare, write_dictionary, write_empty,
+    write_item_of_no_bytes, write_list, write_member, write_named, write_nothing,
 };
-use sfv_examples::versions::{performed_and_read_for, write_both_for};
+use sfv_examples::values::{copy_of, copy_of_item, copy_of_read, copy_of_string, item_of_number};
+use sfv_examples::versions::{performed_and_read_for, write_both, write_both_for};
 use sfv_examples::visiting::{TooMany, count_members, each_key};
-use sfv_examples::writing::{write_item, write_parts, written_and_read};
+use sfv_examples::writing::{write_item, write_parts, write_twice, written_and_read};
 use std::alloc::Global;
 use std::fmt::Write;
 use std::test::Fail;
@@ -43,34 +46,53 @@ fn lists_are_checked(rt: HostRuntime) {
 
 #[test]
 fn integers_have_a_default(rt: HostRuntime) {
-    let rows = [
-        ("5;a", Some(integer(5))),
-        ("5.0", Some(integer(3))),
-        ("5,", None),
-    ];
-    for (input, wanted) in rows {
-        let number = integer_with_default(rt.alloc(), input.as_bytes(), integer(3));
-        assert!(rt; number.ok() == wanted, "{input}");
+    let mut holds = true;
+    for &default in &[
+        Integer::MIN,
+        integer(-1),
+        Integer::ZERO,
+        integer(3),
+        Integer::MAX,
+    ] {
+        for &input in &["5.0", "a;b", "\"\"", "::", "?0", "@5", "%\"\""] {
+            let number = integer_with_default(rt.alloc(), input.as_bytes(), default);
+            holds &= number.ok() == Some(default);
+        }
+        holds &= integer_with_default(rt.alloc(), b"5;a", default).ok() == Some(integer(5));
+        holds &= integer_with_default(rt.alloc(), b"5,", default).is_err();
     }
+    assert!(rt; holds);
 }
 
-/// Returns the number of a member's parameter, if there is one.
-fn number_of(alloc: Global, member: KeyRef<'_>, param: KeyRef<'_>) -> Option<Integer> {
-    let input = b"a=1;x=1, b=(1 2);x=2;x=3, a=2;x=4;y";
-    match param_of_member(alloc, input, member, param) {
-        Ok(Some(value)) => value.as_integer(),
-        _ => None,
+/// Returns `true` if the last parameter `x` of the last such member, if there is one, has this text.
+fn has_param(alloc: Global, input: &[u8], member: &str, wanted: Option<&str>) -> bool {
+    let Ok(member) = KeyRef::from_str(member) else {
+        return false;
+    };
+    match param_of_member(alloc, input, member, key_ref("x")) {
+        Ok(Some(value)) => {
+            let text = Item::new(alloc, value).serialize(alloc);
+            text.is_ok_and(|text| Some(text.as_str()) == wanted)
+        }
+        Ok(None) => wanted.is_none(),
+        Err(_) => false,
     }
 }
 
 #[test]
-fn parameters_are_looked_up(rt: HostRuntime) {
+fn parameters_are_looked_up(rt: HostRuntime) -> Result<(), Fail> {
     let alloc = rt.alloc();
-    let found = (number_of(alloc, key_ref("a"), key_ref("x")) == Some(integer(4)))
-        & (number_of(alloc, key_ref("b"), key_ref("x")) == Some(integer(3)));
-    let missed = number_of(alloc, key_ref("c"), key_ref("x")).is_none()
-        & number_of(alloc, key_ref("a"), key_ref("z")).is_none();
-    assert!(rt; found & missed);
+    let mut holds = true;
+    for &value in VALUES {
+        let text = format!(in alloc; "a=1;x=1, b=(1 2);x=2;x={value}, a=2;x={value};y, d;z")?;
+        let input = text.as_str().as_bytes();
+        holds &= has_param(alloc, input, "a", Some(value))
+            & has_param(alloc, input, "b", Some(value))
+            & has_param(alloc, input, "c", None)
+            & has_param(alloc, input, "d", None);
+    }
+    assert!(rt; holds);
+    Ok(())
 }
 
 /// Returns a dictionary with the members 0, 1, .. under keys that begin with `name`. Each has a parameter of its key.
@@ -153,78 +175,73 @@ fn members_are_found_by_borrowed_keys(rt: HostRuntime) -> Result<(), Fail> {
     Ok(())
 }
 
-/// Returns the member `b=2`.
+/// Returns the item 2 as a member.
 fn two(alloc: Global) -> ListEntry {
     ListEntry::from(Item::new(alloc, GenericBareItem::Integer(integer(2))))
 }
 
-/// Returns `true` if members are replaced and removed, and absent ones are not.
-fn are_changed(alloc: Global) -> bool {
-    let Ok(mut members) = Parser::new(b"a=1, b=1, c").parse::<Dictionary>(alloc) else {
-        return false;
-    };
-    let replaced = replace_member(&mut members, key_ref("b"), two(alloc))
+/// Returns `true` if a member is replaced in its place, another one removed, and an absent one neither.
+fn is_changed(alloc: Global, count: usize) -> Result<bool, Fail> {
+    let text = of_size(alloc, ("a=1, b=1", ", k#", "", ""), count)?;
+    let mut members = Parser::new(text.as_str().as_bytes()).parse::<Dictionary>(alloc)?;
+    let is_replaced = replace_member(&mut members, key_ref("b"), two(alloc))
         & !replace_member(&mut members, key_ref("d"), two(alloc));
-    let removed = remove_member(&mut members, key_ref("a")).is_some()
+    let is_removed = remove_member(&mut members, key_ref("a")).is_some()
         & remove_member(&mut members, key_ref("d")).is_none();
-    match members.serialize(alloc) {
-        Ok(text) => replaced & removed & has_text(text, "b=2, c"),
-        Err(_) => false,
+    let wanted = of_size(alloc, ("b=2", ", k#", "", ""), count)?;
+    Ok(is_replaced & is_removed & has_text(members.serialize(alloc)?, wanted.as_str()))
+}
+
+#[test]
+fn members_are_changed_by_borrowed_keys(rt: HostRuntime) -> Result<(), Fail> {
+    let mut holds = true;
+    for &count in ladder(rt.alloc(), 300, 1 << 14)?.iter() {
+        holds &= is_changed(rt.alloc(), count)?;
+    }
+    assert!(rt; holds);
+    Ok(())
+}
+
+#[test]
+fn members_are_visited(rt: HostRuntime) -> Result<(), Fail> {
+    let (alloc, mut holds) = (rt.alloc(), true);
+    for &length in ladder(alloc, 2_200, 1 << 21)?.iter() {
+        let text = of_size(alloc, ("a, a=1, a", "b", "", ""), length)?;
+        let mut visited = 0usize;
+        let visit = |key: &str| visited = visited.saturating_add(key.len());
+        holds &= each_key(alloc, text.as_str().as_bytes(), visit).is_ok();
+        holds &= visited.saturating_add(6) == text.len();
+    }
+    assert!(rt; holds);
+    Ok(())
+}
+
+/// Returns `true` if so many members are counted up to this limit, or if there are too many.
+fn is_counted(alloc: Global, text: &str, count: u64, limit: u64) -> bool {
+    match count_members(alloc, text.as_bytes(), limit) {
+        Ok(found) => found == count && count <= limit,
+        Err(ParseError::Visitor(TooMany)) => limit < count,
+        Err(ParseError::Syntax(_)) => false,
     }
 }
 
 #[test]
-fn members_are_changed_by_borrowed_keys(rt: HostRuntime) {
-    assert!(rt; are_changed(rt.alloc()));
+fn members_are_counted(rt: HostRuntime) -> Result<(), Fail> {
+    let mut holds = true;
+    for count in 0..300usize {
+        let text = of_size(rt.alloc(), ("", "a", ", ", ""), count)?;
+        let count = count as u64;
+        let near = [count.saturating_sub(1), count, count.saturating_add(1)];
+        for limit in [0, 1, count / 2, u64::MAX].into_iter().chain(near) {
+            holds &= is_counted(rt.alloc(), text.as_str(), count, limit);
+        }
+    }
+    assert!(rt; holds);
+    Ok(())
 }
-
-#[test]
-fn older_lists_have_no_dates(rt: HostRuntime) {
-    let alloc = rt.alloc();
-    assert!(rt; read_older_list(alloc, b"1, a").is_ok() & read_older_list(alloc, b"@1").is_err());
-}
-
-#[test]
-fn members_are_visited(rt: HostRuntime) {
-    let alloc = rt.alloc();
-    let mut length = 0usize;
-    let visit = |key: &str| length = length.saturating_add(key.len());
-    let visited = each_key(alloc, b"a=1, bc, a=(x y)", visit).is_ok();
-    assert!(rt; visited & (length == 4));
-    assert!(rt; matches!(count_members(alloc, b"a=1, b, a=(x y)", 3), Ok(3)));
-    let many = count_members(alloc, b"a=1, b, a=2", 2);
-    assert!(rt; matches!(many, Err(ParseError::Visitor(TooMany))));
-}
-
-const NO: RefBareItem<'static> = GenericBareItem::Boolean(false);
 
 fn word<'a>() -> RefBareItem<'a> {
     GenericBareItem::Token(token_ref("w"))
-}
-
-/// Returns `true` if an item is written, and then another one part by part.
-fn are_items_written(alloc: Global) -> bool {
-    let Ok(item) = Parser::new(b"1.50;a;b=%\"%c3%bc\"").parse::<Item>(alloc) else {
-        return false;
-    };
-    let mut text = String::new(alloc);
-    let first = write_item(&mut text, word(), key_ref("k"), NO).is_ok();
-    let second = write_parts(&mut text, &item).is_ok();
-    first & second & is_text(&text, "w;k=?01.5;a;b=%\"%c3%bc\"")
-}
-
-/// Returns `true` if an item is written and parses back.
-fn is_read_again(alloc: Global) -> bool {
-    match written_and_read(alloc, word(), key_ref("k"), NO) {
-        Ok(item) => item.params.len() == 1,
-        Err(_) => false,
-    }
-}
-
-#[test]
-fn items_are_written_and_read_again(rt: HostRuntime) {
-    assert!(rt; are_items_written(rt.alloc()));
-    assert!(rt; is_read_again(rt.alloc()));
 }
 
 #[test]
@@ -246,43 +263,6 @@ fn dictionaries_and_items_that_are_known_are_written(rt: HostRuntime) {
     assert!(rt; dictionary & item & is_text(&text, wanted));
 }
 
-fn number<'a>() -> RefBareItem<'a> {
-    GenericBareItem::Integer(integer(1))
-}
-
-fn date<'a>() -> RefBareItem<'a> {
-    GenericBareItem::Date(Date::from_unix_seconds(integer(2)))
-}
-
-const DATE: SerializeError = SerializeError::Unsupported(BareItemType::Date);
-
-/// Returns the text of a list with a number and this value.
-fn pair_for<'a>(
-    alloc: Global,
-    version: Version,
-    second: RefBareItem<'a>,
-) -> Result<String, SerializeError> {
-    let mut text = String::new(alloc);
-    write_both_for(&mut text, version, number(), second)?;
-    Ok(text)
-}
-
-/// Returns `true` if the list has this text.
-fn is_pair_written(pair: Result<String, SerializeError>, wanted: &str) -> bool {
-    match pair {
-        Ok(text) => text.as_str() == wanted,
-        Err(_) => false,
-    }
-}
-
-#[test]
-fn values_are_written_for_a_version(rt: HostRuntime) {
-    let alloc = rt.alloc();
-    assert!(rt; is_pair_written(pair_for(alloc, Version::Rfc8941, NO), "1, ?0"));
-    assert!(rt; is_pair_written(pair_for(alloc, Version::Rfc9651, date()), "1, @2"));
-    assert!(rt; is_refused(pair_for(alloc, Version::Rfc8941, date()).err(), DATE));
-}
-
 /// Returns the calls that write an item without parameters.
 fn calls<'a>(alloc: Global, value: RefBareItem<'a>) -> MemberCalls<'a> {
     MemberCalls::Item(ItemCalls {
@@ -293,19 +273,193 @@ fn calls<'a>(alloc: Global, value: RefBareItem<'a>) -> MemberCalls<'a> {
 
 /// Returns `true` if the result is a list with this many members.
 fn has_length<E: Drop>(list: Result<List, E>, length: usize) -> bool {
-    match list {
-        Ok(list) => list.len() == length,
-        Err(_) => false,
+    list.is_ok_and(|list| list.len() == length)
+}
+
+/// Values of each kind as canonical texts, with the empty texts and the ends of numbers.
+#[rattlefmt::skip]
+const VALUES: &[&str] = &[
+    "0", "-1", "999999999999999", "-999999999999999", "0.0", "-999999999999.999", "\"\"", "\"a\\\"\"", "q",
+    "*", "::", ":AAEC:", "?0", "?1", "@0", "@-999999999999999", "%\"\"", "%\"%c3%bc\"",
+];
+
+/// Returns the kind of a value that RFC 8941 lacks.
+fn lacking(value: RefBareItem<'_>) -> Option<BareItemType> {
+    match value {
+        GenericBareItem::Date(_) => Some(BareItemType::Date),
+        GenericBareItem::DisplayString(_) => Some(BareItemType::DisplayString),
+        _ => None,
     }
 }
 
+/// Returns `true` if each call writes both values for RFC 9651.
+fn are_written(
+    alloc: Global,
+    first: RefBareItem<'_>,
+    second: RefBareItem<'_>,
+    key: KeyRef<'_>,
+) -> bool {
+    let mut text = String::new(alloc);
+    let mut list = ListSerializer::with_buffer(&mut text);
+    let in_list = write_member(&mut list, first, key, second, second).is_ok()
+        & write_empty(&mut list, key, first).is_ok()
+        & abandon_one(&mut list, first).is_ok()
+        & write_both(&mut list, first, second).is_ok();
+    let mut dictionary = DictSerializer::with_buffer(&mut text);
+    let in_dictionary = write_named(&mut dictionary, key, first, key, second).is_ok()
+        & write_bare(&mut dictionary, key, first).is_ok();
+    in_list
+        & in_dictionary
+        & write_item(&mut text, first, key, second).is_ok()
+        & write_twice(&mut text, first, key).is_ok()
+        & is_tight(text.capacity(), text.len())
+        & written_and_read(alloc, first, key, second).is_ok()
+}
+
+/// Returns `true` if each call that serializes for RFC 8941 writes both values, or fails at the first one that it lacks.
+fn are_checked(
+    alloc: Global,
+    first: RefBareItem<'_>,
+    second: RefBareItem<'_>,
+) -> Result<bool, Fail> {
+    let wanted = lacking(first)
+        .or(lacking(second))
+        .map(SerializeError::Unsupported);
+    let mut text = String::from_str(alloc, "X: ")?;
+    let error = write_both_for(&mut text, Version::Rfc8941, first, second).err();
+    let both = [calls(alloc, first), calls(alloc, second)];
+    let mut other = String::new(alloc);
+    let mut list = ListSerializer::with_buffer_for(&mut other, Version::Rfc8941);
+    let abandoned = abandon_one(&mut list, second).err();
+    Ok(
+        error == wanted
+            && text.as_str().starts_with("X: ")
+            && abandoned == lacking(second).map(SerializeError::Unsupported)
+            && performed_and_read_for(alloc, Version::Rfc8941, &both).err() == wanted
+            && has_length(performed_and_read_for(alloc, Version::Rfc9651, &both), 2)
+            && has_length(performed_and_read(alloc, &both), 2),
+    )
+}
+
+/// Returns `true` if each call writes these values, and copies of the first one are equal to it.
+fn hold(alloc: Global, first: &str, second: &str, key: KeyRef<'_>) -> Result<bool, Fail> {
+    let item = Parser::new(first.as_bytes()).parse::<Item>(alloc)?;
+    let read = Parser::new(first.as_bytes()).parse_item::<BareItemFromInput<'_>>(alloc)?;
+    let other = Parser::new(second.as_bytes()).parse_item::<BareItem>(alloc)?;
+    let is_copied = match &read {
+        GenericBareItem::String(text) => copy_of_string(text)? == *text,
+        _ => copy_of_read(&read)? == read,
+    };
+    let (value, second) = (item.bare_item.as_ref_item(), other.as_ref_item());
+    Ok(
+        are_written(alloc, value, second, key)
+            & are_checked(alloc, value, second)?
+            & (copy_of_item(&item)? == item)
+            & (copy_of(&item.bare_item)? == item.bare_item)
+            & is_copied
+            & write_parts(&mut String::new(alloc), &item).is_ok(),
+    )
+}
+
 #[test]
-fn scripts_are_performed_and_read_again(rt: HostRuntime) {
-    let alloc = rt.alloc();
-    let both = [calls(alloc, number()), calls(alloc, date())];
-    assert!(rt; has_length(performed_and_read(alloc, &both), 2));
-    let newer = performed_and_read_for(alloc, Version::Rfc9651, &both);
-    assert!(rt; has_length(newer, 2));
-    let refused = performed_and_read_for(alloc, Version::Rfc8941, &both);
-    assert!(rt; is_refused(refused.err(), DATE));
+fn values_of_each_kind_are_written(rt: HostRuntime) -> Result<(), Fail> {
+    let mut holds = true;
+    for letter in b'a'..=b'z' {
+        for &first in VALUES {
+            for &second in VALUES {
+                let key = [letter];
+                holds &= hold(rt.alloc(), first, second, KeyRef::from_bytes(&key)?)?;
+            }
+        }
+    }
+    assert!(rt; holds);
+    Ok(())
+}
+
+#[test]
+fn numbers_are_converted(rt: HostRuntime) {
+    let most = Integer::MAX.to_i64();
+    let mut holds = true;
+    for distance in -300..=300i64 {
+        for &number in &[
+            distance,
+            most.saturating_add(distance),
+            distance.saturating_sub(most),
+            i64::MIN,
+            i64::MAX,
+        ] {
+            let error = Integer::try_from(number).err();
+            holds &= item_of_number(number).err() == error;
+        }
+    }
+    assert!(rt; holds);
+}
+
+/// Returns `true` if each call performs the calls, and reads so many members.
+fn are_performed(alloc: Global, calls: &[MemberCalls<'_>], count: usize) -> bool {
+    has_length(performed_and_read(alloc, calls), count)
+        & has_length(
+            performed_and_read_for(alloc, Version::Rfc8941, calls),
+            count,
+        )
+        & has_length(
+            performed_and_read_for(alloc, Version::Rfc9651, calls),
+            count,
+        )
+}
+
+#[test]
+fn scripts_of_every_number_are_performed(rt: HostRuntime) -> Result<(), Fail> {
+    let (alloc, mut holds) = (rt.alloc(), true);
+    for &count in ladder(alloc, 300, 1 << 14)?.iter() {
+        let mut all = Vec::new(alloc);
+        for _ in 0..count {
+            holds &= all.push(calls(alloc, word())).is_ok();
+        }
+        holds &= are_performed(alloc, &all[..], count);
+    }
+    assert!(rt; holds);
+    Ok(())
+}
+
+/// Returns `true` if the script of an item with this bare item is performed.
+fn is_performed(alloc: Global, bare_item: RefBareItem<'_>) -> bool {
+    let mut all = Vec::new(alloc);
+    all.push(calls(alloc, bare_item)).is_ok() && are_performed(alloc, &all[..], 1)
+}
+
+/// Returns `true` if a string and a token of this text are written, also with a key of this text, and copies of strings
+/// are equal to them.
+fn is_written(alloc: Global, text: &str) -> Result<bool, Fail> {
+    let quoted = format!(in alloc; "\"\\\"{text}\"")?;
+    let escaped = string(alloc, quoted.as_str().as_bytes())?;
+    let quoted = format!(in alloc; "\"{text}\"")?;
+    let plain = string(alloc, quoted.as_str().as_bytes())?;
+    let first = GenericBareItem::Token(TokenRef::from_str(text)?);
+    let second = GenericBareItem::String(escaped.as_string_ref());
+    Ok(
+        is_performed(alloc, first)
+            & is_performed(alloc, second)
+            & are_written(alloc, first, second, KeyRef::from_str(text)?)
+            & (copy_of_string(&escaped)? == escaped)
+            & (copy_of_string(&plain)? == plain),
+    )
+}
+
+#[test]
+fn texts_of_every_length_are_written(rt: HostRuntime) -> Result<(), Fail> {
+    let (alloc, mut holds) = (rt.alloc(), true);
+    for &length in ladder(alloc, 2_200, 1 << 17)?.iter() {
+        let mut text = of_size(alloc, ("a", "b", "", ""), length)?;
+        holds &= is_written(alloc, text.as_str())?;
+        // The calls write after a text of this length.
+        holds &= write_list(&mut text).is_ok()
+            & write_nothing(&mut text).is_ok()
+            & write_dictionary(&mut text).is_ok()
+            & write_item_of_no_bytes(&mut text).is_ok()
+            & write_twice(&mut text, word(), key_ref("a")).is_ok()
+            & is_tight(text.capacity(), text.len());
+    }
+    assert!(rt; holds);
+    Ok(())
 }
