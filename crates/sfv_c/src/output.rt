@@ -1,0 +1,149 @@
+//! A text that is written part by part, up to the first error.
+
+ghost use Rattle.std.specs.Prelude.{◌≡◌, [], None, codes, if◌then◌else◌, string_bytes, OnOk};
+ghost use Rattle.std.specs.Result.{result_err};
+ghost use Rattle.sfv.specs.BareItems.{ref_value};
+ghost use Rattle.sfv.specs.CheckedTexts.{text_of};
+ghost use Rattle.sfv.specs.Types.{Version};
+ghost use Rattle.sfv.specs.Written.{separator_before, param_text, Appends as AppendsText};
+ghost use Rattle.sfv_c.specs.RowEvents.{IsAppended, Appends, plain, item_piece, parameter_piece};
+
+use sfv::script::ParamCall;
+use sfv::{KeyRef, OutOfMemory, RefBareItem, SerializeError, Version};
+use sfv_writer::item::{serialize_bare_item, serialize_key, serialize_value};
+use sfv_writer::output::serialize_separator;
+use sfv_writer::version_check::check_bare_item;
+use std::alloc::Global;
+
+/// A text for a version. After the first error, nothing is appended.
+#[derive(Drop)]
+pub(crate) struct Output {
+    pub(crate) version: Version,
+    pub(crate) text: String,
+    pub(crate) error: Option<SerializeError>,
+}
+
+/// Appends a parameter.
+#[inline(always)]
+fn append_parameter(parameter: ParamCall<'_>, text: &mut String) -> Result<(), OutOfMemory>
+    ensures { AppendsText text.old text.new
+        (param_text (text_of parameter.entry.key) (ref_value parameter.entry.value)) result }
+{
+    text.push(';')?;
+    serialize_key(parameter.key, text)?;
+    serialize_value(parameter.value, text)
+}
+
+/// Appends a parameter, if the version has its value.
+#[inline(always)]
+fn check_and_append_parameter(
+    version: Version,
+    parameter: ParamCall<'_>,
+    text: &mut String,
+) -> Result<(), SerializeError>
+    ensures { IsAppended version (parameter_piece (text_of parameter.entry.key) (ref_value parameter.entry.value))
+        text.old text.new (result_err result) }
+{
+    check_bare_item(version, parameter.value)?;
+    append_parameter(parameter, text)?;
+    Ok(())
+}
+
+/// Appends a bare item or the value of a key, if the version has it.
+#[inline(always)]
+fn check_and_append_item(
+    version: Version,
+    keyed: bool,
+    value: RefBareItem<'_>,
+    text: &mut String,
+) -> Result<(), SerializeError>
+    ensures { IsAppended version (item_piece keyed (ref_value value.entry)) text.old text.new (result_err result) }
+{
+    check_bare_item(version, value)?;
+    if keyed {
+        serialize_value(value, text)?;
+        return Ok(());
+    }
+    serialize_bare_item(value, text)?;
+    Ok(())
+}
+
+impl Output {
+    /// Creates an empty text with this capacity, if there is memory for it.
+    pub(crate) fn new(alloc: Global, version: Version, capacity: usize) -> Output
+        ensures version { result.version ≡ version }
+        ensures text { string_bytes result.text ≡ [] }
+        ensures error { result.error ≡ None }
+    {
+        let mut text = String::new(alloc);
+        // A failed request is no error, because the text may need fewer bytes.
+        let _ = text.reserve(capacity);
+        Output {
+            version,
+            text,
+            error: None,
+        }
+    }
+
+    /// Appends a text.
+    #[inline(always)]
+    pub(crate) fn text(&mut self, text: &str)
+        ensures { Appends (plain text.now) self.old self.new }
+    {
+        if self.error.is_some() {
+            return;
+        }
+        if self.text.push_str(text).is_err() {
+            self.error = Some(SerializeError::OutOfMemory);
+        }
+    }
+
+    /// Appends the separator, unless `is_first` is true.
+    #[inline(always)]
+    pub(crate) fn separator(&mut self, is_first: bool, separator: &str)
+        ensures { Appends (plain (separator_before is_first separator.now)) self.old self.new }
+    {
+        if self.error.is_some() {
+            return;
+        }
+        if serialize_separator(is_first, separator, &mut self.text).is_err() {
+            self.error = Some(SerializeError::OutOfMemory);
+        }
+    }
+
+    /// Appends a key.
+    #[inline(always)]
+    pub(crate) fn key(&mut self, key: KeyRef<'_>)
+        ensures { Appends (plain (text_of key.entry)) self.old self.new }
+    {
+        if self.error.is_some() {
+            return;
+        }
+        if serialize_key(key, &mut self.text).is_err() {
+            self.error = Some(SerializeError::OutOfMemory);
+        }
+    }
+
+    /// Appends a bare item, or the value of a key.
+    #[inline(always)]
+    pub(crate) fn item(&mut self, keyed: bool, value: RefBareItem<'_>)
+        ensures { Appends (item_piece keyed (ref_value value.entry)) self.old self.new }
+    {
+        if self.error.is_some() {
+            return;
+        }
+        self.error = check_and_append_item(self.version, keyed, value, &mut self.text).err();
+    }
+
+    /// Appends a parameter.
+    #[inline(always)]
+    pub(crate) fn parameter(&mut self, parameter: ParamCall<'_>)
+        ensures { Appends (parameter_piece (text_of parameter.entry.key) (ref_value parameter.entry.value))
+            self.old self.new }
+    {
+        if self.error.is_some() {
+            return;
+        }
+        self.error = check_and_append_parameter(self.version, parameter, &mut self.text).err();
+    }
+}
