@@ -57,9 +57,6 @@ adds_item keyed p i es = adds_next (item_piece keyed i.bare) (parameters_piece i
     (ending (parameters p) (parameters_events i.parameters ++ es)) (ending p es) (adds_parameters p i.parameters es) refl
 
 -- the items of an inner list, its end, and its parameters
-abbrev pub inside_events : RawInnerList → List TreeEvent
-inside_events l = flat_map inner_item_events l.items ++ inner_list_end ∷ parameters_events l.parameters
-
 abbrev pub inside : Bool → List RawItem → RawParameters → Piece
 inside is_first is ps = record {
   text = with_separators is_first (codes " ") (map item_text is) ++ codes ")" ++ parameters_text ps;

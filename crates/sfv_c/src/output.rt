@@ -90,10 +90,7 @@ impl Output {
     pub(crate) fn text(&mut self, text: &str)
         ensures { Appends (plain text.now) self.old self.new }
     {
-        if self.error.is_some() {
-            return;
-        }
-        if self.text.push_str(text).is_err() {
+        if self.error.is_none() && self.text.push_str(text).is_err() {
             self.error = Some(SerializeError::OutOfMemory);
         }
     }
@@ -103,10 +100,7 @@ impl Output {
     pub(crate) fn separator(&mut self, is_first: bool, separator: &str)
         ensures { Appends (plain (separator_before is_first separator.now)) self.old self.new }
     {
-        if self.error.is_some() {
-            return;
-        }
-        if serialize_separator(is_first, separator, &mut self.text).is_err() {
+        if self.error.is_none() && serialize_separator(is_first, separator, &mut self.text).is_err() {
             self.error = Some(SerializeError::OutOfMemory);
         }
     }
@@ -116,10 +110,7 @@ impl Output {
     pub(crate) fn key(&mut self, key: KeyRef<'_>)
         ensures { Appends (plain (text_of key.entry)) self.old self.new }
     {
-        if self.error.is_some() {
-            return;
-        }
-        if serialize_key(key, &mut self.text).is_err() {
+        if self.error.is_none() && serialize_key(key, &mut self.text).is_err() {
             self.error = Some(SerializeError::OutOfMemory);
         }
     }
@@ -129,10 +120,9 @@ impl Output {
     pub(crate) fn item(&mut self, keyed: bool, value: RefBareItem<'_>)
         ensures { Appends (item_piece keyed (ref_value value.entry)) self.old self.new }
     {
-        if self.error.is_some() {
-            return;
+        if self.error.is_none() {
+            self.error = check_and_append_item(self.version, keyed, value, &mut self.text).err();
         }
-        self.error = check_and_append_item(self.version, keyed, value, &mut self.text).err();
     }
 
     /// Appends a parameter.
@@ -141,9 +131,8 @@ impl Output {
         ensures { Appends (parameter_piece (text_of parameter.entry.key) (ref_value parameter.entry.value))
             self.old self.new }
     {
-        if self.error.is_some() {
-            return;
+        if self.error.is_none() {
+            self.error = check_and_append_parameter(self.version, parameter, &mut self.text).err();
         }
-        self.error = check_and_append_parameter(self.version, parameter, &mut self.text).err();
     }
 }
