@@ -9,7 +9,7 @@ use Rattle.sfv.specs.Events.{parameters_end, inner_list_end, parameters_events, 
 use Rattle.sfv.specs.Events.{member_events, entry_events, keyed_events, events}
 use Rattle.sfv_c.specs.Writing.{BeginsEvents}
 use Rattle.sfv_c.specs.RowEvents.{ParseState, ended, list_members, dictionary_members, member, value, parameters, items}
-use Rattle.sfv_c.specs.RowEvents.{after, ending, beginning, Piece, followed_by, piece, plain}
+use Rattle.sfv_c.specs.RowEvents.{after, added, beginning, Piece, followed_by, piece, text_only}
 use Rattle.sfv_c.proofs.Valid.{AreValid, valid_field, valid_together}
 
 -- the events of an inner list after the one that begins it
@@ -29,7 +29,7 @@ IsRest (items f p) es = (l : RawInnerList) × (rest : List TreeEvent) × (es ≡
 
 -- these events may come here, to the end of a field
 abbrev pub MayEnd : ParseState → List TreeEvent → Type 0
-MayEnd p es = (x : Piece) × (ending p es ≡ Some x)
+MayEnd p es = (x : Piece) × (added p es ≡ Some x)
 
 none_left : (p : ParseState) → MayEnd p [] → IsRest p []
 none_left ended h = refl
@@ -83,10 +83,10 @@ inside_map a None x h = absurd (cc)
 inside_map a (Some y) x h = (y, refl)
 
 read_on : (a : Piece) (es : List TreeEvent) → ((q : ParseState) → MayEnd q es → IsRest q es) → (o : Option ParseState) (x : Piece)
-    → ◌≡◌ {A = Option Piece} (elim o [ None ↦ None | Some next ↦ option_map (followed_by a) (ending next es) ]) (Some x)
+    → ◌≡◌ {A = Option Piece} (elim o [ None ↦ None | Some next ↦ option_map (followed_by a) (added next es) ]) (Some x)
     → MatchOption o ⊥ (λ q. IsRest q es)
 read_on a es f None x h = cc
-read_on a es f (Some q) x h = f q (inside_map a (ending q es) x h)
+read_on a es f (Some q) x h = f q (inside_map a (added q es) x h)
 
 is_rest : (p : ParseState) (es : List TreeEvent) → MayEnd p es → IsRest p es
 is_rest p [] h = none_left p h
@@ -114,9 +114,9 @@ after_map : (a : Piece) (o : Option Piece) → (y : Piece) × (o ≡ Some y) →
 after_map a o h = (followed_by a h.0, ap (option_map (followed_by a)) h.1)
 
 completed : (p : ParseState) → MayEnd p (completion p)
-completed ended = (plain [], refl)
-completed (list_members f) = (plain [], refl)
-completed (dictionary_members f) = (plain [], refl)
+completed ended = (text_only [], refl)
+completed (list_members f) = (text_only [], refl)
+completed (dictionary_members f) = (text_only [], refl)
 completed (member f p) = after_map (piece (member f p) begins_item) _ (after_map (piece (value f p) (bare_item (boolean true))) _
     (after_map (piece (parameters p) parameters_end) _ (completed p)))
 completed (value f p) = after_map (piece (value f p) (bare_item (boolean true))) _
@@ -136,10 +136,10 @@ valid_completion (items f p) = (tt, (tt, valid_completion p))
 
 -- valid events that lead to a place begin those of a field
 pub begin_field : (kind : FieldKind) (es : List TreeEvent) (p : ParseState) (a : Piece) → AreValid es
-    → ((more : List TreeEvent) → ending (beginning kind) (es ++ more) ≡ option_map (followed_by a) (ending p more))
+    → ((more : List TreeEvent) → added (beginning kind) (es ++ more) ≡ option_map (followed_by a) (added p more))
     → BeginsEvents kind es
 begin_field kind es p a v read =
-    let all = after_map a (ending p (completion p)) (completed p) in
+    let all = after_map a (added p (completion p)) (completed p) in
     let f = field_of_events kind (es ++ completion p) (all.0, read (completion p) ∙ all.1) in
     record {
       raw = f.0;

@@ -19,15 +19,15 @@ use Rattle.sfv_c.specs.declared.answer.Written.TheVariants as written
 use Rattle.sfv_c.specs.declared.answer.CallFault.TheVariants as faults
 use Rattle.sfv_c.specs.Answers.{Puts}
 use Rattle.sfv_c.specs.Writing.{AreRowsOfField, BeginRowsOfField, IsWriteFault, PutsRows}
-use Rattle.sfv_c.specs.RowEvents.{ParseState, Piece, plain, followed_by, ending, beginning, may_end, Reads, ReadsAll}
+use Rattle.sfv_c.specs.RowEvents.{ParseState, Piece, text_only, followed_by, added, beginning, may_end, Reads, WritesAll}
 use Rattle.sfv_c.specs.RowEvents.{IsErrorOf, IsAppended, Appends}
 use Rattle.sfv_c.proofs.Accepted.{field_of_events}
 use Rattle.sfv_c.proofs.Places.{adds_field, same_piece, piece_of}
 use Rattle.sfv_c.proofs.Valid.{valid_field}
 use Rattle.sfv_c.proofs.RowEvents.{reads_valid, reads_rows, rows_first, rows_length}
 
-end_here : (p : ParseState) → may_end p ≡ true → ending p [] ≡ Some (plain [])
-end_here p e = subst (λ b. (if b then Some (plain []) else None) ≡ Some (plain [])) (sym e) refl
+end_here : (p : ParseState) → may_end p ≡ true → added p [] ≡ Some (text_only [])
+end_here p e = subst (λ b. (if b then Some (text_only []) else None) ≡ Some (text_only [])) (sym e) refl
 
 -- what was read are the rows of a field, and its text and values were added
 pub record IsField (kind : FieldKind) (rows : List Row) (x : Piece) : Type 0 where
@@ -39,18 +39,18 @@ pub record IsField (kind : FieldKind) (rows : List Row) (x : Piece) : Type 0 whe
 some_piece : (a b : Piece) → Some a ≡ Some b → a ≡ b
 some_piece a b h = cc
 
-field_read : (kind : FieldKind) (rows : List Row) (before now : Output) (h : ReadsAll rows (beginning kind) before now)
-    → IsField kind rows h.runs.piece
+field_read : (kind : FieldKind) (rows : List Row) (before now : Output) (h : WritesAll rows (beginning kind) before now)
+    → IsField kind rows h.writes.piece
 field_read kind rows before now h =
-    let es = h.runs.es in
-    let x = h.runs.piece in
-    let read : Reads rows es [] = subst (λ (rest : List Row). Reads rows es rest) h.over h.runs.read in
-    let ends : ending (beginning kind) es ≡ Some x =
-    ap (ending (beginning kind)) (sym (append-nil es)) ∙ (h.runs.leads []
+    let es = h.writes.es in
+    let x = h.writes.piece in
+    let read : Reads rows es [] = subst (λ (rest : List Row). Reads rows es rest) h.over h.writes.read in
+    let ends : added (beginning kind) es ≡ Some x =
+    ap (added (beginning kind)) (sym (append-nil es)) ∙ (h.writes.leads []
     ∙ (ap (option_map (followed_by x)) (end_here h.place h.ends)
     ∙ ap Some (same_piece (append-nil x.text) (append-nil x.values)))) in
     let f = field_of_events kind es (x, ends) in
-    let same = some_piece x (piece_of (canonical kind f.0) (bare_values kind f.0)) (sym ends ∙ (ap (ending (beginning kind)) f.1 ∙ adds_field kind f.0)) in
+    let same = some_piece x (piece_of (canonical kind f.0) (bare_values kind f.0)) (sym ends ∙ (ap (added (beginning kind)) f.1 ∙ adds_field kind f.0)) in
     let all : Reads rows (events kind f.0) [] = subst (λ (es : List TreeEvent). Reads rows es []) f.1 read in
     record {
       raw = f.0;
@@ -124,26 +124,26 @@ appended version x before now h v none error e =
 
 -- nothing is written
 pub no_rows : (version : Version) (kind : FieldKind) (rows : List Row) (before now : Output) (out : List ℕ)
-    → ReadsAll rows (beginning kind) before now → length rows ≡ 0 → PutsRows version kind rows out out written.Nothing
+    → WritesAll rows (beginning kind) before now → length rows ≡ 0 → PutsRows version kind rows out out written.Nothing
 no_rows version kind rows before now out all empty =
     let f = field_read kind rows before now all in
     let none = nothing version kind f.raw (sym (rows_length rows (events kind f.raw) f.rows_of.in_rows) ∙ empty) in
     record { raw = f.raw; rows_of = f.rows_of; fits = none.0; text = None; written = none.1; put = (refl, refl) }
 
 module _ (version : Version) (kind : FieldKind) (rows : List Row) (before now : Output)
-    (v : before.version ≡ version) (none : before.error ≡ None) (all : ReadsAll rows (beginning kind) before now) where
+    (v : before.version ≡ version) (none : before.error ≡ None) (all : WritesAll rows (beginning kind) before now) where
   pub write_fault : 0 < length rows → (e : SerializeError) → now.error ≡ Some e
       → IsWriteFault version kind rows (faults.Write e)
-  write_fault some e h = fault version kind rows all.runs.piece (field_read kind rows before now all) some e
-      (appended version all.runs.piece before now all.runs.appends v none (Some e) h)
+  write_fault some e h = fault version kind rows all.writes.piece (field_read kind rows before now all) some e
+      (appended version all.writes.piece before now all.writes.appends v none (Some e) h)
 
   pub text_put : 0 < length rows → string_bytes before.text ≡ [] → now.error ≡ None → (old new : List ℕ) (w : Written)
       → Puts (string_bytes now.text) old new w → PutsRows version kind rows old new w
   text_put some empty h old new w put =
       let f = field_read kind rows before now all in
-      let k = appended version all.runs.piece before now all.runs.appends v none None h in
+      let k = appended version all.writes.piece before now all.writes.appends v none None h in
       let fits : Fits version kind f.raw = subst (AllFit version) f.values k.0 in
-      let text : string_bytes now.text ≡ canonical kind f.raw = k.1 ∙ (ap (λ t. t ++ all.runs.piece.text) empty ∙ f.text) in
+      let text : string_bytes now.text ≡ canonical kind f.raw = k.1 ∙ (ap (λ t. t ++ all.writes.piece.text) empty ∙ f.text) in
       let count : length rows ≡ length (events kind f.raw) = rows_length rows (events kind f.raw) f.rows_of.in_rows in
       record {
         raw = f.raw;

@@ -17,17 +17,17 @@ use Rattle.sfv_c.specs.declared.rows.Row.{Row}
 use Rattle.sfv_c.specs.declared.output.Output.{Output}
 use Rattle.sfv_c.specs.declared.rows_to_text.WrongRow.{WrongRow}
 use Rattle.sfv_c.specs.RowEvents.{ParseState, ended, list_members, dictionary_members, member, value, parameters, items}
-use Rattle.sfv_c.specs.RowEvents.{IsValidEvent, ending, after, may_end, piece, Piece, plain, followed_by, IsStuck}
-use Rattle.sfv_c.specs.RowEvents.{IsErrorOf, IsAppended, Appends, Runs, StopsAt, IsRead}
+use Rattle.sfv_c.specs.RowEvents.{IsValidEvent, added, after, may_end, piece, Piece, text_only, followed_by, IsStuck}
+use Rattle.sfv_c.specs.RowEvents.{IsErrorOf, IsAppended, Appends, Writes, StopsAt, WritesOrStops}
 use Rattle.sfv_c.specs.Rows.{IsRowOf}
 use Rattle.sfv_c.proofs.Places.{adds_nothing, adds_both}
 use Rattle.sfv_c.proofs.RowEvents.{reads_on, reads_one}
 
 -- nothing is appended
-pub appends_none : (o : Output) → Appends (plain []) o o
+pub appends_none : (o : Output) → Appends (text_only []) o o
 appends_none o = record { version = refl; state = none o.error }
   where
-    none : (e : Option SerializeError) → MatchOption e (IsAppended o.version (plain []) o.text o.text e) (λ d. e ≡ Some d)
+    none : (e : Option SerializeError) → MatchOption e (IsAppended o.version (text_only []) o.text o.text e) (λ d. e ≡ Some d)
     none None = (tt, sym (append-nil (string_bytes o.text)))
     none (Some d) = refl
 
@@ -59,33 +59,33 @@ appends_both {x} {y} {a} {b} {c} h k = record {
 }
 
 -- an event that may not come here, and one that may
-pub no_place : (p : ParseState) (e : TreeEvent) (es : List TreeEvent) → after p e ≡ None → ending p (e ∷ es) ≡ None
+pub no_place : (p : ParseState) (e : TreeEvent) (es : List TreeEvent) → after p e ≡ None → added p (e ∷ es) ≡ None
 no_place p e es h = subst
-    (λ (o : Option ParseState). elim o [ None ↦ None | Some next ↦ option_map (followed_by (piece p e)) (ending next es) ] ≡ None)
+    (λ (o : Option ParseState). elim o [ None ↦ None | Some next ↦ option_map (followed_by (piece p e)) (added next es) ] ≡ None)
     (sym h) refl
 
 a_place : (p q : ParseState) (e : TreeEvent) (es : List TreeEvent) → after p e ≡ Some q
-    → ending p (e ∷ es) ≡ option_map (followed_by (piece p e)) (ending q es)
+    → added p (e ∷ es) ≡ option_map (followed_by (piece p e)) (added q es)
 a_place p q e es h = subst
-    (λ (o : Option ParseState). elim o [ None ↦ None | Some next ↦ option_map (followed_by (piece p e)) (ending next es) ]
-    ≡ option_map (followed_by (piece p e)) (ending q es))
+    (λ (o : Option ParseState). elim o [ None ↦ None | Some next ↦ option_map (followed_by (piece p e)) (added next es) ]
+    ≡ option_map (followed_by (piece p e)) (added q es))
     (sym h) refl
 
 -- no row, one row, and rows after rows
-pub runs_none : (rows : List Row) (p : ParseState) (at : ℕ) (o : Output) → Runs rows p p at at o o
-runs_none rows p at o = record {
+pub writes_none : (rows : List Row) (p : ParseState) (at : ℕ) (o : Output) → Writes rows p p at at o o
+writes_none rows p at o = record {
   es = [];
   read = refl;
   count = omega arith;
-  piece = plain [];
-  leads = λ more. sym (adds_nothing (ending p more));
+  piece = text_only [];
+  leads = λ more. sym (adds_nothing (added p more));
   appends = appends_none o;
 }
 
-pub runs_row : {rows : List Row} {p q : ParseState} {at : ℕ} {row : Row} {before now : Output} (e : TreeEvent)
+pub writes_row : {rows : List Row} {p q : ParseState} {at : ℕ} {row : Row} {before now : Output} (e : TreeEvent)
     → drop at rows ≡ row ∷ drop (at + 1) rows → IsValidEvent e → IsRowOf row e → after p e ≡ Some q
-    → Appends (piece p e) before now → Runs rows p q at (at + 1) before now
-runs_row {rows} {p} {q} {at} {row} e is v i a x = record {
+    → Appends (piece p e) before now → Writes rows p q at (at + 1) before now
+writes_row {rows} {p} {q} {at} {row} e is v i a x = record {
   es = e ∷ [];
   read = reads_one (drop at rows) row (drop (at + 1) rows) e is v i;
   count = omega arith;
@@ -94,32 +94,32 @@ runs_row {rows} {p} {q} {at} {row} e is v i a x = record {
   appends = x;
 }
 
-pub runs_on : {rows : List Row} {p q r : ParseState} {start mid at : ℕ} {a b c : Output}
-    → Runs rows p q start mid a b → Runs rows q r mid at b c → Runs rows p r start at a c
-runs_on {rows} {p} {q} {r} {start} {mid} {at} {a} {b} {c} h k = record {
+pub writes_on : {rows : List Row} {p q r : ParseState} {start mid at : ℕ} {a b c : Output}
+    → Writes rows p q start mid a b → Writes rows q r mid at b c → Writes rows p r start at a c
+writes_on {rows} {p} {q} {r} {start} {mid} {at} {a} {b} {c} h k = record {
   es = h.es ++ k.es;
   read = reads_on (drop start rows) h.es (drop mid rows) k.es (drop at rows) h.read k.read;
   count = omega (arith, h.count, k.count, length-append h.es k.es);
   piece = followed_by h.piece k.piece;
-  leads = λ more. ap (ending p) (append_assoc h.es k.es more) ∙ (h.leads (k.es ++ more)
-      ∙ (ap (option_map (followed_by h.piece)) (k.leads more) ∙ adds_both h.piece k.piece (ending r more)));
+  leads = λ more. ap (added p) (append_assoc h.es k.es more) ∙ (h.leads (k.es ++ more)
+      ∙ (ap (option_map (followed_by h.piece)) (k.leads more) ∙ adds_both h.piece k.piece (added r more)));
   appends = appends_both h.appends k.appends;
 }
 
 -- an answer after rows
 pub stops_on : {rows : List Row} {p q : ParseState} {start mid at : ℕ} {a b c : Output}
-    → Runs rows p q start mid a b → StopsAt rows q mid at b c → StopsAt rows p start at a c
-stops_on h k = record { place = k.place; runs = runs_on h k.runs; stuck = k.stuck }
+    → Writes rows p q start mid a b → StopsAt rows q mid at b c → StopsAt rows p start at a c
+stops_on h k = record { place = k.place; writes = writes_on h k.writes; stuck = k.stuck }
 
-pub read_on : {rows : List Row} {p q : ParseState} {start mid : ℕ} {a b : Output} (r : ParseState) (c : Output)
-    (result : Result ℕ WrongRow) → Runs rows p q start mid a b → IsRead rows q r mid b c result
-    → IsRead rows p r start a c result
-read_on r c (Ok at) h k = runs_on h k
-read_on r c (Err wrong) h k = stops_on h k
+pub writes_or_stops_on : {rows : List Row} {p q : ParseState} {start mid : ℕ} {a b : Output} (r : ParseState) (c : Output)
+    (result : Result ℕ WrongRow) → Writes rows p q start mid a b → WritesOrStops rows q r mid b c result
+    → WritesOrStops rows p r start a c result
+writes_or_stops_on r c (Ok at) h k = writes_on h k
+writes_or_stops_on r c (Err wrong) h k = stops_on h k
 
 pub stops_at : {rows : List Row} {p q : ParseState} {start at : ℕ} {a b : Output}
-    → Runs rows p q start at a b → IsStuck q (drop at rows) → StopsAt rows p start at a b
-stops_at {rows} {p} {q} h k = record { place = q; runs = h; stuck = k }
+    → Writes rows p q start at a b → IsStuck q (drop at rows) → StopsAt rows p start at a b
+stops_at {rows} {p} {q} h k = record { place = q; writes = h; stuck = k }
 
 -- where no event can come, or there is none
 pub stuck_at : {rest : List Row} {row : Row} {more : List Row} (p : ParseState) → rest ≡ row ∷ more

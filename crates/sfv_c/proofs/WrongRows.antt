@@ -6,7 +6,7 @@ use Rattle.sfv.specs.Events.{TreeEvent, events}
 use Rattle.sfv_c.specs.declared.rows.Row.{Row}
 use Rattle.sfv_c.specs.declared.output.Output.{Output}
 use Rattle.sfv_c.specs.Writing.{AreRowsOf, BeginRowsOfField, AreWrongAt}
-use Rattle.sfv_c.specs.RowEvents.{ParseState, StopsAt, IsStuck, ending, beginning}
+use Rattle.sfv_c.specs.RowEvents.{ParseState, StopsAt, IsStuck, added, beginning}
 use Rattle.sfv_c.proofs.Valid.{AreValid, valid_first, field_valid}
 use Rattle.sfv_c.proofs.Accepted.{begin_field, MayEnd, inside_map}
 use Rattle.sfv_c.proofs.Places.{adds_field}
@@ -31,19 +31,19 @@ never_goes_on p (r ∷ rs) (e ∷ es) more l k v h n = let w = no_place p e (es 
 pub wrong_rows : (kind : FieldKind) (rows : List Row) (n : ℕ) (before now : Output)
     → StopsAt rows (beginning kind) 0 n before now → AreWrongAt kind rows n
 wrong_rows kind rows n before now s =
-    let es = s.runs.es in
+    let es = s.writes.es in
     let rest = drop n rows in
-    let read = s.runs.read in
+    let read = s.writes.read in
     let valid = reads_valid rows es rest read in
-    let count : n ≡ length es = omega (arith, s.runs.count) in
+    let count : n ≡ length es = omega (arith, s.writes.count) in
     let ends = λ (more : List TreeEvent) (h : MayEnd (beginning kind) (es ++ more)).
-    inside_map s.runs.piece (ending s.place more) h.0 (sym (s.runs.leads more) ∙ h.1) in
+    inside_map s.writes.piece (added s.place more) h.0 (sym (s.writes.leads more) ∙ h.1) in
     record {
       within = omega (arith, count, reads_length rows es rest read);
       begun = subst (λ (m : ℕ). BeginRowsOfField kind (take m rows)) (sym count) (record {
         es = es;
         in_rows = reads_rows (take (length es) rows) es (reads_taken rows es rest 0 (length es) (omega arith) read);
-        begins = begin_field kind es s.place s.runs.piece valid s.runs.leads;
+        begins = begin_field kind es s.place s.writes.piece valid s.writes.leads;
       });
       wrong = λ l b.
           let v : AreValid b.es = valid_first b.es b.begins.more
@@ -54,12 +54,12 @@ wrong_rows kind rows n before now s =
           never_goes_on s.place rest i.0 b.begins.more (omega (arith, l, count, reads_length rows es rest read))
           s.stuck i.2 i.3 (ends (i.0 ++ b.begins.more) (
             _,
-            ap (ending (beginning kind)) (sym (append_assoc es i.0 b.begins.more)
+            ap (added (beginning kind)) (sym (append_assoc es i.0 b.begins.more)
                 ∙ (ap (λ (x : List TreeEvent). x ++ b.begins.more) (sym i.1) ∙ sym b.begins.all))
                 ∙ adds_field kind b.begins.raw,
           ));
       no_field = λ raw f.
           let i = read_alike rows es rest (events kind raw) read (field_valid kind raw f.value) f.in_rows in
           never_ends s.place rest i.0 s.stuck i.2 i.3
-          (ends i.0 (_, ap (ending (beginning kind)) (sym i.1) ∙ adds_field kind raw));
+          (ends i.0 (_, ap (added (beginning kind)) (sym i.1) ∙ adds_field kind raw));
     }

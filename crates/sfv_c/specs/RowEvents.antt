@@ -67,8 +67,8 @@ Reads rows [] rest = rows ≡ rest
 Reads [] (e ∷ es) rest = ⊥
 Reads (row ∷ rows) (e ∷ es) rest = IsValidEvent e × IsRowOf row e × Reads rows es rest
 
--- The events that may come next. The flag of a list, of a dictionary and of items says whether none has come yet. The
--- flag of a member and of a value says whether it has a key.
+-- A place in a field: what may come next. A member and a value have a key or not. No member of a list or dictionary, or
+-- no item of an inner list, has come yet, or one has.
 pub data ParseState : Type 0 where
   ended : ParseState
   list_members dictionary_members : Bool → ParseState
@@ -106,13 +106,13 @@ pub record Piece : Type 0 where
   pub text : List ℕ
   pub values : List BareValue
 
-abbrev pub plain : List ℕ → Piece
-plain text = record { text = text; values = [] }
+abbrev pub text_only : List ℕ → Piece
+text_only text = record { text = text; values = [] }
 
 abbrev pub followed_by : Piece → Piece → Piece
 followed_by a b = record { text = a.text ++ b.text; values = a.values ++ b.values }
 
--- the text of a bare item, without or with a key before it
+-- a bare item, or the value of a key
 abbrev pub item_piece : Bool → BareValue → Piece
 item_piece keyed v = record { text = if keyed then value_text v else bare_text v; values = v ∷ [] }
 
@@ -121,70 +121,71 @@ parameter_piece key v = record { text = param_text key v; values = v ∷ [] }
 
 -- what an event adds at this place
 abbrev pub piece : ParseState → TreeEvent → Piece
-piece (list_members is_first) entry = plain (separator_before is_first (codes ", "))
-piece (dictionary_members is_first) (keyed_entry key) = plain (separator_before is_first (codes ", ") ++ key)
-piece (member keyed p) begins_inner_list = plain (if keyed then codes "=(" else codes "(")
+piece (list_members is_first) entry = text_only (separator_before is_first (codes ", "))
+piece (dictionary_members is_first) (keyed_entry key) = text_only (separator_before is_first (codes ", ") ++ key)
+piece (member keyed p) begins_inner_list = text_only (if keyed then codes "=(" else codes "(")
 piece (value keyed p) (bare_item v) = item_piece keyed v
 piece (parameters p) (parameter key v) = parameter_piece key v
-piece (items is_first p) begins_item = plain (separator_before is_first (codes " "))
-piece (items is_first p) inner_list_end = plain (codes ")")
-piece p e = plain []
+piece (items is_first p) begins_item = text_only (separator_before is_first (codes " "))
+piece (items is_first p) inner_list_end = text_only (codes ")")
+piece p e = text_only []
 
 -- what these events add from this place to the end of a field, if they may come here
-abbrev pub ending : ParseState → List TreeEvent → Option Piece
-ending p [] = if may_end p then Some (plain []) else None
-ending p (e ∷ es) = elim (after p e) [ None ↦ None | Some next ↦ option_map (followed_by (piece p e)) (ending next es) ]
+abbrev pub added : ParseState → List TreeEvent → Option Piece
+added p [] = if may_end p then Some (text_only []) else None
+added p (e ∷ es) = elim (after p e) [ None ↦ None | Some next ↦ option_map (followed_by (piece p e)) (added next es) ]
 
 -- the next row has no event that may come here, or no row is left and the field may not end here
 abbrev pub IsStuck : ParseState → List Row → Type 0
 IsStuck p [] = may_end p ≡ false
 IsStuck p (row ∷ rows) = (e : TreeEvent) → IsValidEvent e → IsRowOf row e → after p e ≡ None
 
--- memory ran out, or the version lacks a value, and the error names the first
+-- memory ran out, or the error names the first of these values that the version lacks
 abbrev pub IsErrorOf : Version → List BareValue → SerializeError → Type 0
 IsErrorOf version values e = (e ≡ errors.OutOfMemory) ⊎ NamesFirstUnfit version values e
 
--- the piece is appended, and the version has its values; or there is an error
+-- the version has the values of the piece, and its text is appended; or there is an error
 abbrev pub IsAppended : Version → Piece → std_string.String Global → std_string.String Global → Option SerializeError
     → Type 0
 IsAppended version x old new error =
     MatchOption error (AllFit version x.values × (string_bytes new ≡ string_bytes old ++ x.text))
     (IsErrorOf version x.values)
 
--- the same for an output without error; otherwise the error stays
+-- the piece is appended, or the output has an error; an error that it had stays
 pub record Appends (x : Piece) (before now : Output) : Type 0 where
   pub version : now.version ≡ before.version
   pub state : MatchOption before.error (IsAppended before.version x before.text now.text now.error)
       (λ e. now.error ≡ Some e)
 
--- the rows between these indices have events that lead from one place to another, and their piece is appended
-pub record Runs (rows : List Row) (p q : ParseState) (start at : ℕ) (before now : Output) : Type 0 where
+-- The rows from one index up to another have events that lead from place `p` to `q`, and what they add is appended.
+pub record Writes (rows : List Row) (p q : ParseState) (start at : ℕ) (before now : Output) : Type 0 where
   pub es : List TreeEvent
   pub read : Reads (drop start rows) es (drop at rows)
   pub count : at ≡ start + length es
   pub piece : Piece
-  pub leads : (more : List TreeEvent) → ending p (es ++ more) ≡ option_map (followed_by piece) (ending q more)
+  pub leads : (more : List TreeEvent) → added p (es ++ more) ≡ option_map (followed_by piece) (added q more)
   pub appends : Appends piece before now
 
--- the rows before this index lead to a place where reading is stuck
+-- The rows up to an index are written, and the row at this index is wrong, or more rows are needed.
 pub record StopsAt (rows : List Row) (p : ParseState) (start at : ℕ) (before now : Output) : Type 0 where
   pub place : ParseState
-  pub runs : Runs rows p place start at before now
+  pub writes : Writes rows p place start at before now
   pub stuck : IsStuck place (drop at rows)
 
--- the rows are read to this place, up to the returned index; or the returned index is the first wrong row
-abbrev pub IsRead : List Row → ParseState → ParseState → ℕ → Output → Output → Result ℕ WrongRow → Type 0
-IsRead rows p q start before now r = MatchResult r (λ at. Runs rows p q start at before now)
+-- the rows are written up to the returned index and lead to `q`, or the error has the index of the first wrong row
+abbrev pub WritesOrStops : List Row → ParseState → ParseState → ℕ → Output → Output → Result ℕ WrongRow → Type 0
+WritesOrStops rows p q start before now r = MatchResult r (λ at. Writes rows p q start at before now)
     (λ wrong. StopsAt rows p start wrong.index before now)
 
--- all rows are read, and the field may end
-pub record ReadsAll (rows : List Row) (p : ParseState) (before now : Output) : Type 0 where
+-- all rows are written, and the field may end
+pub record WritesAll (rows : List Row) (p : ParseState) (before now : Output) : Type 0 where
   pub place : ParseState
   pub at : ℕ
-  pub runs : Runs rows p place 0 at before now
+  pub writes : Writes rows p place 0 at before now
   pub ends : may_end place ≡ true
   pub over : drop at rows ≡ []
 
-abbrev pub IsReadWhole : List Row → FieldKind → Output → Output → Result Unit WrongRow → Type 0
-IsReadWhole rows kind before now r = MatchResult r (λ _. ReadsAll rows (beginning kind) before now)
+-- the same for a whole field
+abbrev pub WritesAllOrStops : List Row → FieldKind → Output → Output → Result Unit WrongRow → Type 0
+WritesAllOrStops rows kind before now r = MatchResult r (λ _. WritesAll rows (beginning kind) before now)
     (λ wrong. StopsAt rows (beginning kind) 0 wrong.index before now)

@@ -6,7 +6,7 @@ ghost use Rattle.sfv.specs.BareItems.{ref_value};
 ghost use Rattle.sfv.specs.CheckedTexts.{text_of};
 ghost use Rattle.sfv.specs.Types.{Version};
 ghost use Rattle.sfv.specs.Written.{separator_before, param_text, Appends as AppendsText};
-ghost use Rattle.sfv_c.specs.RowEvents.{IsAppended, Appends, plain, item_piece, parameter_piece};
+ghost use Rattle.sfv_c.specs.RowEvents.{IsAppended, Appends, text_only, item_piece, parameter_piece};
 
 use sfv::script::ParamCall;
 use sfv::{KeyRef, OutOfMemory, RefBareItem, SerializeError, Version};
@@ -77,7 +77,7 @@ impl Output {
     {
         let mut text = String::new(alloc);
         // A failed request is no error, because the text may need fewer bytes.
-        let _ = text.reserve(capacity);
+        let _ = text.reserve_exact(capacity);
         Output {
             version,
             text,
@@ -87,8 +87,8 @@ impl Output {
 
     /// Appends a text.
     #[inline(always)]
-    pub(crate) fn text(&mut self, text: &str)
-        ensures { Appends (plain text.now) self.old self.new }
+    pub(crate) fn append_text(&mut self, text: &str)
+        ensures { Appends (text_only text.now) self.old self.new }
     {
         if self.error.is_none() && self.text.push_str(text).is_err() {
             self.error = Some(SerializeError::OutOfMemory);
@@ -97,18 +97,20 @@ impl Output {
 
     /// Appends the separator, unless `is_first` is true.
     #[inline(always)]
-    pub(crate) fn separator(&mut self, is_first: bool, separator: &str)
-        ensures { Appends (plain (separator_before is_first separator.now)) self.old self.new }
+    pub(crate) fn append_separator(&mut self, is_first: bool, separator: &str)
+        ensures { Appends (text_only (separator_before is_first separator.now)) self.old self.new }
     {
-        if self.error.is_none() && serialize_separator(is_first, separator, &mut self.text).is_err() {
+        if self.error.is_none()
+            && serialize_separator(is_first, separator, &mut self.text).is_err()
+        {
             self.error = Some(SerializeError::OutOfMemory);
         }
     }
 
     /// Appends a key.
     #[inline(always)]
-    pub(crate) fn key(&mut self, key: KeyRef<'_>)
-        ensures { Appends (plain (text_of key.entry)) self.old self.new }
+    pub(crate) fn append_key(&mut self, key: KeyRef<'_>)
+        ensures { Appends (text_only (text_of key.entry)) self.old self.new }
     {
         if self.error.is_none() && serialize_key(key, &mut self.text).is_err() {
             self.error = Some(SerializeError::OutOfMemory);
@@ -117,7 +119,7 @@ impl Output {
 
     /// Appends a bare item, or the value of a key.
     #[inline(always)]
-    pub(crate) fn item(&mut self, keyed: bool, value: RefBareItem<'_>)
+    pub(crate) fn append_item(&mut self, keyed: bool, value: RefBareItem<'_>)
         ensures { Appends (item_piece keyed (ref_value value.entry)) self.old self.new }
     {
         if self.error.is_none() {
@@ -127,7 +129,7 @@ impl Output {
 
     /// Appends a parameter.
     #[inline(always)]
-    pub(crate) fn parameter(&mut self, parameter: ParamCall<'_>)
+    pub(crate) fn append_parameter(&mut self, parameter: ParamCall<'_>)
         ensures { Appends (parameter_piece (text_of parameter.entry.key) (ref_value parameter.entry.value))
             self.old self.new }
     {

@@ -3,7 +3,7 @@
 ghost use Rattle.std.specs.Prelude.{◌≡◌, ◌<◌, ◌+◌, ◌∷◌, [], length, drop, MatchOption, false, true};
 ghost use Rattle.sfv.specs.Types.{item_field, list_field, dictionary_field};
 ghost use Rattle.sfv_c.specs.RowEvents.{ParseState, member, value, items, parameters};
-ghost use Rattle.sfv_c.specs.RowEvents.{IsRead, IsReadWhole};
+ghost use Rattle.sfv_c.specs.RowEvents.{WritesOrStops, WritesAllOrStops};
 
 use crate::output::Output;
 use crate::row_event::{is_plain, keyed_entry_in, parameter_in, value_in};
@@ -28,7 +28,7 @@ fn row_at<'r, 'a>(rows: &'r [Row<'a>], at: usize) -> Option<&'r Row<'a>>
 
 /// Writes parameters.
 fn parameters(rows: &[Row<'_>], from: usize, output: &mut Output) -> Result<usize, WrongRow>
-    ensures { (p : ParseState) → IsRead rows.now (parameters p) p from output.old output.new result }
+    ensures { (p : ParseState) → WritesOrStops rows.now (parameters p) p from output.old output.new result }
 {
     let mut at = from;
     while let Some(row) = row_at(rows, at) {
@@ -38,7 +38,7 @@ fn parameters(rows: &[Row<'_>], from: usize, output: &mut Output) -> Result<usiz
         let Some(parameter) = parameter_in(row) else {
             return Err(WrongRow { index: at });
         };
-        output.parameter(parameter);
+        output.append_parameter(parameter);
         at += 1;
     }
     Err(WrongRow { index: at })
@@ -47,7 +47,7 @@ fn parameters(rows: &[Row<'_>], from: usize, output: &mut Output) -> Result<usiz
 /// Writes an item, whose bare item may be the value of a key.
 #[inline(always)]
 fn item(rows: &[Row<'_>], from: usize, keyed: bool, output: &mut Output) -> Result<usize, WrongRow>
-    ensures { (p : ParseState) → IsRead rows.now (value keyed p) p from output.old output.new result }
+    ensures { (p : ParseState) → WritesOrStops rows.now (value keyed p) p from output.old output.new result }
 {
     let Some(row) = row_at(rows, from) else {
         return Err(WrongRow { index: from });
@@ -55,25 +55,25 @@ fn item(rows: &[Row<'_>], from: usize, keyed: bool, output: &mut Output) -> Resu
     let Some(value) = value_in(row) else {
         return Err(WrongRow { index: from });
     };
-    output.item(keyed, value);
+    output.append_item(keyed, value);
     parameters(rows, from + 1, output)
 }
 
 /// Writes the items of an inner list, its end, and its parameters.
 fn items(rows: &[Row<'_>], from: usize, output: &mut Output) -> Result<usize, WrongRow>
-    ensures { (p : ParseState) → IsRead rows.now (items true p) p from output.old output.new result }
+    ensures { (p : ParseState) → WritesOrStops rows.now (items true p) p from output.old output.new result }
 {
     let mut at = from;
     let mut is_first = true;
     while let Some(row) = row_at(rows, at) {
         if is_plain(row, INNER_LIST_END) {
-            output.text(")");
+            output.append_text(")");
             return parameters(rows, at + 1, output);
         }
         if !is_plain(row, ITEM) {
             return Err(WrongRow { index: at });
         }
-        output.separator(is_first, " ");
+        output.append_separator(is_first, " ");
         at = item(rows, at + 1, false, output)?;
         is_first = false;
     }
@@ -88,7 +88,7 @@ fn member(
     keyed: bool,
     output: &mut Output,
 ) -> Result<usize, WrongRow>
-    ensures { (p : ParseState) → IsRead rows.now (member keyed p) p from output.old output.new result }
+    ensures { (p : ParseState) → WritesOrStops rows.now (member keyed p) p from output.old output.new result }
 {
     let Some(row) = row_at(rows, from) else {
         return Err(WrongRow { index: from });
@@ -99,13 +99,14 @@ fn member(
     if !is_plain(row, INNER_LIST) {
         return Err(WrongRow { index: from });
     }
-    output.text(if keyed { "=(" } else { "(" });
+    let opening = if keyed { "=(" } else { "(" };
+    output.append_text(opening);
     items(rows, from + 1, output)
 }
 
 /// Writes the members of a list.
 fn list(rows: &[Row<'_>], output: &mut Output) -> Result<(), WrongRow>
-    ensures { IsReadWhole rows.now list_field output.old output.new result }
+    ensures { WritesAllOrStops rows.now list_field output.old output.new result }
 {
     let mut at = 0;
     let mut is_first = true;
@@ -113,7 +114,7 @@ fn list(rows: &[Row<'_>], output: &mut Output) -> Result<(), WrongRow>
         if !is_plain(row, ENTRY) {
             return Err(WrongRow { index: at });
         }
-        output.separator(is_first, ", ");
+        output.append_separator(is_first, ", ");
         at = member(rows, at + 1, false, output)?;
         is_first = false;
     }
@@ -122,7 +123,7 @@ fn list(rows: &[Row<'_>], output: &mut Output) -> Result<(), WrongRow>
 
 /// Writes the members of a dictionary.
 fn dictionary(rows: &[Row<'_>], output: &mut Output) -> Result<(), WrongRow>
-    ensures { IsReadWhole rows.now dictionary_field output.old output.new result }
+    ensures { WritesAllOrStops rows.now dictionary_field output.old output.new result }
 {
     let mut at = 0;
     let mut is_first = true;
@@ -130,8 +131,8 @@ fn dictionary(rows: &[Row<'_>], output: &mut Output) -> Result<(), WrongRow>
         let Some(key) = keyed_entry_in(row) else {
             return Err(WrongRow { index: at });
         };
-        output.separator(is_first, ", ");
-        output.key(key);
+        output.append_separator(is_first, ", ");
+        output.append_key(key);
         at = member(rows, at + 1, true, output)?;
         is_first = false;
     }
@@ -140,7 +141,7 @@ fn dictionary(rows: &[Row<'_>], output: &mut Output) -> Result<(), WrongRow>
 
 /// Writes an item, after which no row may follow.
 fn item_alone(rows: &[Row<'_>], output: &mut Output) -> Result<(), WrongRow>
-    ensures { IsReadWhole rows.now item_field output.old output.new result }
+    ensures { WritesAllOrStops rows.now item_field output.old output.new result }
 {
     let at = item(rows, 0, false, output)?;
     match row_at(rows, at) {
@@ -151,7 +152,7 @@ fn item_alone(rows: &[Row<'_>], output: &mut Output) -> Result<(), WrongRow>
 
 /// Writes a field.
 pub(crate) fn field(kind: FieldKind, rows: &[Row<'_>], output: &mut Output) -> Result<(), WrongRow>
-    ensures { IsReadWhole rows.now kind output.old output.new result }
+    ensures { WritesAllOrStops rows.now kind output.old output.new result }
 {
     match kind {
         FieldKind::Item => item_alone(rows, output),

@@ -14,7 +14,7 @@ pub returns-in-None : goal.returns-in-None
 returns-in-None c = record {
   place = ended;
   at = c.in_ok-at.at;
-  runs = c.in_ok-at.ensures ended;
+  writes = c.in_ok-at.ensures ended;
   ends = refl;
   over = c.in-None.ensures;
 }

@@ -3,16 +3,16 @@ use Rattle.sfv.specs.BareItems.{ref_value}
 use Rattle.sfv.specs.CheckedTexts.{text_of}
 use Rattle.sfv.specs.Events.{parameter, parameters_end}
 use Rattle.sfv_c.specs.RowEvents.{parameters}
-use Rattle.sfv_c.proofs.Stops.{runs_none, runs_row, runs_on, appends_none, stops_at, stuck_at, stuck_end, fails}
+use Rattle.sfv_c.proofs.Stops.{writes_none, writes_row, writes_on, appends_none, stops_at, stuck_at, stuck_end, fails}
 use Rattle.sfv_c.proofs.Stops.{not_parameter}
 use Rattle.sfv_c.proofs.rows_to_text.parameters.Goals as goal
 
 pub loop-row-init : goal.loop-row-init
-loop-row-init c p = runs_none _ _ _ _
+loop-row-init c p = writes_none _ _ _ _
 
 pub returns-then-is_plain : goal.returns-then-is_plain
-returns-then-is_plain c p = runs_on (c.loop-row.invariant p)
-    (runs_row parameters_end c.in-Some.ensures.1 tt (c.if-is_plain.ensures.0 refl) refl (appends_none _))
+returns-then-is_plain c p = writes_on (c.loop-row.invariant p)
+    (writes_row parameters_end c.in-Some.ensures.1 tt (c.if-is_plain.ensures.0 refl) refl (appends_none _))
 
 pub returns-in_default-parameter_in : goal.returns-in_default-parameter_in
 returns-in_default-parameter_in c p = stops_at (c.loop-row.invariant p) (stuck_at (parameters p) c.in-Some.ensures.1
@@ -21,8 +21,8 @@ returns-in_default-parameter_in c p = stops_at (c.loop-row.invariant p) (stuck_a
 pub loop-row-preserved : goal.loop-row-preserved
 loop-row-preserved c p =
     let h = c.in-Some-parameter_in.ensures in
-    runs_on (c.loop-row.invariant p) (runs_row (parameter (text_of c.in-Some-parameter_in.parameter.key)
-    (ref_value c.in-Some-parameter_in.parameter.value)) c.in-Some.ensures.1 (h.0, h.1) h.2 refl c.parameter.ensures)
+    writes_on (c.loop-row.invariant p) (writes_row (parameter (text_of c.in-Some-parameter_in.parameter.key)
+    (ref_value c.in-Some-parameter_in.parameter.value)) c.in-Some.ensures.1 (h.0, h.1) h.2 refl c.append_parameter.ensures)
 
 pub returns : goal.returns
 returns c p = stops_at (c.loop-row.invariant p) (stuck_end (parameters p) c.in_default.ensures refl)
