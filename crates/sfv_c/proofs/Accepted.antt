@@ -9,7 +9,8 @@ use Rattle.sfv.specs.Events.{parameters_end, inner_list_end, parameters_events, 
 use Rattle.sfv.specs.Events.{member_events, entry_events, keyed_events, events}
 use Rattle.sfv_c.specs.Writing.{BeginsEvents}
 use Rattle.sfv_c.specs.RowEvents.{ParseState, ended, list_members, dictionary_members, member, value, parameters, items}
-use Rattle.sfv_c.specs.RowEvents.{after, added, beginning, Piece, followed_by, piece, text_only}
+use Rattle.sfv_c.specs.RowEvents.{IsValidEvent, after, added, beginning, Piece, followed_by, piece, text_only}
+use Rattle.sfv_c.proofs.Stops.{a_place}
 use Rattle.sfv_c.proofs.Valid.{AreValid, valid_field, valid_together}
 
 -- the events of an inner list after the one that begins it
@@ -100,50 +101,41 @@ field_of_events item_field es h =
 field_of_events list_field es h = is_rest (list_members true) es h
 field_of_events dictionary_field es h = is_rest (dictionary_members true) es h
 
--- events that may end a field from here on
-abbrev completion : ParseState → List TreeEvent
-completion ended = []
-completion (list_members f) = []
-completion (dictionary_members f) = []
-completion (member f p) = begins_item ∷ bare_item (boolean true) ∷ parameters_end ∷ completion p
-completion (value f p) = bare_item (boolean true) ∷ parameters_end ∷ completion p
-completion (parameters p) = parameters_end ∷ completion p
-completion (items f p) = inner_list_end ∷ parameters_end ∷ completion p
+-- valid events that end a field from here on
+abbrev Completion : ParseState → Type 0
+Completion p = (es : List TreeEvent) × AreValid es × MayEnd p es
 
-after_map : (a : Piece) (o : Option Piece) → (y : Piece) × (o ≡ Some y) → (x : Piece) × (option_map (followed_by a) o ≡ Some x)
-after_map a o h = (followed_by a h.0, ap (option_map (followed_by a)) h.1)
+before : (p q : ParseState) (e : TreeEvent) → IsValidEvent e → after p e ≡ Some q → Completion q → Completion p
+before p q e v a c = (
+  e ∷ c.0,
+  (v, c.1),
+  (followed_by (piece p e) c.2.0, a_place p q e c.0 a ∙ ap (option_map (followed_by (piece p e))) c.2.1),
+)
 
-completed : (p : ParseState) → MayEnd p (completion p)
-completed ended = (text_only [], refl)
-completed (list_members f) = (text_only [], refl)
-completed (dictionary_members f) = (text_only [], refl)
-completed (member f p) = after_map (piece (member f p) begins_item) _ (after_map (piece (value f p) (bare_item (boolean true))) _
-    (after_map (piece (parameters p) parameters_end) _ (completed p)))
-completed (value f p) = after_map (piece (value f p) (bare_item (boolean true))) _
-    (after_map (piece (parameters p) parameters_end) _ (completed p))
-completed (parameters p) = after_map (piece (parameters p) parameters_end) _ (completed p)
-completed (items f p) = after_map (piece (items f p) inner_list_end) _
-    (after_map (piece (parameters p) parameters_end) _ (completed p))
-
-valid_completion : (p : ParseState) → AreValid (completion p)
-valid_completion ended = tt
-valid_completion (list_members f) = tt
-valid_completion (dictionary_members f) = tt
-valid_completion (member f p) = (tt, (tt, (tt, valid_completion p)))
-valid_completion (value f p) = (tt, (tt, valid_completion p))
-valid_completion (parameters p) = (tt, valid_completion p)
-valid_completion (items f p) = (tt, (tt, valid_completion p))
+completion : (p : ParseState) → Completion p
+completion ended = ([], tt, (text_only [], refl))
+completion (list_members f) = ([], tt, (text_only [], refl))
+completion (dictionary_members f) = ([], tt, (text_only [], refl))
+completion (parameters p) = before (parameters p) p parameters_end tt refl (completion p)
+completion (value f p) = before (value f p) (parameters p) (bare_item (boolean true)) tt refl
+    (before (parameters p) p parameters_end tt refl (completion p))
+completion (member f p) = before (member f p) (items true p) begins_inner_list tt refl
+    (before (items true p) (parameters p) inner_list_end tt refl
+    (before (parameters p) p parameters_end tt refl (completion p)))
+completion (items f p) = before (items f p) (parameters p) inner_list_end tt refl
+    (before (parameters p) p parameters_end tt refl (completion p))
 
 -- valid events that lead to a place begin those of a field
 pub begin_field : (kind : FieldKind) (es : List TreeEvent) (p : ParseState) (a : Piece) → AreValid es
     → ((more : List TreeEvent) → added (beginning kind) (es ++ more) ≡ option_map (followed_by a) (added p more))
     → BeginsEvents kind es
 begin_field kind es p a v read =
-    let all = after_map a (added p (completion p)) (completed p) in
-    let f = field_of_events kind (es ++ completion p) (all.0, read (completion p) ∙ all.1) in
+    let c = completion p in
+    let f = field_of_events kind (es ++ c.0)
+    (followed_by a c.2.0, read c.0 ∙ ap (option_map (followed_by a)) c.2.1) in
     record {
       raw = f.0;
-      is_value = valid_field kind f.0 (subst AreValid f.1 (valid_together es (completion p) v (valid_completion p)));
-      more = completion p;
+      is_value = valid_field kind f.0 (subst AreValid f.1 (valid_together es c.0 v c.1));
+      more = c.0;
       all = sym f.1;
     }

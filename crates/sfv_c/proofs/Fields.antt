@@ -63,21 +63,16 @@ field_read kind rows before now h =
     }
 
 -- a field with an event has two, and a member
-two_events : (kind : FieldKind) (raw : RawField kind) → 0 < length (events kind raw) → 1 < length (events kind raw)
-two_events item_field i h = omega (arith, length-append (map (λ p. parameter p.0 p.1) i.parameters) (parameters_end ∷ []))
+two_events : (kind : FieldKind) (raw : RawField kind) → 0 < length (events kind raw)
+    → (1 < length (events kind raw)) × HasMember kind raw
+two_events item_field i h =
+    (omega (arith, length-append (map (λ p. parameter p.0 p.1) i.parameters) (parameters_end ∷ [])), tt)
 two_events list_field [] h = absurd (omega (arith, h))
-two_events list_field (item i ∷ ms) h = omega arith
-two_events list_field (inner_list l ∷ ms) h = omega arith
+two_events list_field (item i ∷ ms) h = (omega arith, (item i, ms, refl))
+two_events list_field (inner_list l ∷ ms) h = (omega arith, (inner_list l, ms, refl))
 two_events dictionary_field [] h = absurd (omega (arith, h))
-two_events dictionary_field ((key, item i) ∷ ms) h = omega arith
-two_events dictionary_field ((key, inner_list l) ∷ ms) h = omega arith
-
-has_member : (kind : FieldKind) (raw : RawField kind) → 0 < length (events kind raw) → HasMember kind raw
-has_member item_field i h = tt
-has_member list_field [] h = absurd (omega (arith, h))
-has_member list_field (m ∷ ms) h = (m, ms, refl)
-has_member dictionary_field [] h = absurd (omega (arith, h))
-has_member dictionary_field (m ∷ ms) h = (m, ms, refl)
+two_events dictionary_field ((key, item i) ∷ ms) h = (omega arith, ((key, item i), ms, refl))
+two_events dictionary_field ((key, inner_list l) ∷ ms) h = (omega arith, ((key, inner_list l), ms, refl))
 
 -- one without events has no member and no value
 nothing : (version : Version) (kind : FieldKind) (raw : RawField kind) → length (events kind raw) ≡ 0
@@ -94,7 +89,7 @@ after_two : (kind : FieldKind) (rows : List Row) (raw : RawField kind) → AreRo
 after_two kind rows raw h some =
     let es = events kind raw in
     let count : length rows ≡ length es = rows_length rows es h.in_rows in (
-      omega (arith, count, two_events kind raw (omega (arith, some, count))),
+      omega (arith, count, (two_events kind raw (omega (arith, some, count))).0),
       record {
         es = take 2 es;
         in_rows = rows_first 2 rows es h.in_rows;
@@ -151,7 +146,7 @@ module _ (version : Version) (kind : FieldKind) (rows : List Row) (before now : 
         fits = fits;
         text = Some (string_bytes now.text);
         written = (
-          has_member kind f.raw (omega (arith, some, count)),
+          (two_events kind f.raw (omega (arith, some, count))).1,
           text,
           subst (λ t. IsParsedAs version kind t (ordered kind f.raw)) (sym text)
               (read_back version kind f.raw f.rows_of.value fits),

@@ -7,14 +7,14 @@ use Rattle.std.proofs.lemmas.List.{append-nil}
 use Rattle.sfv.specs.Values.{BareValue, RawField, RawParameters, RawItem, RawMember, item, inner_list}
 use Rattle.sfv.specs.Values.{item_values, member_values, bare_values}
 use Rattle.sfv.specs.Types.{FieldKind, item_field, list_field, dictionary_field}
-use Rattle.sfv.specs.Events.{TreeEvent, begins_inner_list, inner_list_end, parameters_events, item_events, inner_item_events}
+use Rattle.sfv.specs.Events.{TreeEvent, parameter, begins_inner_list, inner_list_end, parameters_events, item_events, inner_item_events}
 use Rattle.sfv.specs.Events.{member_events, entry_events, keyed_events, events}
 use Rattle.sfv.specs.Canonical.{parameters_text, item_text, member_text, dictionary_member_text, inner_list_text}
 use Rattle.sfv.specs.Canonical.{canonical}
 use Rattle.sfv.specs.Written.{with_separators, separator_before}
 use Rattle.sfv_writer.proofs.Separated.{in_a_row_first}
 use Rattle.sfv_c.specs.RowEvents.{ParseState, ended, list_members, dictionary_members, member, value, parameters, items}
-use Rattle.sfv_c.specs.RowEvents.{Piece, text_only, followed_by, item_piece, parameter_piece, added, beginning}
+use Rattle.sfv_c.specs.RowEvents.{Piece, text_only, followed_by, item_piece, piece, added, beginning}
 
 abbrev pub piece_of : List ℕ → List BareValue → Piece
 piece_of text values = record { text = text; values = values }
@@ -45,7 +45,7 @@ parameters_piece ps = record { text = parameters_text ps; values = values_of ps 
 pub adds_parameters : (p : ParseState) (ps : RawParameters) (es : List TreeEvent)
     → added (parameters p) (parameters_events ps ++ es) ≡ option_map (followed_by (parameters_piece ps)) (added p es)
 adds_parameters p [] es = refl
-adds_parameters p (q ∷ ps) es = adds_next (parameter_piece q.0 q.1) (parameters_piece ps) (parameters_piece (q ∷ ps))
+adds_parameters p (q ∷ ps) es = adds_next (piece (parameters p) (parameter q.0 q.1)) (parameters_piece ps) (parameters_piece (q ∷ ps))
     (added (parameters p) (parameters_events ps ++ es)) (added p es) (adds_parameters p ps es) refl
 
 abbrev pub whole_item : Bool → RawItem → Piece

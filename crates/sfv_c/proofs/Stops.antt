@@ -64,7 +64,7 @@ no_place p e es h = subst
     (λ (o : Option ParseState). elim o [ None ↦ None | Some next ↦ option_map (followed_by (piece p e)) (added next es) ] ≡ None)
     (sym h) refl
 
-a_place : (p q : ParseState) (e : TreeEvent) (es : List TreeEvent) → after p e ≡ Some q
+pub a_place : (p q : ParseState) (e : TreeEvent) (es : List TreeEvent) → after p e ≡ Some q
     → added p (e ∷ es) ≡ option_map (followed_by (piece p e)) (added q es)
 a_place p q e es h = subst
     (λ (o : Option ParseState). elim o [ None ↦ None | Some next ↦ option_map (followed_by (piece p e)) (added next es) ]

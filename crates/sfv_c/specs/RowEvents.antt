@@ -13,7 +13,7 @@ use Rattle.sfv.specs.Classes.{is_key}
 use Rattle.sfv.specs.Events.{TreeEvent, entry, keyed_entry, begins_item, begins_inner_list, bare_item, parameter}
 use Rattle.sfv.specs.Events.{parameters_end, inner_list_end}
 use Rattle.sfv.specs.Canonical.{bare_text, value_text}
-use Rattle.sfv.specs.Written.{separator_before, param_text}
+use Rattle.sfv.specs.Written.{separator_before}
 use Rattle.sfv.specs.Versions.{NamesFirstUnfit}
 use Rattle.sfv.specs.BareItems.{ref_value}
 use Rattle.sfv.specs.StringText.{StringRef}
@@ -116,16 +116,13 @@ followed_by a b = record { text = a.text ++ b.text; values = a.values ++ b.value
 abbrev pub item_piece : Bool → BareValue → Piece
 item_piece keyed v = record { text = if keyed then value_text v else bare_text v; values = v ∷ [] }
 
-abbrev pub parameter_piece : List ℕ → BareValue → Piece
-parameter_piece key v = record { text = param_text key v; values = v ∷ [] }
-
 -- what an event adds at this place
 abbrev pub piece : ParseState → TreeEvent → Piece
 piece (list_members is_first) entry = text_only (separator_before is_first (codes ", "))
 piece (dictionary_members is_first) (keyed_entry key) = text_only (separator_before is_first (codes ", ") ++ key)
 piece (member keyed p) begins_inner_list = text_only (if keyed then codes "=(" else codes "(")
 piece (value keyed p) (bare_item v) = item_piece keyed v
-piece (parameters p) (parameter key v) = parameter_piece key v
+piece (parameters p) (parameter key v) = followed_by (text_only (codes ";" ++ key)) (item_piece true v)
 piece (items is_first p) begins_item = text_only (separator_before is_first (codes " "))
 piece (items is_first p) inner_list_end = text_only (codes ")")
 piece p e = text_only []

@@ -1,15 +1,13 @@
 //! A text that is written part by part, up to the first error.
 
-ghost use Rattle.std.specs.Prelude.{◌≡◌, [], None, codes, if◌then◌else◌, string_bytes, OnOk};
+ghost use Rattle.std.specs.Prelude.{◌≡◌, [], None, string_bytes};
 ghost use Rattle.std.specs.Result.{result_err};
 ghost use Rattle.sfv.specs.BareItems.{ref_value};
 ghost use Rattle.sfv.specs.CheckedTexts.{text_of};
-ghost use Rattle.sfv.specs.Types.{Version};
-ghost use Rattle.sfv.specs.Written.{separator_before, param_text, Appends as AppendsText};
-ghost use Rattle.sfv_c.specs.RowEvents.{IsAppended, Appends, text_only, item_piece, parameter_piece};
+ghost use Rattle.sfv.specs.Written.{separator_before};
+ghost use Rattle.sfv_c.specs.RowEvents.{IsAppended, Appends, text_only, item_piece};
 
-use sfv::script::ParamCall;
-use sfv::{KeyRef, OutOfMemory, RefBareItem, SerializeError, Version};
+use sfv::{KeyRef, RefBareItem, SerializeError, Version};
 use sfv_writer::item::{serialize_bare_item, serialize_key, serialize_value};
 use sfv_writer::output::serialize_separator;
 use sfv_writer::version_check::check_bare_item;
@@ -21,32 +19,6 @@ pub(crate) struct Output {
     pub(crate) version: Version,
     pub(crate) text: String,
     pub(crate) error: Option<SerializeError>,
-}
-
-/// Appends a parameter.
-#[inline(always)]
-fn append_parameter(parameter: ParamCall<'_>, text: &mut String) -> Result<(), OutOfMemory>
-    ensures { AppendsText text.old text.new
-        (param_text (text_of parameter.entry.key) (ref_value parameter.entry.value)) result }
-{
-    text.push(';')?;
-    serialize_key(parameter.key, text)?;
-    serialize_value(parameter.value, text)
-}
-
-/// Appends a parameter, if the version has its value.
-#[inline(always)]
-fn check_and_append_parameter(
-    version: Version,
-    parameter: ParamCall<'_>,
-    text: &mut String,
-) -> Result<(), SerializeError>
-    ensures { IsAppended version (parameter_piece (text_of parameter.entry.key) (ref_value parameter.entry.value))
-        text.old text.new (result_err result) }
-{
-    check_bare_item(version, parameter.value)?;
-    append_parameter(parameter, text)?;
-    Ok(())
 }
 
 /// Appends a bare item or the value of a key, if the version has it.
@@ -123,18 +95,9 @@ impl Output {
         ensures { Appends (item_piece keyed (ref_value value.entry)) self.old self.new }
     {
         if self.error.is_none() {
-            self.error = check_and_append_item(self.version, keyed, value, &mut self.text).err();
-        }
-    }
-
-    /// Appends a parameter.
-    #[inline(always)]
-    pub(crate) fn append_parameter(&mut self, parameter: ParamCall<'_>)
-        ensures { Appends (parameter_piece (text_of parameter.entry.key) (ref_value parameter.entry.value))
-            self.old self.new }
-    {
-        if self.error.is_none() {
-            self.error = check_and_append_parameter(self.version, parameter, &mut self.text).err();
+            if let Err(error) = check_and_append_item(self.version, keyed, value, &mut self.text) {
+                self.error = Some(error);
+            }
         }
     }
 }

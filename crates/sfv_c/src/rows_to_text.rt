@@ -38,7 +38,9 @@ fn parameters(rows: &[Row<'_>], from: usize, output: &mut Output) -> Result<usiz
         let Some(parameter) = parameter_in(row) else {
             return Err(WrongRow { index: at });
         };
-        output.append_parameter(parameter);
+        output.append_text(";");
+        output.append_key(parameter.key);
+        output.append_item(true, parameter.value);
         at += 1;
     }
     Err(WrongRow { index: at })

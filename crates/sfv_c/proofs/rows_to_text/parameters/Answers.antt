@@ -3,7 +3,7 @@ use Rattle.sfv.specs.BareItems.{ref_value}
 use Rattle.sfv.specs.CheckedTexts.{text_of}
 use Rattle.sfv.specs.Events.{parameter, parameters_end}
 use Rattle.sfv_c.specs.RowEvents.{parameters}
-use Rattle.sfv_c.proofs.Stops.{writes_none, writes_row, writes_on, appends_none, stops_at, stuck_at, stuck_end, fails}
+use Rattle.sfv_c.proofs.Stops.{writes_none, writes_row, writes_on, appends_none, appends_both, stops_at, stuck_at, stuck_end, fails}
 use Rattle.sfv_c.proofs.Stops.{not_parameter}
 use Rattle.sfv_c.proofs.rows_to_text.parameters.Goals as goal
 
@@ -22,7 +22,8 @@ pub loop-row-preserved : goal.loop-row-preserved
 loop-row-preserved c p =
     let h = c.in-Some-parameter_in.ensures in
     writes_on (c.loop-row.invariant p) (writes_row (parameter (text_of c.in-Some-parameter_in.parameter.key)
-    (ref_value c.in-Some-parameter_in.parameter.value)) c.in-Some.ensures.1 (h.0, h.1) h.2 refl c.append_parameter.ensures)
+    (ref_value c.in-Some-parameter_in.parameter.value)) c.in-Some.ensures.1 (h.0, h.1) h.2 refl
+    (appends_both (appends_both c.append_text.ensures c.append_key.ensures) c.append_item.ensures))
 
 pub returns : goal.returns
 returns c p = stops_at (c.loop-row.invariant p) (stuck_end (parameters p) c.in_default.ensures refl)
