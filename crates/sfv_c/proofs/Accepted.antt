@@ -46,8 +46,10 @@ regroup a b c d = simp append_assoc
 
 one_more : (p : ParseState) (e : TreeEvent) (es : List TreeEvent) → MatchOption (after p e) ⊥ (λ q. IsRest q es)
     → IsRest p (e ∷ es)
-one_more (list_members f) entry es h =
-    (h.0 ∷ h.3.0, ap (λ (x : List TreeEvent). entry ∷ x) (h.2 ∙ ap (λ (x : List TreeEvent). member_events h.0 ++ x) h.3.1))
+one_more (list_members f) entry es h = (
+  h.0 ∷ h.3.0,
+  ap (λ (x : List TreeEvent). entry ∷ x) (h.2 ∙ ap (λ (x : List TreeEvent). member_events h.0 ++ x) h.3.1),
+)
 one_more (dictionary_members f) (keyed_entry key) es h = (
   (key, h.0) ∷ h.3.0,
   ap (λ (x : List TreeEvent). keyed_entry key ∷ x) (h.2 ∙ ap (λ (x : List TreeEvent). member_events h.0 ++ x) h.3.1),
@@ -83,7 +85,8 @@ pub inside_map : (a : Piece) (o : Option Piece) (x : Piece) → option_map (foll
 inside_map a None x h = absurd (cc)
 inside_map a (Some y) x h = (y, refl)
 
-read_on : (a : Piece) (es : List TreeEvent) → ((q : ParseState) → MayEnd q es → IsRest q es) → (o : Option ParseState) (x : Piece)
+read_on : (a : Piece) (es : List TreeEvent) → ((q : ParseState) → MayEnd q es → IsRest q es)
+    → (o : Option ParseState) (x : Piece)
     → ◌≡◌ {A = Option Piece} (elim o [ None ↦ None | Some next ↦ option_map (followed_by a) (added next es) ]) (Some x)
     → MatchOption o ⊥ (λ q. IsRest q es)
 read_on a es f None x h = cc

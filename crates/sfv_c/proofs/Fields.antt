@@ -1,6 +1,6 @@
 -- Rows that are read to their end, and their text.
-use Rattle.std.proofs.Common.{◌≡◌, ℕ, ◌<◌, List, [], ◌∷◌, ◌++◌, length, map, take, drop, refl, sym, ◌∙◌, ap, subst, arith}
-use Rattle.std.proofs.Common.{true, if◌then◌else◌, Option, Some, None, option_map, inl, inr, MatchOption}
+use Rattle.std.proofs.Common.{◌≡◌, ℕ, ◌<◌, List, [], ◌∷◌, ◌++◌, length, map, take, drop, refl, sym, ◌∙◌, ap, subst}
+use Rattle.std.proofs.Common.{arith, true, if◌then◌else◌, Option, Some, None, option_map, inl, inr, MatchOption}
 use Rattle.std.specs.Prelude.{string_bytes}
 use Rattle.std.proofs.lemmas.List.{append-nil, length-append, take-append-drop}
 use Rattle.sfv.specs.Values.{RawField, item, inner_list, HasMember, Fits, AllFit, bare_values}
@@ -19,8 +19,8 @@ use Rattle.sfv_c.specs.declared.answer.Written.TheVariants as written
 use Rattle.sfv_c.specs.declared.answer.CallFault.TheVariants as faults
 use Rattle.sfv_c.specs.Answers.{Puts}
 use Rattle.sfv_c.specs.Writing.{AreRowsOfField, BeginRowsOfField, IsWriteFault, PutsRows}
-use Rattle.sfv_c.specs.RowEvents.{ParseState, Piece, text_only, followed_by, added, beginning, may_end, Reads, WritesAll}
-use Rattle.sfv_c.specs.RowEvents.{IsErrorOf, IsAppended, Appends}
+use Rattle.sfv_c.specs.RowEvents.{ParseState, Piece, text_only, followed_by, added, beginning, may_end, Reads}
+use Rattle.sfv_c.specs.RowEvents.{WritesAll, IsErrorOf, IsAppended, Appends}
 use Rattle.sfv_c.proofs.Accepted.{field_of_events}
 use Rattle.sfv_c.proofs.Places.{adds_field, same_piece, piece_of}
 use Rattle.sfv_c.proofs.Valid.{valid_field}
@@ -50,7 +50,8 @@ field_read kind rows before now h =
     ∙ (ap (option_map (followed_by x)) (end_here h.place h.ends)
     ∙ ap Some (same_piece (append-nil x.text) (append-nil x.values)))) in
     let f = field_of_events kind es (x, ends) in
-    let same = some_piece x (piece_of (canonical kind f.0) (bare_values kind f.0)) (sym ends ∙ (ap (added (beginning kind)) f.1 ∙ adds_field kind f.0)) in
+    let same = some_piece x (piece_of (canonical kind f.0) (bare_values kind f.0))
+    (sym ends ∙ (ap (added (beginning kind)) f.1 ∙ adds_field kind f.0)) in
     let all : Reads rows (events kind f.0) [] = subst (λ (es : List TreeEvent). Reads rows es []) f.1 read in
     record {
       raw = f.0;
@@ -138,7 +139,8 @@ module _ (version : Version) (kind : FieldKind) (rows : List Row) (before now : 
       let f = field_read kind rows before now all in
       let k = appended version all.writes.piece before now all.writes.appends v none None h in
       let fits : Fits version kind f.raw = subst (AllFit version) f.values k.0 in
-      let text : string_bytes now.text ≡ canonical kind f.raw = k.1 ∙ (ap (λ t. t ++ all.writes.piece.text) empty ∙ f.text) in
+      let text : string_bytes now.text ≡ canonical kind f.raw =
+      k.1 ∙ (ap (λ t. t ++ all.writes.piece.text) empty ∙ f.text) in
       let count : length rows ≡ length (events kind f.raw) = rows_length rows (events kind f.raw) f.rows_of.in_rows in
       record {
         raw = f.raw;

@@ -1,14 +1,14 @@
 -- What the events of the parts of a field add.
-use Rattle.std.proofs.Common.{◌≡◌, ℕ, List, [], ◌∷◌, ◌++◌, map, flat_map, refl, sym, ap, ◌∙◌, append_assoc, Bool, true, false}
-use Rattle.std.proofs.Common.{if◌then◌else◌, Option, Some, None, option_map}
+use Rattle.std.proofs.Common.{◌≡◌, ℕ, List, [], ◌∷◌, ◌++◌, map, flat_map, refl, sym, ap, ◌∙◌, append_assoc, Bool}
+use Rattle.std.proofs.Common.{true, false, if◌then◌else◌, Option, Some, None, option_map}
 use Rattle.std.specs.Prelude.{codes}
 use Rattle.std.specs.Map.{values_of}
 use Rattle.std.proofs.lemmas.List.{append-nil}
 use Rattle.sfv.specs.Values.{BareValue, RawField, RawParameters, RawItem, RawMember, item, inner_list}
 use Rattle.sfv.specs.Values.{item_values, member_values, bare_values}
 use Rattle.sfv.specs.Types.{FieldKind, item_field, list_field, dictionary_field}
-use Rattle.sfv.specs.Events.{TreeEvent, parameter, begins_inner_list, inner_list_end, parameters_events, item_events, inner_item_events}
-use Rattle.sfv.specs.Events.{member_events, entry_events, keyed_events, events}
+use Rattle.sfv.specs.Events.{TreeEvent, parameter, begins_inner_list, inner_list_end, parameters_events, item_events}
+use Rattle.sfv.specs.Events.{inner_item_events, member_events, entry_events, keyed_events, events}
 use Rattle.sfv.specs.Canonical.{parameters_text, item_text, member_text, dictionary_member_text, inner_list_text}
 use Rattle.sfv.specs.Canonical.{canonical}
 use Rattle.sfv.specs.Written.{with_separators, separator_before}
@@ -45,8 +45,8 @@ parameters_piece ps = record { text = parameters_text ps; values = values_of ps 
 pub adds_parameters : (p : ParseState) (ps : RawParameters) (es : List TreeEvent)
     → added (parameters p) (parameters_events ps ++ es) ≡ option_map (followed_by (parameters_piece ps)) (added p es)
 adds_parameters p [] es = refl
-adds_parameters p (q ∷ ps) es = adds_next (piece (parameters p) (parameter q.0 q.1)) (parameters_piece ps) (parameters_piece (q ∷ ps))
-    (added (parameters p) (parameters_events ps ++ es)) (added p es) (adds_parameters p ps es) refl
+adds_parameters p (q ∷ ps) es = adds_next (piece (parameters p) (parameter q.0 q.1)) (parameters_piece ps)
+    (parameters_piece (q ∷ ps)) (added (parameters p) (parameters_events ps ++ es)) (added p es) (adds_parameters p ps es) refl
 
 abbrev pub whole_item : Bool → RawItem → Piece
 whole_item keyed i = followed_by (item_piece keyed i.bare) (parameters_piece i.parameters)
@@ -112,9 +112,11 @@ keyed_piece (key, inner_list l) = same_piece
 
 -- a member after its separator, and the others
 one_more : (front key : List ℕ) (x y z : Piece) → followed_by (text_only key) x ≡ y
-    → followed_by (text_only (front ++ key)) (followed_by x z) ≡ piece_of (front ++ y.text ++ z.text) (y.values ++ z.values)
+    → followed_by (text_only (front ++ key)) (followed_by x z)
+    ≡ piece_of (front ++ y.text ++ z.text) (y.values ++ z.values)
 one_more front key x y z e =
-    same_piece (simp append_assoc) refl ∙ ap (λ (w : Piece). piece_of (front ++ w.text ++ z.text) (w.values ++ z.values)) e
+    same_piece (simp append_assoc) refl
+    ∙ ap (λ (w : Piece). piece_of (front ++ w.text ++ z.text) (w.values ++ z.values)) e
 
 adds_list : (is_first : Bool) (ms : List RawMember) → added (list_members is_first) (flat_map entry_events ms)
     ≡ Some (piece_of (with_separators is_first (codes ", ") (map member_text ms)) (flat_map member_values ms))
@@ -124,7 +126,8 @@ adds_list is_first (m ∷ ms) =
     let rest = piece_of (with_separators false (codes ", ") (map member_text ms)) (flat_map member_values ms) in
     ap (option_map (followed_by (text_only front))) (adds_member false (list_members false) m (flat_map entry_events ms)
     ∙ ap (option_map (followed_by (whole_member false m))) (adds_list false ms))
-    ∙ ap Some (ap (λ (t : List ℕ). followed_by (text_only t) (followed_by (whole_member false m) rest)) (sym (append-nil front))
+    ∙ ap Some (ap (λ (t : List ℕ). followed_by (text_only t) (followed_by (whole_member false m) rest))
+    (sym (append-nil front))
     ∙ one_more front [] (whole_member false m) (piece_of (member_text m) (member_values m)) rest (list_piece m))
 
 adds_dictionary : (is_first : Bool) (ms : List (List ℕ × RawMember))
@@ -147,6 +150,7 @@ pub adds_field : (kind : FieldKind) (raw : RawField kind)
     → added (beginning kind) (events kind raw) ≡ Some (piece_of (canonical kind raw) (bare_values kind raw))
 adds_field item_field i = ap (added (beginning item_field)) (sym (append-nil (item_events i)))
     ∙ (adds_item false ended i [] ∙ ap Some (same_piece (append-nil (item_text i)) (append-nil (item_values i))))
-adds_field list_field ms = adds_list true ms ∙ ap Some (same_piece (in_a_row_first (codes ", ") (map member_text ms)) refl)
+adds_field list_field ms = adds_list true ms
+    ∙ ap Some (same_piece (in_a_row_first (codes ", ") (map member_text ms)) refl)
 adds_field dictionary_field ms = adds_dictionary true ms
     ∙ ap Some (same_piece (in_a_row_first (codes ", ") (map dictionary_member_text ms)) refl)

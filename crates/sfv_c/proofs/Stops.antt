@@ -27,7 +27,8 @@ use Rattle.sfv_c.proofs.RowEvents.{reads_on, reads_one}
 pub appends_none : (o : Output) → Appends (text_only []) o o
 appends_none o = record { version = refl; state = none o.error }
   where
-    none : (e : Option SerializeError) → MatchOption e (IsAppended o.version (text_only []) o.text o.text e) (λ d. e ≡ Some d)
+    none : (e : Option SerializeError)
+        → MatchOption e (IsAppended o.version (text_only []) o.text o.text e) (λ d. e ≡ Some d)
     none None = (tt, sym (append-nil (string_bytes o.text)))
     none (Some d) = refl
 
@@ -58,18 +59,17 @@ appends_both {x} {y} {a} {b} {c} h k = record {
       h.version k.state);
 }
 
+-- what an event and those after it add, by where it leads
+abbrev adds_at : Piece → List TreeEvent → Option ParseState → Option Piece
+adds_at x es o = elim o [ None ↦ None | Some next ↦ option_map (followed_by x) (added next es) ]
+
 -- an event that may not come here, and one that may
 pub no_place : (p : ParseState) (e : TreeEvent) (es : List TreeEvent) → after p e ≡ None → added p (e ∷ es) ≡ None
-no_place p e es h = subst
-    (λ (o : Option ParseState). elim o [ None ↦ None | Some next ↦ option_map (followed_by (piece p e)) (added next es) ] ≡ None)
-    (sym h) refl
+no_place p e es h = ap (adds_at (piece p e) es) h
 
 pub a_place : (p q : ParseState) (e : TreeEvent) (es : List TreeEvent) → after p e ≡ Some q
     → added p (e ∷ es) ≡ option_map (followed_by (piece p e)) (added q es)
-a_place p q e es h = subst
-    (λ (o : Option ParseState). elim o [ None ↦ None | Some next ↦ option_map (followed_by (piece p e)) (added next es) ]
-    ≡ option_map (followed_by (piece p e)) (added q es))
-    (sym h) refl
+a_place p q e es h = ap (adds_at (piece p e) es) h
 
 -- no row, one row, and rows after rows
 pub writes_none : (rows : List Row) (p : ParseState) (at : ℕ) (o : Output) → Writes rows p p at at o o
@@ -111,11 +111,11 @@ pub stops_on : {rows : List Row} {p q : ParseState} {start mid at : ℕ} {a b c 
     → Writes rows p q start mid a b → StopsAt rows q mid at b c → StopsAt rows p start at a c
 stops_on h k = record { place = k.place; writes = writes_on h k.writes; stuck = k.stuck }
 
-pub writes_or_stops_on : {rows : List Row} {p q : ParseState} {start mid : ℕ} {a b : Output} (r : ParseState) (c : Output)
+pub answers_on : {rows : List Row} {p q : ParseState} {start mid : ℕ} {a b : Output} (r : ParseState) (c : Output)
     (result : Result ℕ WrongRow) → Writes rows p q start mid a b → WritesOrStops rows q r mid b c result
     → WritesOrStops rows p r start a c result
-writes_or_stops_on r c (Ok at) h k = writes_on h k
-writes_or_stops_on r c (Err wrong) h k = stops_on h k
+answers_on r c (Ok at) h k = writes_on h k
+answers_on r c (Err wrong) h k = stops_on h k
 
 pub stops_at : {rows : List Row} {p q : ParseState} {start at : ℕ} {a b : Output}
     → Writes rows p q start at a b → IsStuck q (drop at rows) → StopsAt rows p start at a b

@@ -10,7 +10,8 @@ use crate::row_event::{is_plain, keyed_entry_in, parameter_in, value_in};
 use crate::rows::{ENTRY, INNER_LIST, INNER_LIST_END, ITEM, PARAMETERS_END, Row};
 use sfv::FieldKind;
 
-// Each function reads rows from an index on, appends their text, and returns the index after them.
+// Each function reads rows from an index on, appends their text, and returns the index after them. It reads on after an
+// error of the output, since a wrong row is reported first.
 
 /// The index of the first wrong row, or the number of rows if more must follow.
 #[derive(Clone, Copy, Drop)]

@@ -19,6 +19,7 @@ fn put_rows(
 ) -> Result<Written, CallFault>
     ensures { IsWriteOutcome writing kind rows.now out.old out.new result }
 {
+    // At first 8 bytes for each row, but no more than `out` has.
     let capacity = out.len().min(rows.len().saturating_mul(8));
     let mut output = Output::new(alloc, writing, capacity);
     if let Err(wrong) = field(kind, rows, &mut output) {

@@ -2,15 +2,15 @@ use Rattle.std.proofs.Common.{false, arith, refl}
 use Rattle.sfv.specs.Events.{begins_item, inner_list_end}
 use Rattle.sfv_writer.proofs.Checks.{at_exit}
 use Rattle.sfv_c.specs.RowEvents.{ended, items}
-use Rattle.sfv_c.proofs.Stops.{writes_none, writes_row, writes_on, writes_or_stops_on, stops_at, stops_on, stuck_at, stuck_end, fails}
-use Rattle.sfv_c.proofs.Stops.{not_item}
+use Rattle.sfv_c.proofs.Stops.{writes_none, writes_row, writes_on, answers_on, stops_at, stops_on, stuck_at, stuck_end}
+use Rattle.sfv_c.proofs.Stops.{fails, not_item}
 use Rattle.sfv_c.proofs.rows_to_text.items.Goals as goal
 
 pub loop-row-init : goal.loop-row-init
 loop-row-init c p = writes_none _ _ _ _
 
 pub returns-then-is_plain : goal.returns-then-is_plain
-returns-then-is_plain c p = writes_or_stops_on p c.parameters.new.output c.parameters.result (writes_on (c.loop-row.invariant p)
+returns-then-is_plain c p = answers_on p c.parameters.new.output c.parameters.result (writes_on (c.loop-row.invariant p)
     (writes_row inner_list_end c.in-Some.ensures.1 tt (c.if-is_plain.ensures.0 refl) refl c.append_text.ensures))
     (c.parameters.ensures p)
 
