@@ -1,68 +1,157 @@
--- Fields, their events and their rows.
-use Rattle.std.proofs.Common.{◌≡◌, ℕ, ◌<◌, List, [], ◌∷◌, ◌++◌, length, map, flat_map, refl, sym, subst, arith, Option}
-use Rattle.std.proofs.Common.{Result, Ok, Err}
-use Rattle.std.specs.Result.{IsErrAnd}
-use Rattle.std.proofs.lemmas.List.{length-append}
-use Rattle.std.specs.declared.alloc.Global.{Global}
-use Rattle.std.specs.declared.string.String as std_string
-use Rattle.sfv.specs.Values.{RawField, RawItem, RawMember, item, inner_list, bare_values}
-use Rattle.sfv.specs.Types.{FieldKind, item_field, list_field, dictionary_field, Version, MemberCalls, SerializeError}
-use Rattle.sfv.specs.Scripts.{member_of_calls, entry_of_calls}
-use Rattle.sfv.specs.Events.{TreeEvent, parameter, parameters_end, member_events, entry_events, keyed_events, events}
-use Rattle.sfv.specs.KeyText.{KeyRef}
+-- Rows that are read to their end, and their text.
+use Rattle.std.proofs.Common.{◌≡◌, ℕ, ◌<◌, List, [], ◌∷◌, ◌++◌, length, map, take, drop, refl, sym, ◌∙◌, ap, subst}
+use Rattle.std.proofs.Common.{arith, true, if◌then◌else◌, Option, Some, None, option_map, inl, inr, MatchOption}
+use Rattle.std.specs.Prelude.{string_bytes}
+use Rattle.std.proofs.lemmas.List.{append-nil, length-append, take-append-drop}
+use Rattle.sfv.specs.Values.{RawField, item, inner_list, HasMember, Fits, AllFit, bare_values}
+use Rattle.sfv.specs.Types.{FieldKind, item_field, list_field, dictionary_field, Version, SerializeError}
 use Rattle.sfv.specs.Types.serialize_errors as errors
-use Rattle.sfv.specs.Versions.{IsSerializeError}
+use Rattle.sfv.specs.Events.{TreeEvent, parameter, parameters_end, events}
+use Rattle.sfv.specs.Canonical.{canonical}
+use Rattle.sfv.specs.Ordered.{ordered}
+use Rattle.sfv.specs.Statements.{IsParsedAs}
+use Rattle.sfv.specs.Versions.{NamesFirstUnfit}
+use Rattle.sfv_writer.proofs.ReadBack.{read_back}
 use Rattle.sfv_c.specs.declared.rows.Row.{Row}
+use Rattle.sfv_c.specs.declared.output.Output.{Output}
 use Rattle.sfv_c.specs.declared.answer.Written.{Written}
-use Rattle.sfv_c.specs.declared.answer.CallFault.{CallFault}
+use Rattle.sfv_c.specs.declared.answer.Written.TheVariants as written
 use Rattle.sfv_c.specs.declared.answer.CallFault.TheVariants as faults
-use Rattle.sfv_c.specs.Writing.{AreRowsOfField, IsWriteFault, IsWriteOutcome}
-use Rattle.sfv_c.specs.RowEvents.{Reads, IsTextMade}
+use Rattle.sfv_c.specs.Answers.{Puts}
+use Rattle.sfv_c.specs.Writing.{AreRowsOfField, BeginRowsOfField, IsWriteFault, PutsRows}
+use Rattle.sfv_c.specs.RowEvents.{ParseState, Piece, text_only, followed_by, added, beginning, may_end, Reads}
+use Rattle.sfv_c.specs.RowEvents.{WritesAll, IsErrorOf, IsAppended, Appends}
+use Rattle.sfv_c.proofs.Accepted.{field_of_events}
+use Rattle.sfv_c.proofs.Places.{adds_field, same_piece, piece_of}
 use Rattle.sfv_c.proofs.Valid.{valid_field}
-use Rattle.sfv_c.proofs.RowEvents.{reads_valid, reads_rows}
-use Rattle.sfv_c.proofs.Memory.{field_after_two}
+use Rattle.sfv_c.proofs.RowEvents.{reads_valid, reads_rows, rows_first, rows_length}
 
-pub field_of : (kind : FieldKind) (rows : List Row) (raw : RawField kind)
-    → Reads rows (events kind raw) [] → AreRowsOfField kind rows raw
-field_of kind rows raw h = record {
-  value = valid_field kind raw (reads_valid rows (events kind raw) [] h);
-  in_rows = reads_rows rows (events kind raw) h;
+end_here : (p : ParseState) → may_end p ≡ true → added p [] ≡ Some (text_only [])
+end_here p e = subst (λ b. (if b then Some (text_only []) else None) ≡ Some (text_only [])) (sym e) refl
+
+-- what was read are the rows of a field, and its text and values were added
+pub record IsField (kind : FieldKind) (rows : List Row) (x : Piece) : Type 0 where
+  pub raw : RawField kind
+  pub rows_of : AreRowsOfField kind rows raw
+  pub text : x.text ≡ canonical kind raw
+  pub values : x.values ≡ bare_values kind raw
+
+some_piece : (a b : Piece) → Some a ≡ Some b → a ≡ b
+some_piece a b h = cc
+
+field_read : (kind : FieldKind) (rows : List Row) (before now : Output) (h : WritesAll rows (beginning kind) before now)
+    → IsField kind rows h.writes.piece
+field_read kind rows before now h =
+    let es = h.writes.es in
+    let x = h.writes.piece in
+    let read : Reads rows es [] = subst (λ (rest : List Row). Reads rows es rest) h.over h.writes.read in
+    let ends : added (beginning kind) es ≡ Some x =
+    ap (added (beginning kind)) (sym (append-nil es)) ∙ (h.writes.leads []
+    ∙ (ap (option_map (followed_by x)) (end_here h.place h.ends)
+    ∙ ap Some (same_piece (append-nil x.text) (append-nil x.values)))) in
+    let f = field_of_events kind es (x, ends) in
+    let same = some_piece x (piece_of (canonical kind f.0) (bare_values kind f.0))
+    (sym ends ∙ (ap (added (beginning kind)) f.1 ∙ adds_field kind f.0)) in
+    let all : Reads rows (events kind f.0) [] = subst (λ (es : List TreeEvent). Reads rows es []) f.1 read in
+    record {
+      raw = f.0;
+      rows_of = record {
+        value = valid_field kind f.0 (reads_valid rows (events kind f.0) [] all);
+        in_rows = reads_rows rows (events kind f.0) all;
+      };
+      text = ap (λ (x : Piece). x.text) same;
+      values = ap (λ (x : Piece). x.values) same;
+    }
+
+-- a field with an event has two, and a member
+two_events : (kind : FieldKind) (raw : RawField kind) → 0 < length (events kind raw)
+    → (1 < length (events kind raw)) × HasMember kind raw
+two_events item_field i h =
+    (omega (arith, length-append (map (λ p. parameter p.0 p.1) i.parameters) (parameters_end ∷ [])), tt)
+two_events list_field [] h = absurd (omega (arith, h))
+two_events list_field (item i ∷ ms) h = (omega arith, (item i, ms, refl))
+two_events list_field (inner_list l ∷ ms) h = (omega arith, (inner_list l, ms, refl))
+two_events dictionary_field [] h = absurd (omega (arith, h))
+two_events dictionary_field ((key, item i) ∷ ms) h = (omega arith, ((key, item i), ms, refl))
+two_events dictionary_field ((key, inner_list l) ∷ ms) h = (omega arith, ((key, inner_list l), ms, refl))
+
+-- one without events has no member and no value
+nothing : (version : Version) (kind : FieldKind) (raw : RawField kind) → length (events kind raw) ≡ 0
+    → Fits version kind raw × (¬ HasMember kind raw)
+nothing version item_field i h = absurd (omega (arith, h))
+nothing version list_field [] h = (tt, λ m. let e = m.2 in cc)
+nothing version list_field (m ∷ ms) h = absurd (omega (arith, h))
+nothing version dictionary_field [] h = (tt, λ m. let e = m.2 in cc)
+nothing version dictionary_field (m ∷ ms) h = absurd (omega (arith, h))
+
+-- the first events of a field are those of a prefix
+after_two : (kind : FieldKind) (rows : List Row) (raw : RawField kind) → AreRowsOfField kind rows raw → 0 < length rows
+    → (1 < length rows) × BeginRowsOfField kind (take 2 rows)
+after_two kind rows raw h some =
+    let es = events kind raw in
+    let count : length rows ≡ length es = rows_length rows es h.in_rows in (
+      omega (arith, count, (two_events kind raw (omega (arith, some, count))).0),
+      record {
+        es = take 2 es;
+        in_rows = rows_first 2 rows es h.in_rows;
+        begins = record { raw = raw; is_value = h.value; more = drop 2 es; all = sym (take-append-drop 2 es) };
+      },
+    )
+
+fault : (version : Version) (kind : FieldKind) (rows : List Row) (x : Piece) → IsField kind rows x → 0 < length rows
+    → (e : SerializeError) → IsErrorOf version x.values e → IsWriteFault version kind rows (faults.Write e)
+fault version kind rows x f some errors.OutOfMemory h = after_two kind rows f.raw f.rows_of some
+fault version kind rows x f some (errors.Unsupported unfit) (inl h) = absurd (cc)
+fault version kind rows x f some (errors.Unsupported unfit) (inr h) = record {
+  raw = f.raw;
+  rows_of = f.rows_of;
+  error = inr (subst (λ values. NamesFirstUnfit version values (errors.Unsupported unfit)) f.values h);
 }
 
-pub outcome_err : (version : Version) (kind : FieldKind) (rows : List Row) (old : List ℕ) (r : Result Written CallFault)
-    (f : CallFault) → IsErrAnd r (λ x. x ≡ f) → IsWriteFault version kind rows f
-    → IsWriteOutcome version kind rows old old r
-outcome_err version kind rows old (Ok w) f h q = absurd h
-outcome_err version kind rows old (Err x) f h q = (subst (IsWriteFault version kind rows) (sym h) q, refl)
+-- what is appended to an output without error
+appended : (version : Version) (x : Piece) (before now : Output) → Appends x before now → before.version ≡ version
+    → before.error ≡ None → (error : Option SerializeError) → now.error ≡ error
+    → IsAppended version x before.text now.text error
+appended version x before now h v none error e =
+    let k = subst (λ o. MatchOption o (IsAppended before.version x before.text now.text now.error)
+    (λ d. now.error ≡ Some d)) none h.state in
+    let l = subst (λ w. IsAppended w x before.text now.text now.error) v k in
+    subst (λ o. IsAppended version x before.text now.text o) e l
 
--- an error of a script
-pub text_err : (version : Version) (kind : FieldKind) (rows : List Row)
-    (r : Result (Option (std_string.String Global)) CallFault) (e : SerializeError) → IsErrAnd r (λ x. x ≡ faults.Write e)
-    → IsWriteFault version kind rows (faults.Write e) → IsTextMade version kind rows r
-text_err version kind rows (Ok t) e h q = absurd h
-text_err version kind rows (Err x) e h q = subst (IsWriteFault version kind rows) (sym h) q
+-- nothing is written
+pub no_rows : (version : Version) (kind : FieldKind) (rows : List Row) (before now : Output) (out : List ℕ)
+    → WritesAll rows (beginning kind) before now → length rows ≡ 0 → PutsRows version kind rows out out written.Nothing
+no_rows version kind rows before now out all empty =
+    let f = field_read kind rows before now all in
+    let none = nothing version kind f.raw (sym (rows_length rows (events kind f.raw) f.rows_of.in_rows) ∙ empty) in
+    record { raw = f.raw; rows_of = f.rows_of; fits = none.0; text = None; written = none.1; put = (refl, refl) }
 
-pub script_fault : (version : Version) (kind : FieldKind) (rows : List Row) (raw : RawField kind)
-    → AreRowsOfField kind rows raw → 1 < length (events kind raw) → (e : SerializeError)
-    → IsSerializeError version (bare_values kind raw) e → IsWriteFault version kind rows (faults.Write e)
-script_fault version kind rows raw h some errors.OutOfMemory s = field_after_two kind rows raw h some
-script_fault version kind rows raw h some (errors.Unsupported unfit) s =
-    record { raw = raw; rows_of = h; error = s }
+module _ (version : Version) (kind : FieldKind) (rows : List Row) (before now : Output)
+    (v : before.version ≡ version) (none : before.error ≡ None) (all : WritesAll rows (beginning kind) before now) where
+  pub write_fault : 0 < length rows → (e : SerializeError) → now.error ≡ Some e
+      → IsWriteFault version kind rows (faults.Write e)
+  write_fault some e h = fault version kind rows all.writes.piece (field_read kind rows before now all) some e
+      (appended version all.writes.piece before now all.writes.appends v none (Some e) h)
 
-pub some_item : (i : RawItem) → 1 < length (events item_field i)
-some_item i = omega (arith, length-append (map (λ p. parameter p.0 p.1) i.parameters) (parameters_end ∷ []))
-
-some_member : (m : RawMember) (es : List TreeEvent) → 0 < length (member_events m ++ es)
-some_member (item i) es = omega arith
-some_member (inner_list l) es = omega arith
-
-pub some_list : (ms : List MemberCalls) → 0 < length ms → 1 < length (events list_field (map member_of_calls ms))
-some_list [] h = absurd (omega (arith, h))
-some_list (m ∷ ms) h =
-    omega (arith, some_member (member_of_calls m) (flat_map entry_events (map member_of_calls ms)))
-
-pub some_dictionary : (ms : List (KeyRef × MemberCalls)) → 0 < length ms
-    → 1 < length (events dictionary_field (map entry_of_calls ms))
-some_dictionary [] h = absurd (omega (arith, h))
-some_dictionary (m ∷ ms) h =
-    omega (arith, some_member (member_of_calls m.1) (flat_map keyed_events (map entry_of_calls ms)))
+  pub text_put : 0 < length rows → string_bytes before.text ≡ [] → now.error ≡ None → (old new : List ℕ) (w : Written)
+      → Puts (string_bytes now.text) old new w → PutsRows version kind rows old new w
+  text_put some empty h old new w put =
+      let f = field_read kind rows before now all in
+      let k = appended version all.writes.piece before now all.writes.appends v none None h in
+      let fits : Fits version kind f.raw = subst (AllFit version) f.values k.0 in
+      let text : string_bytes now.text ≡ canonical kind f.raw =
+      k.1 ∙ (ap (λ t. t ++ all.writes.piece.text) empty ∙ f.text) in
+      let count : length rows ≡ length (events kind f.raw) = rows_length rows (events kind f.raw) f.rows_of.in_rows in
+      record {
+        raw = f.raw;
+        rows_of = f.rows_of;
+        fits = fits;
+        text = Some (string_bytes now.text);
+        written = (
+          (two_events kind f.raw (omega (arith, some, count))).1,
+          text,
+          subst (λ t. IsParsedAs version kind t (ordered kind f.raw)) (sym text)
+              (read_back version kind f.raw f.rows_of.value fits),
+        );
+        put = put;
+      }

@@ -7,7 +7,6 @@ pub mod Valid
 pub mod Accepted
 pub mod RowEvents
 pub mod WrongRows
-pub mod Memory
 pub mod Fields
 pub mod Runs
 pub mod Blank

@@ -1,5 +1,5 @@
 -- Rows and the events that they are.
-use Rattle.std.proofs.Common.{◌≡◌, ℕ, zero, suc, ◌+◌, ◌<◌, ◌≤◌, List, [], ◌∷◌, ◌++◌, length, take, refl, sym, ◌∙◌, ap}
+use Rattle.std.proofs.Common.{◌≡◌, ℕ, zero, suc, ◌+◌, List, [], ◌∷◌, ◌++◌, length, take, refl, sym, ◌∙◌, ap}
 use Rattle.std.proofs.Common.{subst, arith}
 use Rattle.sfv.specs.Events.{TreeEvent}
 use Rattle.sfv_c.specs.declared.rows.Row.{Row}
@@ -29,10 +29,6 @@ pub reads_length : (rows : List Row) (es : List TreeEvent) (rest : List Row) →
 reads_length rows [] rest h = omega (arith, ap length h)
 reads_length [] (e ∷ es) rest h = absurd h
 reads_length (r ∷ rs) (e ∷ es) rest h = omega (arith, reads_length rs es rest h.2)
-
-pub reads_shrinks : (rows : List Row) (row : Row) (rest : List Row) (es : List TreeEvent) (left : List Row)
-    → rows ≡ row ∷ rest → Reads rest es left → length left < length rows
-reads_shrinks rows row rest es left is h = omega (arith, ap length is, reads_length rest es left h)
 
 pub reads_valid : (rows : List Row) (es : List TreeEvent) (rest : List Row) → Reads rows es rest → AreValid es
 reads_valid rows [] rest h = tt
@@ -73,13 +69,6 @@ read_alike (r ∷ rs) (e ∷ es) rest (o ∷ os) d v h =
     (i.0, cc, i.2, i.3)
 
 -- the first rows are those of the first events
-pub reads_first : (rows : List Row) (es : List TreeEvent) (rest : List Row) (n : ℕ) → n ≤ length es
-    → Reads rows es rest → AreRowsOf (take n rows) (take n es)
-reads_first rows es rest zero l h = tt
-reads_first rows [] rest (suc n) l h = absurd (omega (arith, l))
-reads_first [] (e ∷ es) rest (suc n) l h = absurd h
-reads_first (r ∷ rs) (e ∷ es) rest (suc n) l h = (h.1, reads_first rs es rest n (omega (arith, l)) h.2)
-
 pub rows_first : (n : ℕ) (rows : List Row) (es : List TreeEvent) → AreRowsOf rows es
     → AreRowsOf (take n rows) (take n es)
 rows_first zero rows es h = tt

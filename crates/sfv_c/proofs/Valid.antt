@@ -1,5 +1,5 @@
--- Fields and their events: they are valid together, and a field's events are read to their end.
-use Rattle.std.proofs.Common.{◌≡◌, ℕ, List, [], ◌∷◌, ◌++◌, flat_map, sym, ◌∙◌, ap, subst, append_assoc, None}
+-- Fields and their events: they are valid together.
+use Rattle.std.proofs.Common.{ℕ, List, [], ◌∷◌, ◌++◌, flat_map, sym, subst, append_assoc}
 use Rattle.std.specs.List.{AllByRecursion}
 use Rattle.std.proofs.lemmas.List.{append-nil}
 use Rattle.sfv.specs.Values.{RawParameters, RawItem, RawMember, RawField, item, inner_list, AreParameters, IsItem}
@@ -7,8 +7,7 @@ use Rattle.sfv.specs.Values.{IsMember, IsFieldValue}
 use Rattle.sfv.specs.Types.{FieldKind, item_field, list_field, dictionary_field}
 use Rattle.sfv.specs.Events.{TreeEvent, inner_list_end, parameters_events, item_events, inner_item_events}
 use Rattle.sfv.specs.Events.{member_events, entry_events, keyed_events, events}
-use Rattle.sfv_c.specs.RowEvents.{IsValidEvent, stops, beginning, value, ended, list_members, dictionary_members}
-use Rattle.sfv_c.proofs.Places.{stops_item, stops_list, stops_dictionary}
+use Rattle.sfv_c.specs.RowEvents.{IsValidEvent}
 
 -- each has a key and a value of their classes, where it has one
 abbrev pub AreValid : List TreeEvent → Type 0
@@ -95,14 +94,6 @@ pub field_valid : (kind : FieldKind) (raw : RawField kind) → IsFieldValue kind
 field_valid item_field i v = subst AreValid (append-nil (item_events i)) (in_item i [] v tt)
 field_valid list_field ms v = in_list ms v
 field_valid dictionary_field ms v = in_dictionary ms v
-
--- a field's events are read to their end
-pub field_read : (kind : FieldKind) (raw : RawField kind) → stops (beginning kind) (events kind raw) ≡ None
-field_read item_field i = ap (stops (value ended)) (sym (append-nil (item_events i))) ∙ stops_item ended i []
-field_read list_field ms =
-    ap (stops list_members) (sym (append-nil (flat_map entry_events ms))) ∙ stops_list ms []
-field_read dictionary_field ms =
-    ap (stops dictionary_members) (sym (append-nil (flat_map keyed_events ms))) ∙ stops_dictionary ms []
 
 pub valid_together : (es others : List TreeEvent) → AreValid es → AreValid others → AreValid (es ++ others)
 valid_together [] others v w = w

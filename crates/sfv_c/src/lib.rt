@@ -15,10 +15,11 @@ mod check;
 mod events;
 mod message;
 mod numbers;
+mod output;
 mod reading;
 mod row_event;
 mod rows;
-mod rows_to_calls;
+mod rows_to_text;
 mod write;
 
 use crate::answer::{Answer, BAD_ARGUMENT};
