@@ -218,9 +218,8 @@ SFV_INLINE sfv_answer sfv_check(sfv_type type, sfv_version version, const void *
  *
  * Returns SFV_OK with the number of rows and the used length of `room`. Returns SFV_TOO_SMALL with the needed sizes;
  * SFV_ROWS_FOR(input_length) rows and `input_length` bytes suffice. Otherwise returns SFV_REJECTED, SFV_OUT_OF_MEMORY
- * or SFV_BAD_ARGUMENT. Unless the status is SFV_OK, `rows` is unchanged, and `room` can contain anything. Allocates
- * nothing for spaces alone, otherwise up to 960 bytes, or 144 per row, and 3 bytes per byte of the longest decoded
- * value. */
+ * or SFV_BAD_ARGUMENT. Unless the status is SFV_OK, `rows` and `room` can contain anything. Allocates only if the input
+ * contains a backslash, a percent sign or a colon: up to 3 bytes per byte of the longest decoded value. */
 SFV_INLINE sfv_answer sfv_parse(sfv_type type, sfv_version version, const void *input, size_t input_length, sfv_row *rows,
                                 size_t rows_length, void *room, size_t room_length) {
     static uint8_t no_room;
@@ -312,7 +311,7 @@ SFV_INLINE sfv_row sfv_parameter_row(const char *key, sfv_row value) {
  * of the first row that no field of this type has there; if a row is missing, the index is `rows_length`. Returns
  * SFV_UNSUPPORTED, only for SFV_RFC8941, with the kind of the first value that it lacks. Returns SFV_BAD_ARGUMENT for a
  * row with a NULL pointer, with its index. Returns SFV_OUT_OF_MEMORY, only if the first two rows begin a field. Unless
- * the status is SFV_OK, `out` is unchanged. Allocates up to 120 bytes per row and 3 per byte of text. */
+ * the status is SFV_OK, `out` is unchanged. Allocates up to 8 bytes per row and 3 per byte of text. */
 SFV_INLINE sfv_answer sfv_write(sfv_type type, sfv_version version, const sfv_row *rows, size_t rows_length, void *out,
                                 size_t out_length) {
     uint8_t nothing = 0;

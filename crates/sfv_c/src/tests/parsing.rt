@@ -94,7 +94,7 @@ fn rows_hold_the_parts(rt: HostRuntime) {
     assert!(rt; holds);
 }
 
-/// Returns `true` if each call rejects the input with this error, and leaves the rows.
+/// Returns `true` if each call rejects the input with this error.
 fn is_rejected(
     alloc: Global,
     (field, version, input): (u32, u32, &[u8]),
@@ -106,7 +106,7 @@ fn is_rejected(
         let mut room = Vec::from_elem(alloc, 0u8, size)?;
         let mut rows = Vec::from_elem(alloc, GUARD, size)?;
         let answer = sfv_c_spans(alloc, field, version, input, &mut rows, &mut room);
-        holds &= is_error(answer, 3, kind, index) && are_untouched(&rows);
+        holds &= is_error(answer, 3, kind, index);
     }
     Ok(holds)
 }
@@ -156,7 +156,6 @@ fn are_sizes_exact(
             let fits = rows_len >= count && room_len >= used;
             holds &= is_size(answer, if fits { 0 } else { 2 }, used, count);
             holds &= are_untouched(rows.get(count..).unwrap_or(&[]));
-            holds &= fits || are_untouched(&rows);
         }
     }
     Ok(holds)
