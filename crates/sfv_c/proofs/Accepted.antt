@@ -36,10 +36,7 @@ none_left : (p : ParseState) → MayEnd p [] → IsRest p []
 none_left ended h = refl
 none_left (list_members f) h = ([], refl)
 none_left (dictionary_members f) h = ([], refl)
-none_left (member f p) h = let e = h.1 in absurd (cc)
-none_left (value f p) h = let e = h.1 in absurd (cc)
-none_left (parameters p) h = let e = h.1 in absurd (cc)
-none_left (items f p) h = let e = h.1 in absurd (cc)
+none_left p h = let e = h.1 in absurd (cc)
 
 regroup : (a b c d : List TreeEvent) → a ++ ((b ++ c) ++ d) ≡ ((a ++ b) ++ c) ++ d
 regroup a b c d = simp append_assoc

@@ -2,6 +2,7 @@
 use Rattle.std.proofs.Common.{◌≡◌, ℕ, ◌<◌, List, [], ◌∷◌, ◌++◌, length, map, take, drop, refl, sym, ◌∙◌, ap, subst}
 use Rattle.std.proofs.Common.{arith, true, if◌then◌else◌, Option, Some, None, option_map, inl, inr, MatchOption}
 use Rattle.std.specs.Prelude.{string_bytes}
+use Rattle.std.proofs.lemmas.Option.{same_Some}
 use Rattle.std.proofs.lemmas.List.{append-nil, length-append, take-append-drop}
 use Rattle.sfv.specs.Values.{RawField, item, inner_list, HasMember, Fits, AllFit, bare_values}
 use Rattle.sfv.specs.Types.{FieldKind, item_field, list_field, dictionary_field, Version, SerializeError}
@@ -36,9 +37,6 @@ pub record IsField (kind : FieldKind) (rows : List Row) (x : Piece) : Type 0 whe
   pub text : x.text ≡ canonical kind raw
   pub values : x.values ≡ bare_values kind raw
 
-some_piece : (a b : Piece) → Some a ≡ Some b → a ≡ b
-some_piece a b h = cc
-
 field_read : (kind : FieldKind) (rows : List Row) (before now : Output) (h : WritesAll rows (beginning kind) before now)
     → IsField kind rows h.writes.piece
 field_read kind rows before now h =
@@ -50,7 +48,7 @@ field_read kind rows before now h =
     ∙ (ap (option_map (followed_by x)) (end_here h.place h.ends)
     ∙ ap Some (same_piece (append-nil x.text) (append-nil x.values)))) in
     let f = field_of_events kind es (x, ends) in
-    let same = some_piece x (piece_of (canonical kind f.0) (bare_values kind f.0))
+    let same = same_Some x (piece_of (canonical kind f.0) (bare_values kind f.0))
     (sym ends ∙ (ap (added (beginning kind)) f.1 ∙ adds_field kind f.0)) in
     let all : Reads rows (events kind f.0) [] = subst (λ (es : List TreeEvent). Reads rows es []) f.1 read in
     record {

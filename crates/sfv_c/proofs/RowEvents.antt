@@ -5,7 +5,7 @@ use Rattle.sfv.specs.Events.{TreeEvent}
 use Rattle.sfv_c.specs.declared.rows.Row.{Row}
 use Rattle.sfv_c.specs.Rows.{IsRowOf}
 use Rattle.sfv_c.specs.Writing.{AreRowsOf}
-use Rattle.sfv_c.specs.RowEvents.{IsValidEvent, Reads}
+use Rattle.sfv_c.specs.RowEvents.{Reads}
 use Rattle.sfv_c.proofs.Unique.{same_event}
 use Rattle.sfv_c.proofs.Valid.{AreValid}
 
@@ -19,10 +19,6 @@ pub reads_on : (rows : List Row) (es : List TreeEvent) (mid : List Row) (more : 
 reads_on rows [] mid more rest h k = subst (λ (r : List Row). Reads r more rest) (sym h) k
 reads_on [] (e ∷ es) mid more rest h k = absurd h
 reads_on (r ∷ rs) (e ∷ es) mid more rest h k = (h.0, h.1, reads_on rs es mid more rest h.2 k)
-
-pub reads_one : (rows : List Row) (row : Row) (rest : List Row) (e : TreeEvent) → rows ≡ row ∷ rest → IsValidEvent e
-    → IsRowOf row e → Reads rows (e ∷ []) rest
-reads_one rows row rest e is v h = subst (λ (r : List Row). Reads r (e ∷ []) rest) (sym is) (v, h, refl)
 
 pub reads_length : (rows : List Row) (es : List TreeEvent) (rest : List Row) → Reads rows es rest
     → length rows ≡ length es + length rest

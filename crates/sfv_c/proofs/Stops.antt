@@ -17,11 +17,11 @@ use Rattle.sfv_c.specs.declared.rows.Row.{Row}
 use Rattle.sfv_c.specs.declared.output.Output.{Output}
 use Rattle.sfv_c.specs.declared.rows_to_text.WrongRow.{WrongRow}
 use Rattle.sfv_c.specs.RowEvents.{ParseState, ended, list_members, dictionary_members, member, value, parameters, items}
-use Rattle.sfv_c.specs.RowEvents.{IsValidEvent, added, after, may_end, piece, Piece, text_only, followed_by, IsStuck}
-use Rattle.sfv_c.specs.RowEvents.{IsErrorOf, IsAppended, Appends, Writes, StopsAt, WritesOrStops}
+use Rattle.sfv_c.specs.RowEvents.{IsValidEvent, added, after, may_end, piece, Piece, text_only, followed_by, Reads}
+use Rattle.sfv_c.specs.RowEvents.{IsStuck, IsErrorOf, IsAppended, Appends, Writes, StopsAt, WritesOrStops}
 use Rattle.sfv_c.specs.Rows.{IsRowOf}
 use Rattle.sfv_c.proofs.Places.{adds_nothing, adds_both}
-use Rattle.sfv_c.proofs.RowEvents.{reads_on, reads_one}
+use Rattle.sfv_c.proofs.RowEvents.{reads_on}
 
 -- nothing is appended
 pub appends_none : (o : Output) → Appends (text_only []) o o
@@ -87,7 +87,7 @@ pub writes_row : {rows : List Row} {p q : ParseState} {at : ℕ} {row : Row} {be
     → Appends (piece p e) before now → Writes rows p q at (at + 1) before now
 writes_row {rows} {p} {q} {at} {row} e is v i a x = record {
   es = e ∷ [];
-  read = reads_one (drop at rows) row (drop (at + 1) rows) e is v i;
+  read = subst (λ (r : List Row). Reads r (e ∷ []) (drop (at + 1) rows)) (sym is) (v, i, refl);
   count = omega arith;
   piece = piece p e;
   leads = λ more. a_place p q e more a;

@@ -71,7 +71,7 @@ pub record HoldsUnfit (version : Version) (kind : FieldKind) (rows : List Row) (
   pub rows_of : AreRowsOfField kind rows raw
   pub error : IsSerializeError version (bare_values kind raw) (errors.Unsupported unfit)
 
--- The reason why rows are not written. Writing allocates only if the first two rows begin a field. Rows are invalid
+-- The reason why rows are not written. Memory runs out only if the first two rows begin a field. Rows are invalid
 -- only if no field has them; the index is then the first wrong row, or their number.
 abbrev pub IsWriteFault : Version → FieldKind → List Row → CallFault → Type 0
 IsWriteFault version kind rows (faults.Read e) = ⊥
