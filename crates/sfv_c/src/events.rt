@@ -52,10 +52,11 @@ fn make_room(rows: &mut Vec<Row<'_>>, expected: usize) -> Result<(), OutOfMemory
 
 /// Rows, the free part of the room for decoded texts, the length of all decoded texts so far, and the number of rows
 /// for which the first row requests memory.
+// An error of the visitor comes in the place of `room` rather than of `rows`, and then takes fewer instructions.
 #[derive(Drop)]
 struct Collector<'a> {
-    rows: Vec<Row<'a>>,
     room: &'a mut [u8],
+    rows: Vec<Row<'a>>,
     used: usize,
     expected: usize,
 }
