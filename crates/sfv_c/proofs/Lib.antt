@@ -10,4 +10,4 @@ pub mod WrongRows
 pub mod Memory
 pub mod Fields
 pub mod Runs
-pub mod Blank
+pub mod Receivers
