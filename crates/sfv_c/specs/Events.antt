@@ -1,6 +1,6 @@
 -- Events in rows that point to their texts.
 use Rattle.std.specs.Prelude.{◌≡◌, ℕ, ◌+◌, ◌-◌, ◌^◌, ◌≤◌, min, List, length, map, drop, ◌++◌, Result, Ok, Err}
-use Rattle.std.specs.Prelude.{nat_lt, nat_le, slice_set, ◌&&◌, if◌then◌else◌}
+use Rattle.std.specs.Prelude.{nat_lt, slice_set, if◌then◌else◌}
 use Rattle.std.specs.List.{AllZip, sum_by}
 use Rattle.std.specs.Borrow.{MutBor}
 use Rattle.std.specs.Cow.{cow_str_bytes}
@@ -76,16 +76,13 @@ abbrev pub AreRows : Version → FieldKind → List ℕ → ℕ → List Row →
 AreRows version kind input room rows used =
     HasField version kind input (λ raw. AreCollected version (events kind raw) input room rows used)
 
--- the result of writing so many rows with so many bytes of room to buffers of these lengths
-abbrev pub sizes_answer : ℕ → ℕ → ℕ → ℕ → Answer
-sizes_answer rows bytes most_rows most_bytes =
-    answer (if nat_le rows most_rows && nat_le bytes most_bytes then 0 else 2) 0 0 bytes rows
-
 -- The buffer and the result. If the rows and their texts fit, the rows are written, and the rest of the buffer is
 -- unchanged. Otherwise the result has the required numbers, each at most the largest 64-bit number.
 pub record AreWritten (rows : List Row) (used : ℕ) (old : List Row) (room : ℕ) (after : List Row × Answer) : Type 0 where
-  pub written : length rows ≤ length old → used ≤ room → after.0 ≡ rows ++ drop (length rows) old
-  pub sizes : after.1 ≡ sizes_answer (counted (length rows)) used (length old) room
+  pub fit : (length rows ≤ length old) × (used ≤ room)
+      → after ≡ (rows ++ drop (length rows) old, answer 0 0 0 used (length rows))
+  pub too_small : ¬ ((length rows ≤ length old) × (used ≤ room))
+      → after.1 ≡ answer 2 0 0 used (counted (length rows))
 
 -- the buffer unchanged, and the result for an argument without a meaning
 abbrev pub left_alone : List Row → List Row × Answer

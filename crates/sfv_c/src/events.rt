@@ -4,7 +4,8 @@ ghost use Rattle.std.specs.Prelude.{◌≡◌, ◌≤◌, ◌<◌, ◌^◌, ◌+
 ghost use Rattle.sfv.specs.BareItems.{input_value};
 ghost use Rattle.sfv.specs.Parsers.{input_of, version_of};
 ghost use Rattle.sfv_c.specs.Rows.{row_parts, value_numbers};
-ghost use Rattle.sfv_c.specs.Events.{counted, put_row, room_of_read, IsRowKept, TakesRow, PutsEvents, sizes_answer};
+ghost use Rattle.sfv_c.specs.Events.{counted, put_row, room_of_read, IsRowKept, TakesRow, PutsEvents};
+ghost use Rattle.sfv_c.specs.Answers.{answer};
 
 use crate::answer::{Answer, OK, TOO_SMALL};
 use crate::reading::{Receiver, read_into};
@@ -27,6 +28,19 @@ struct Collector<'r, 'a> {
 }
 
 impl<'r, 'a> Collector<'r, 'a> {
+    /// Counts a row without a place in the buffer.
+    #[cold]
+    #[inline(never)]
+    fn count_unwritten(&mut self)
+        ensures same_rows { self.new.rows.ghost_name ≡ self.old.rows.ghost_name }
+        ensures rows { self.new.rows.now ≡ self.old.rows.now }
+        ensures count { self.new.count ≡ counted (self.old.count + 1) }
+        ensures used { self.new.used ≡ self.old.used }
+        ensures room { self.new.room.now ≡ self.old.room.now }
+    {
+        self.count = self.count.saturating_add(1);
+    }
+
     /// Counts a row, and writes it if the buffer has a place for it.
     #[inline(always)]
     fn put(&mut self, row: Row<'a>)
@@ -41,8 +55,10 @@ impl<'r, 'a> Collector<'r, 'a> {
         let count = self.count;
         if count < self.rows.len() {
             self.rows[count] = row;
+            self.count = count + 1;
+            return;
         }
-        self.count = count.saturating_add(1);
+        self.count_unwritten();
     }
 
     /// Adds a row.
@@ -164,13 +180,15 @@ impl<'r, 'a> Receiver<'a> for Collector<'r, 'a> {
     }
 }
 
-/// Returns the result of writing so many rows with so many bytes of room, when the buffers have these lengths.
+/// Returns the result for so many rows with so many bytes of room, if the buffers have these lengths.
 fn answer_of(rows: usize, bytes: usize, most_rows: usize, most_bytes: usize) -> Answer
-    ensures { result ≡ sizes_answer rows bytes most_rows most_bytes }
+    ensures fit { (rows ≤ most_rows) × (bytes ≤ most_bytes) → result ≡ answer 0 0 0 bytes rows }
+    ensures too_small { ¬ ((rows ≤ most_rows) × (bytes ≤ most_bytes)) → result ≡ answer 2 0 0 bytes rows }
 {
-    let fits = rows <= most_rows && bytes <= most_bytes;
-    let status = if fits { OK } else { TOO_SMALL };
-    Answer::of_sizes(status, bytes, rows)
+    if rows > most_rows || bytes > most_bytes {
+        return Answer::of_sizes(TOO_SMALL, bytes, rows);
+    }
+    Answer::of_sizes(OK, bytes, rows)
 }
 
 /// Parses a field of this type, and writes its rows to the buffer, as far as they fit.
