@@ -9,4 +9,4 @@ pub mod RowEvents
 pub mod WrongRows
 pub mod Fields
 pub mod Runs
-pub mod Blank
+pub mod Receivers

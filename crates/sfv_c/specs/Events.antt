@@ -1,26 +1,23 @@
 -- Events in rows that point to their texts.
-use Rattle.std.specs.Prelude.{◌≡◌, ℕ, ◌+◌, ◌-◌, ◌^◌, ◌≤◌, min, List, [], ◌∷◌, length, map, drop, ◌++◌, Result, Ok, Err}
-use Rattle.std.specs.Prelude.{nat_le, ◌&&◌, if◌then◌else◌}
+use Rattle.std.specs.Prelude.{◌≡◌, ℕ, ◌+◌, ◌-◌, ◌^◌, ◌≤◌, min, List, length, map, drop, ◌++◌, Result, Ok, Err}
+use Rattle.std.specs.Prelude.{nat_lt, slice_set, if◌then◌else◌}
 use Rattle.std.specs.List.{AllZip, sum_by}
 use Rattle.std.specs.Borrow.{MutBor}
-use Rattle.std.specs.declared.alloc.Global.{Global}
-use Rattle.std.specs.declared.vec.Vec.{Vec}
 use Rattle.std.specs.Cow.{cow_str_bytes}
 use Rattle.sfv.specs.Types.{FieldKind, Version, Error}
 use Rattle.sfv.specs.Types.bare_items as bare
-use Rattle.sfv.specs.Errors.{out_of_memory}
-use Rattle.sfv.specs.Grammar.{Spaces, HasField}
+use Rattle.sfv.specs.Grammar.{HasField}
 use Rattle.sfv.specs.Events.{TreeEvent, events}
 use Rattle.sfv.specs.EventValues.{event_of}
 use Rattle.sfv.specs.BareItems.{read_text, is_borrowed_string, is_borrowed_text}
 use Rattle.sfv.specs.ProvidedVisitors.{ReadBareItem}
-use Rattle.sfv.specs.Parsers.{IsParseError, AreReadFrom}
+use Rattle.sfv.specs.Parsers.{AreReadFrom}
 use Rattle.sfv_tree.specs.declared.visitor.Event.{Event}
 use Rattle.sfv_tree.specs.declared.visitor.Event.TheVariants as event
 use Rattle.sfv_c.specs.declared.answer.Answer.{Answer}
 use Rattle.sfv_c.specs.declared.rows.Row.{Row}
 use Rattle.sfv_c.specs.declared.events.Collector.{Collector}
-use Rattle.sfv_c.specs.Answers.{answer, refusal, bad_argument}
+use Rattle.sfv_c.specs.Answers.{answer, refusal, bad_argument, IsReadingError}
 use Rattle.sfv_c.specs.Rows.{EventNumbers, numbers_of, row_parts, IsRowOf}
 
 -- a saturating sum, at most the largest 64-bit number
@@ -41,14 +38,20 @@ room_of (event.BareItem read) = room_of_read read
 room_of (event.Parameter key read) = room_of_read read
 room_of e = 0
 
--- the collector of these rows and this room, of which nothing is used, where so many rows are expected
-abbrev pub collector_of : Vec Row Global → MutBor (List ℕ) → ℕ → Collector
-collector_of rows room expected = record { rows = rows; room = room; used = 0; expected = expected }
+-- the collector of these rows and this room, of which nothing is used
+abbrev pub collector_of : MutBor (List Row) → MutBor (List ℕ) → Collector
+collector_of rows room = record { rows = rows; count = 0; room = room; used = 0 }
+
+-- the rows with this one at this index, if they have the index
+abbrev pub put_row : List Row → ℕ → Row → List Row
+put_row rows at row = if nat_lt at (length rows) then slice_set rows at row else rows
 
 -- The collector after one more row, which takes `n` bytes of room. If they fit, the row holds these parts.
 pub record IsRowKept (before : Collector) (p : EventNumbers) (n : ℕ) (after : Collector) : Type 0 where
   pub row : Row
-  pub pushed : after.rows.items ≡ before.rows.items ++ row ∷ []
+  pub same_rows : after.rows.ghost_name ≡ before.rows.ghost_name
+  pub put : after.rows.now ≡ put_row before.rows.now before.count row
+  pub count : after.count ≡ counted (before.count + 1)
   pub used : after.used ≡ counted (before.used + n)
   pub holds : n ≤ length before.room.now
       → (row_parts row ≡ p) × (length after.room.now + n ≡ length before.room.now)
@@ -73,34 +76,31 @@ abbrev pub AreRows : Version → FieldKind → List ℕ → ℕ → List Row →
 AreRows version kind input room rows used =
     HasField version kind input (λ raw. AreCollected version (events kind raw) input room rows used)
 
--- the buffer and the result: the rows are written if they and their texts fit, otherwise the buffer is unchanged
-abbrev pub copied : List Row → ℕ → List Row → ℕ → List Row × Answer
-copied rows used old room =
-    if nat_le (length rows) (length old) && nat_le used room
-    then (rows ++ drop (length rows) old, answer 0 0 0 used (length rows))
-    else (old, answer 2 0 0 used (length rows))
+-- The buffer and the result. If the rows and their texts fit, the rows are written, and the rest of the buffer is
+-- unchanged. Otherwise the result has the required numbers, each at most the largest 64-bit number.
+pub record AreWritten (rows : List Row) (used : ℕ) (old : List Row) (room : ℕ) (after : List Row × Answer) : Type 0 where
+  pub fit : (length rows ≤ length old) × (used ≤ room)
+      → after ≡ (rows ++ drop (length rows) old, answer 0 0 0 used (length rows))
+  pub too_small : ¬ ((length rows ≤ length old) × (used ≤ room))
+      → after.1 ≡ answer 2 0 0 used (counted (length rows))
 
 -- the buffer unchanged, and the result for an argument without a meaning
 abbrev pub left_alone : List Row → List Row × Answer
 left_alone old = (old, bad_argument)
 
--- the error of `parse`; out of memory only if the input is not *SP (zero or more spaces)
-abbrev pub IsRowsError : Version → FieldKind → List ℕ → Error → Type 0
-IsRowsError version kind input e = IsParseError version kind input e × (e ≡ out_of_memory → ¬ Spaces input)
-
 -- the outcome of parsing: the rows and the bytes of room that they take, or the error
 abbrev pub IsReading : Version → FieldKind → List ℕ → ℕ → Result (List Row × ℕ) Error → Type 0
 IsReading version kind input room (Ok m) = AreRows version kind input room m.0 m.1
-IsReading version kind input room (Err e) = IsRowsError version kind input e
+IsReading version kind input room (Err e) = IsReadingError version kind input e
 
--- the buffer and the result after this outcome; an error leaves the buffer unchanged
-abbrev pub put_of : List Row → ℕ → Result (List Row × ℕ) Error → List Row × Answer
-put_of old room (Ok m) = copied m.0 m.1 old room
-put_of old room (Err e) = (old, refusal e)
+-- the buffer and the result after this outcome
+abbrev pub IsPutOf : List Row → ℕ → Result (List Row × ℕ) Error → List Row × Answer → Type 0
+IsPutOf old room (Ok m) after = AreWritten m.0 m.1 old room after
+IsPutOf old room (Err e) after = after.1 ≡ refusal e
 
 -- the buffer and the result after parsing: the rows of the only field, if they and their texts fit; or the error
 pub record PutsEvents (version : Version) (kind : FieldKind) (input : List ℕ) (old : List Row) (room : ℕ)
     (after : List Row × Answer) : Type 0 where
   pub outcome : Result (List Row × ℕ) Error
   pub reading : IsReading version kind input room outcome
-  pub put : after ≡ put_of old room outcome
+  pub put : IsPutOf old room outcome after

@@ -1,97 +1,80 @@
 //! Events as rows, which point to their texts: into the input, or to the decoded text in a borrowed buffer.
 
-ghost use Rattle.std.specs.Prelude.{◌≡◌, ◌≤◌, ◌<◌, ◌^◌, ◌+◌, [], ⊤, pos, Some, None, length, OnOk, IfOk, IfErr};
-ghost use Rattle.std.specs.Prelude.{vec_len, vec_capacity};
+ghost use Rattle.std.specs.Prelude.{◌≡◌, ◌≤◌, ◌<◌, ◌^◌, ◌+◌, Some, None, length};
 ghost use Rattle.sfv.specs.BareItems.{input_value};
-ghost use Rattle.sfv.specs.Errors.{out_of_memory};
-ghost use Rattle.sfv.specs.Grammar.{Spaces};
-ghost use Rattle.sfv.specs.Parsers.{input_of, version_of, IsParseError};
+ghost use Rattle.sfv.specs.Parsers.{input_of, version_of};
 ghost use Rattle.sfv_c.specs.Rows.{row_parts, value_numbers};
-ghost use Rattle.sfv_c.specs.Events.{counted, collector_of, room_of_read, IsRowKept, TakesRow, AreRows, copied};
-ghost use Rattle.sfv_c.specs.Events.{PutsEvents};
+ghost use Rattle.sfv_c.specs.Events.{counted, put_row, room_of_read, IsRowKept, TakesRow, PutsEvents};
+ghost use Rattle.sfv_c.specs.Answers.{answer};
 
 use crate::answer::{Answer, OK, TOO_SMALL};
-use crate::reading::read;
+use crate::reading::{Receiver, read_into};
 use crate::rows::{
     BARE_ITEM, ENTRY, INNER_LIST, INNER_LIST_END, ITEM, KEYED_ENTRY, PARAMETER, PARAMETERS_END, Row,
 };
-use sfv::visitor::{Event, Visitor};
-use sfv::{
-    BareItemFromInput, Error, FieldKind, GenericBareItem, OutOfMemory, ParseError, Parser,
-    StringFromInput,
-};
+use sfv::visitor::Event;
+use sfv::{BareItemFromInput, FieldKind, GenericBareItem, Parser, StringFromInput};
 use std::alloc::Global;
 use std::borrow::CowStr;
 
-/// Requests memory for one more row. If it is the first one, requests memory for `expected` rows.
-#[cold]
-#[inline(never)]
-fn grow(rows: &mut Vec<Row<'_>>, expected: usize) -> Result<(), OutOfMemory>
-    ensures rows { rows.new.items ≡ rows.old.items }
-    ensures room { OnOk result (vec_len rows.new < vec_capacity rows.new) }
-{
-    if rows.is_empty() {
-        rows.reserve_exact(expected.max(1))?;
-        return Ok(());
-    }
-    rows.reserve(1)?;
-    Ok(())
-}
-
-/// Makes room for one more row.
-#[inline(always)]
-fn make_room(rows: &mut Vec<Row<'_>>, expected: usize) -> Result<(), OutOfMemory>
-    ensures rows { rows.new.items ≡ rows.old.items }
-    ensures room { OnOk result (vec_len rows.new < vec_capacity rows.new) }
-{
-    if rows.len() < rows.capacity() {
-        return Ok(());
-    }
-    grow(rows, expected)
-}
-
-/// The free part of the room for decoded texts, rows, the length of all decoded texts so far, and the number of rows
-/// for which the first row requests memory.
-// The room comes first, since the bytes at the place of an error's parts take more instructions to move.
+/// A borrowed buffer of rows, the number of rows so far, the free part of the room for decoded texts, and the length of
+/// all decoded texts so far.
 #[derive(Drop)]
-struct Collector<'a> {
+struct Collector<'r, 'a> {
+    rows: &'r mut [Row<'a>],
+    count: usize,
     room: &'a mut [u8],
-    rows: Vec<Row<'a>>,
     used: usize,
-    expected: usize,
 }
 
-impl<'a> Collector<'a> {
-    fn new(rows: Vec<Row<'a>>, room: &'a mut [u8], expected: usize) -> Collector<'a>
-        ensures collector { result ≡ collector_of rows.entry room.entry expected }
-        ensures small { length room.old < 2 ^ 63 }
+impl<'r, 'a> Collector<'r, 'a> {
+    /// Counts a row without a place in the buffer.
+    #[cold]
+    #[inline(never)]
+    fn count_unwritten(&mut self)
+        ensures same_rows { self.new.rows.ghost_name ≡ self.old.rows.ghost_name }
+        ensures rows { self.new.rows.now ≡ self.old.rows.now }
+        ensures count { self.new.count ≡ counted (self.old.count + 1) }
+        ensures used { self.new.used ≡ self.old.used }
+        ensures room { self.new.room.now ≡ self.old.room.now }
     {
-        // This gives the proof the largest length of a slice.
-        let _size = room.len();
-        Collector {
-            room,
-            rows,
-            used: 0,
-            expected,
+        self.count = self.count.saturating_add(1);
+    }
+
+    /// Counts a row, and writes it if the buffer has a place for it.
+    #[inline(always)]
+    fn put(&mut self, row: Row<'a>)
+        ensures same_rows { self.new.rows.ghost_name ≡ self.old.rows.ghost_name }
+        ensures rows { self.new.rows.now ≡ put_row self.old.rows.now self.old.count row.entry }
+        ensures count { self.new.count ≡ counted (self.old.count + 1) }
+        ensures used { self.new.used ≡ counted (self.old.used + 0) }
+        ensures room { self.new.room.now ≡ self.old.room.now }
+    {
+        // This gives the proof the range of the field.
+        let _used = self.used;
+        let count = self.count;
+        if count < self.rows.len() {
+            self.rows[count] = row;
+            self.count = count + 1;
+            return;
         }
+        self.count_unwritten();
     }
 
     /// Adds a row.
     #[inline(always)]
-    fn keep(&mut self, row: Row<'a>) -> Result<(), OutOfMemory>
-        ensures { OnOk result (IsRowKept self.old (row_parts row.entry) 0 self.new) }
+    fn keep(&mut self, row: Row<'a>)
+        ensures { IsRowKept self.old (row_parts row.entry) 0 self.new }
     {
-        // This gives the proof the range of the field.
-        let _used = self.used;
-        make_room(&mut self.rows, self.expected)?;
-        self.rows.push_reserved(row);
-        Ok(())
+        self.put(row);
     }
 
     /// Copies a decoded text to the room, if it fits, and returns the copy.
     #[inline(never)]
     fn hold(&mut self, text: &[u8]) -> &'a [u8]
-        ensures rows { self.new.rows.items ≡ self.old.rows.items }
+        ensures same_rows { self.new.rows.ghost_name ≡ self.old.rows.ghost_name }
+        ensures rows { self.new.rows.now ≡ self.old.rows.now }
+        ensures count { self.new.count ≡ self.old.count }
         ensures used { self.new.used ≡ counted (self.old.used + length text.now) }
         ensures held { length text.now ≤ length self.old.room.now → result.now ≡ text.now }
         ensures left { length text.now ≤ length self.old.room.now
@@ -109,9 +92,8 @@ impl<'a> Collector<'a> {
 
     /// Adds the row of an event without a value.
     #[inline(always)]
-    fn keep_plain(&mut self, tag: u32, key: &'a [u8]) -> Result<(), OutOfMemory>
-        ensures { OnOk result
-            (IsRowKept self.old (record { tag = tag; key = key.now; value = value_numbers None }) 0 self.new) }
+    fn keep_plain(&mut self, tag: u32, key: &'a [u8])
+        ensures { IsRowKept self.old (record { tag = tag; key = key.now; value = value_numbers None }) 0 self.new }
     {
         self.keep(Row {
             tag,
@@ -119,13 +101,15 @@ impl<'a> Collector<'a> {
             key,
             bytes: b"",
             number: 0,
-        })
+        });
     }
 
     /// Returns the kind, the bytes and the number of a value. Copies a decoded text to the room.
     #[inline(always)]
     fn parts_of(&mut self, item: BareItemFromInput<'a>) -> (u32, &'a [u8], i64)
-        ensures rows { self.new.rows.items ≡ self.old.rows.items }
+        ensures same_rows { self.new.rows.ghost_name ≡ self.old.rows.ghost_name }
+        ensures rows { self.new.rows.now ≡ self.old.rows.now }
+        ensures count { self.new.count ≡ self.old.count }
         ensures used { self.new.used ≡ counted (self.old.used + room_of_read item.entry) }
         ensures parts { room_of_read item.entry ≤ length self.old.room.now
             → record { kind = result.0; number = result.2; bytes = result.1.now }
@@ -158,17 +142,12 @@ impl<'a> Collector<'a> {
     /// Adds the row of an event with this value.
     // Inlined, as is `event`: as calls they take 23 to 47 more instructions for each row.
     #[inline(always)]
-    fn keep_value(
-        &mut self,
-        tag: u32,
-        key: &'a [u8],
-        item: BareItemFromInput<'a>,
-    ) -> Result<(), OutOfMemory>
-        ensures { OnOk result (IsRowKept self.old (record {
+    fn keep_value(&mut self, tag: u32, key: &'a [u8], item: BareItemFromInput<'a>)
+        ensures { IsRowKept self.old (record {
           tag = tag;
           key = key.now;
           value = value_numbers (Some (input_value item.entry));
-        }) (room_of_read item.entry) self.new) }
+        }) (room_of_read item.entry) self.new }
     {
         let (kind, bytes, number) = self.parts_of(item);
         self.keep(Row {
@@ -177,29 +156,15 @@ impl<'a> Collector<'a> {
             key,
             bytes,
             number,
-        })
+        });
     }
 }
 
-impl<'a> Visitor<'a> for Collector<'a> {
-    type Out = Collector<'a>;
-
-    type Error = OutOfMemory;
-
-    ghost takes = { λ _ _ _. ⊤ };
-
-    ghost takes_read = { TakesRow };
-
-    ghost fails = { λ _ _ _. ⊤ };
-
-    ghost finishes = { λ s out. out ≡ s };
-
-    ghost finish_fails = { λ _ _. ⊥ };
-
-    ghost is_memory = { λ _. ⊤ };
+impl<'r, 'a> Receiver<'a> for Collector<'r, 'a> {
+    ghost receives = { TakesRow };
 
     #[inline(always)]
-    fn event(&mut self, event: Event<'a>) -> Result<(), OutOfMemory> {
+    fn receive(&mut self, event: Event<'a>) {
         match event {
             Event::Entry => self.keep_plain(ENTRY, b""),
             Event::KeyedEntry(key) => self.keep_plain(KEYED_ENTRY, key.as_str().as_bytes()),
@@ -213,51 +178,20 @@ impl<'a> Visitor<'a> for Collector<'a> {
             Event::InnerListEnd => self.keep_plain(INNER_LIST_END, b""),
         }
     }
-
-    fn finish(self) -> Result<Collector<'a>, OutOfMemory> {
-        Ok(self)
-    }
 }
 
-/// The largest number of rows for which the first row requests memory.
-// So many rows are a small block, which an allocator returns at once. A larger one takes more instructions.
-const FIRST_ROWS: usize = 20;
-
-/// Parses a field of this type, and collects its rows. The first row requests memory for `expected` rows.
-fn collect_rows<'a>(
-    alloc: Global,
-    field: FieldKind,
-    parser: Parser<'a>,
-    expected: usize,
-    room: &'a mut [u8],
-) -> Result<Collector<'a>, Error>
-    ensures accepted { IfOk result (λ c. AreRows (version_of parser.entry) field (input_of parser.entry)
-        (length room.old) c.rows.items c.used) }
-    ensures rejected { IfErr result (IsParseError (version_of parser.entry) field
-        (input_of parser.entry)) }
-    ensures memory { IfErr result (λ e. e ≡ out_of_memory → ¬ Spaces (input_of parser.entry)) }
+/// Returns the result for so many rows with so many bytes of room, if the buffers have these lengths.
+fn answer_of(rows: usize, bytes: usize, most_rows: usize, most_bytes: usize) -> Answer
+    ensures fit { (rows ≤ most_rows) × (bytes ≤ most_bytes) → result ≡ answer 0 0 0 bytes rows }
+    ensures too_small { ¬ ((rows ≤ most_rows) × (bytes ≤ most_bytes)) → result ≡ answer 2 0 0 bytes rows }
 {
-    let collector = Collector::new(Vec::new(alloc), room, expected);
-    match read(alloc, field, parser, collector) {
-        Ok(collector) => Ok(collector),
-        Err(ParseError::Syntax(error)) => Err(error),
-        Err(ParseError::Visitor(error)) => Err(Error::from(error)),
+    if rows > most_rows || bytes > most_bytes {
+        return Answer::of_sizes(TOO_SMALL, bytes, rows);
     }
+    Answer::of_sizes(OK, bytes, rows)
 }
 
-/// Copies the rows to the buffer, if all of them and their texts fit.
-fn copy<'a>(collector: &Collector<'a>, rows: &mut [Row<'a>], room: usize) -> Answer
-    ensures { (rows.new, result) ≡ copied collector.now.rows.items collector.now.used rows.old room }
-{
-    let (events, used) = (collector.rows.len(), collector.used);
-    if events > rows.len() || used > room {
-        return Answer::of_sizes(TOO_SMALL, used, events);
-    }
-    rows[..events].copy_from_slice(&collector.rows);
-    Answer::of_sizes(OK, used, events)
-}
-
-/// Parses a field of this type, and writes all of its rows to the buffer, or none.
+/// Parses a field of this type, and writes its rows to the buffer, as far as they fit.
 pub(crate) fn put_events<'a>(
     alloc: Global,
     field: FieldKind,
@@ -268,9 +202,15 @@ pub(crate) fn put_events<'a>(
     ensures { PutsEvents (version_of parser.entry) field (input_of parser.entry)
         rows.old (length room.old) (rows.new, result) }
 {
-    let size = room.len();
-    match collect_rows(alloc, field, parser, rows.len().min(FIRST_ROWS), room) {
-        Ok(collector) => copy(&collector, rows, size),
+    let (most_rows, most_bytes) = (rows.len(), room.len());
+    let mut collector = Collector {
+        rows,
+        count: 0,
+        room,
+        used: 0,
+    };
+    match read_into(alloc, field, parser, &mut collector) {
+        Ok(()) => answer_of(collector.count, collector.used, most_rows, most_bytes),
         Err(error) => Answer::of_error(error),
     }
 }

@@ -95,8 +95,7 @@ pub extern "C" fn sfv_c_check(alloc: Global, field: u32, version: u32, input: &[
     check(alloc, field, Parser::new(input).with_version(version))
 }
 
-/// Parses the input as a field of this type under the version, and writes a row for each event to `rows`, or no row.
-/// Builds no map.
+/// Parses the input as a field of this type under the version, and writes a row for each event to `rows`. Builds no map.
 ///
 /// Keys and most texts point into the input. Byte sequences, and strings and display strings with escapes, are decoded
 /// into `room`, and their rows point there.
@@ -104,9 +103,9 @@ pub extern "C" fn sfv_c_check(alloc: Global, field: u32, version: u32, input: &[
 /// # Errors
 ///
 /// Returns status 3 with kind and index, as for `Parser::parse`. Returns status 4 if memory runs out. This happens only
-/// if the input contains a byte other than a space. Returns status 2, with the number of events and the length of `room`
-/// that they need, if a buffer is too small. Returns status 5 for a number that names no field type or version. `rows`
-/// is then unchanged, and `room` can contain anything.
+/// if the input contains a backslash, a percent sign or a colon. Returns status 2, with the number of events and the
+/// length of `room` that they need, if a buffer is too small. After these, `rows` and `room` can contain anything.
+/// Returns status 5 for a number that names no field type or version, and then `rows` is unchanged.
 #[unsafe(no_mangle)]
 pub extern "C" fn sfv_c_spans<'a>(
     alloc: Global,
