@@ -61,14 +61,11 @@ static int are_damaged(sfv_type type, size_t count) {
 }
 
 static void check(const char *name, sfv_type type, size_t length, size_t count, size_t decoded) {
-    static const sfv_row blank;
     sfv_answer a, b, c, d;
-    memset(rows, 0, sizeof rows);
     a = parse(type, length, count - 1, sizeof room);
     b = parse(type, length, ROWS, decoded > 0 ? decoded - 1 : 0);
     int is_small = a.status == SFV_TOO_SMALL && a.rows == count && a.length == decoded;
-    is_small &= decoded == 0 || (b.status == SFV_TOO_SMALL && b.rows == count && b.length == decoded);
-    is_small &= decoded == 0 ? b.status == SFV_OK : memcmp(&rows[0], &blank, sizeof blank) == 0;
+    is_small &= b.status == (decoded == 0 ? SFV_OK : SFV_TOO_SMALL) && b.rows == count && b.length == decoded;
     a = parse(type, length, count, decoded);
     int is_parsed = a.status == SFV_OK && a.rows == count && a.length == decoded;
     c = write(type, count, length - 1);
