@@ -11,6 +11,7 @@ use Rattle.sfv_tree.specs.Trees.{item_tree, inner_list_tree, member_tree, list_t
 use Rattle.sfv_tree.specs.Seeds.{ItemHasSeed, InnerListHasSeed, MemberHasSeed}
 use Rattle.sfv_tree.specs.declared.hash_seed.HashSeed.{HashSeed}
 use Rattle.sfv_tree.specs.declared.parsed.ListEntry.{ListEntry}
+use Rattle.sfv_tree.specs.declared.parsed.ListEntry.TheVariants as entries
 use Rattle.sfv_tree.specs.declared.visitor.item_builder.ItemBuilder.{ItemBuilder}
 use Rattle.sfv_tree.specs.declared.visitor.list_builder.ListBuilder.{ListBuilder}
 use Rattle.sfv_tree.specs.declared.visitor.member.Member.{Member}
@@ -85,32 +86,36 @@ ends p e = false
 abbrev pub member_state : Member → MemberState
 member_state members.Begun = begun
 member_state members.ItemHead = item_head
-member_state (members.ItemParams i) = item_parameters (item_tree i)
-member_state (members.InnerList l places.Items) = inner_items (inner_list_tree l)
-member_state (members.InnerList l places.ItemHead) = inner_head (inner_list_tree l)
-member_state (members.InnerList l (places.ItemParams i)) = inner_parameters (inner_list_tree l) (item_tree i)
-member_state (members.InnerList l places.Params) = list_parameters (inner_list_tree l)
+member_state (members.Items l places.Items) = inner_items (inner_list_tree l)
+member_state (members.Items l places.ItemHead) = inner_head (inner_list_tree l)
+member_state (members.Items l (places.ItemParams i)) = inner_parameters (inner_list_tree l) (item_tree i)
+member_state (members.Entry (entries.Item i)) = item_parameters (item_tree i)
+member_state (members.Entry (entries.InnerList l)) = list_parameters (inner_list_tree l)
 
--- the state after an event, with the member if it ends there
-abbrev pub step_state : Member → Option ListEntry → MemberState
-step_state p None = member_state p
-step_state p (Some m) = ended (member_tree m)
+-- the member has a parsed part, which may be complete
+abbrev pub IsEntry : Member → Type 0
+IsEntry p = (m : ListEntry) × (p ≡ members.Entry m)
+
+-- the state after an event, which ends the member or not
+abbrev pub step_state : Bool → Member → MemberState
+step_state false p = member_state p
+step_state true (members.Entry m) = ended (member_tree m)
+step_state true p = member_state p
+
+-- the state of an item's builder
+abbrev pub item_state : ItemBuilder → MemberState
+item_state b = elim b.item [ None ↦ member_state b.member | Some m ↦ ended (member_tree m) ]
 
 -- the parameters in the member so far hash under this seed
 abbrev pub HasSeedSoFar : HashSeed → Member → Type 0
-HasSeedSoFar seed (members.ItemParams i) = ItemHasSeed seed i
-HasSeedSoFar seed (members.InnerList l (places.ItemParams i)) = InnerListHasSeed seed l × ItemHasSeed seed i
-HasSeedSoFar seed (members.InnerList l p) = InnerListHasSeed seed l
+HasSeedSoFar seed (members.Items l (places.ItemParams i)) = InnerListHasSeed seed l × ItemHasSeed seed i
+HasSeedSoFar seed (members.Items l p) = InnerListHasSeed seed l
+HasSeedSoFar seed (members.Entry m) = MemberHasSeed seed m
 HasSeedSoFar seed p = ⊤
-
--- the same after an event, with the member if it ends there
-abbrev pub StepHasSeed : HashSeed → Member → Option ListEntry → Type 0
-StepHasSeed seed p None = HasSeedSoFar seed p
-StepHasSeed seed p (Some m) = MemberHasSeed seed m
 
 -- the builder adds maps under this seed, and those that it has hash under it
 abbrev pub IsItemUnder : HashSeed → ItemBuilder → Type 0
-IsItemUnder seed b = (b.seed ≡ seed) × StepHasSeed seed b.member b.item
+IsItemUnder seed b = (b.seed ≡ seed) × MatchOption b.item (HasSeedSoFar seed b.member) (MemberHasSeed seed)
 
 -- the complete members of a state
 abbrev pub complete : {A B : Type 0} → A × B → A

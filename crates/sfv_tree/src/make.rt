@@ -2,7 +2,7 @@
 
 ghost use Rattle.std.specs.Prelude.{◌≡◌, [], None};
 ghost use Rattle.sfv_tree.specs.declared.hash_seed.HashSeed.{HashSeed};
-ghost use Rattle.sfv_tree.specs.Builders.{step_state, item_head, list_state, dictionary_state, IsItemUnder};
+ghost use Rattle.sfv_tree.specs.Builders.{item_state, item_head, list_state, dictionary_state, IsItemUnder};
 ghost use Rattle.sfv_tree.specs.Builders.{ListAddsUnder, DictionaryAddsUnder};
 ghost use Rattle.sfv_tree.specs.ProvidedVisitors.{item_kept};
 
@@ -57,7 +57,7 @@ pub trait MakeDictionaryVisitor<'de>: Drop {
 impl<'de> MakeItemVisitor<'de> for Item {
     type Visitor = ItemBuilder;
 
-    ghost is_made = { λ seed visitor. (step_state visitor.member visitor.item ≡ item_head) × IsItemUnder seed visitor };
+    ghost is_made = { λ seed visitor. (item_state visitor ≡ item_head) × IsItemUnder seed visitor };
 
     fn make_item_visitor(alloc: Global, seed: HashSeed) -> ItemBuilder {
         ItemBuilder::new(alloc, seed)

@@ -12,7 +12,7 @@ use Rattle.sfv_spec.specs.Statements.{IsParsedAs}
 use Rattle.std.specs.List.{FoldsTo}
 use Rattle.sfv_spec.proofs.Collapse.{entered, collapse-push}
 use Rattle.sfv_tree.specs.Trees.{item_tree}
-use Rattle.sfv_tree.specs.Builders.{MemberState, item_head, item_parameters, ended, member_step, step_state}
+use Rattle.sfv_tree.specs.Builders.{MemberState, item_head, item_parameters, ended, member_step, item_state}
 use Rattle.sfv_tree.specs.Builders.{takes_memory, IsItemUnder}
 use Rattle.sfv_base.specs.declared.error.ParseError.TheVariants.{Visitor}
 use Rattle.sfv_tree.specs.declared.hash_seed.HashSeed.{HashSeed}
@@ -23,10 +23,6 @@ use Rattle.sfv_tree.specs.declared.visitor.ItemFault.TheVariants as faults
 use Rattle.sfv_tree.specs.declared.parsed.Item.{Item}
 use Rattle.sfv_tree.specs.declared.visitor.item_builder.ItemBuilder.{ItemBuilder}
 use Rattle.sfv.proofs.Relations.{Answers, FailsIn, HasVisitorError, item_failed}
-
--- the state of an item's builder
-abbrev item_state : ItemBuilder → MemberState
-item_state b = step_state b.member b.item
 
 -- what the builder does with an event, and with the end
 abbrev Steps : ItemBuilder → TreeEvent → ItemBuilder → Type 0

@@ -1,6 +1,6 @@
 //! The visitor that builds a dictionary.
 
-ghost use Rattle.std.specs.Prelude.{◌≡◌, ⊤, ℕ, List, false, None, option_map, OnOk, OnErr, IfOk, IsTrue, MatchOption};
+ghost use Rattle.std.specs.Prelude.{◌≡◌, ⊤, ℕ, List, false, None, Some, option_map, OnOk, OnErr, IsTrue, MatchOption};
 ghost use Rattle.std.specs.Prelude.{bytes_eq};
 ghost use Rattle.indexmap.specs.IndexMap.{get, hasher_of, insert_entry};
 ghost use Rattle.sfv_tree.specs.Trees.{dictionary_tree};
@@ -12,8 +12,10 @@ ghost use Rattle.sfv_spec.specs.Values.{RawMember};
 ghost use Rattle.sfv_tree.specs.declared.hash_seed.HashSeed.{HashSeed};
 ghost use Rattle.sfv_tree.specs.Builders.{dictionary_step, dictionary_state, member_state, HasSeedSoFar};
 ghost use Rattle.sfv_tree.specs.Builders.{dictionary_takes_memory, DictionaryAddsUnder, DictionaryAdds};
+ghost use Rattle.sfv_tree.specs.declared.parsed.ListEntry.{ListEntry};
+ghost use Rattle.sfv_tree.specs.declared.visitor.member.Member.TheVariants as members;
 
-use crate::parsed::{Dictionary, ListEntry};
+use crate::parsed::Dictionary;
 use crate::visitor::member::Member;
 use crate::visitor::{Event, Visitor};
 use sfv_base::error::OutOfMemory;
@@ -80,15 +82,17 @@ impl DictionaryBuilder {
 
     // Inserts the current member, which is complete, under its key.
     #[inline(never)]
-    fn insert(&mut self, member: ListEntry) -> Result<(), OutOfMemory>
+    fn insert(&mut self) -> Result<(), OutOfMemory>
         ensures member { self.new.member ≡ None }
-        ensures entries { OnOk result (MatchOption self.old.member ⊤ (λ m. self.new.dictionary.entries
-            ≡ insert_entry bytes_eq self.old.dictionary.entries m.0 member)) }
+        ensures entries { OnOk result ((key : List ℕ) (m : ListEntry) → self.old.member ≡ Some (key, members.Entry m)
+            → self.new.dictionary.entries ≡ insert_entry bytes_eq self.old.dictionary.entries key m) }
         ensures hasher { hasher_of self.new.dictionary ≡ hasher_of self.old.dictionary }
         ensures absent { OnErr result (MatchOption self.old.member ⊤ (λ m. get bytes_eq self.old.dictionary m.0 ≡ None)) }
     {
-        if let Some((key, _)) = self.member.take() {
-            self.dictionary.insert(key, member)?;
+        if let Some((key, member)) = self.member.take() {
+            if let Member::Entry(entry) = member {
+                self.dictionary.insert(key, entry)?;
+            }
         }
         Ok(())
     }
@@ -111,14 +115,10 @@ impl DictionaryBuilder {
             }
             return Ok(());
         };
-        match member.step(alloc, seed, count, event) {
-            Ok(None) => Ok(()),
-            Ok(Some(whole)) => {
-                self.insert(whole)?;
-                Ok(())
-            }
-            Err(error) => Err(error),
+        if member.step(alloc, seed, count, event)? {
+            self.insert()?;
         }
+        Ok(())
     }
 }
 

@@ -1,6 +1,6 @@
 //! The visitor that builds a list.
 
-ghost use Rattle.std.specs.Prelude.{◌≡◌, ◌++◌, ◌∷◌, [], ⊤, List, false, None, option_map};
+ghost use Rattle.std.specs.Prelude.{◌≡◌, ◌++◌, ◌∷◌, [], ⊤, List, false, None, Some, option_map};
 ghost use Rattle.std.specs.Prelude.{OnOk, OnErr, IsTrue, MatchOption};
 ghost use Rattle.sfv_tree.specs.Trees.{list_tree};
 ghost use Rattle.sfv_values.specs.BareItems.{input_value};
@@ -11,9 +11,11 @@ ghost use Rattle.sfv_spec.specs.Values.{RawMember};
 ghost use Rattle.sfv_tree.specs.declared.hash_seed.HashSeed.{HashSeed};
 ghost use Rattle.sfv_tree.specs.Builders.{list_step, list_state, list_takes_memory, member_state, HasSeedSoFar};
 ghost use Rattle.sfv_tree.specs.Builders.{ListAddsUnder, ListAdds};
+ghost use Rattle.sfv_tree.specs.declared.parsed.ListEntry.{ListEntry};
+ghost use Rattle.sfv_tree.specs.declared.visitor.member.Member.TheVariants as members;
 
 use crate::hash_seed::HashSeed;
-use crate::parsed::{List, ListEntry};
+use crate::parsed::List;
 use crate::visitor::member::Member;
 use crate::visitor::{Event, Visitor};
 use sfv_base::error::OutOfMemory;
@@ -82,13 +84,15 @@ impl ListBuilder {
 
     // Appends the current member, which is complete.
     #[inline(never)]
-    fn append(&mut self, member: ListEntry) -> Result<(), OutOfMemory>
+    fn append(&mut self) -> Result<(), OutOfMemory>
         ensures member { self.new.member ≡ None }
-        ensures items { OnOk result (self.new.list.items ≡ self.old.list.items ++ member ∷ []) }
+        ensures items { OnOk result ((m : ListEntry) → self.old.member ≡ Some (members.Entry m)
+            → self.new.list.items ≡ self.old.list.items ++ m ∷ []) }
         ensures seed { self.new.seed ≡ self.old.seed }
     {
-        self.set_member(None);
-        self.list.push(member)?;
+        if let Some(Member::Entry(entry)) = self.member.take() {
+            self.list.push(entry)?;
+        }
         Ok(())
     }
 
@@ -106,11 +110,10 @@ impl ListBuilder {
             }
             return Ok(());
         };
-        match member.step(alloc, seed, count, event) {
-            Ok(None) => Ok(()),
-            Ok(Some(whole)) => self.append(whole),
-            Err(error) => Err(error),
+        if member.step(alloc, seed, count, event)? {
+            self.append()?;
         }
+        Ok(())
     }
 }
 

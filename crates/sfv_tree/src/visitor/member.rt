@@ -1,6 +1,8 @@
 //! The state within a member of a list or a dictionary, with its parsed part.
 
 ghost use Rattle.std.specs.Prelude.{◌≡◌, false, IfOk, OnOk, OnErr, IsTrue};
+ghost use Rattle.sfv_tree.specs.Trees.{member_tree};
+ghost use Rattle.sfv_tree.specs.Seeds.{MemberHasSeed};
 ghost use Rattle.sfv_spec.specs.Events as tree;
 ghost use Rattle.sfv_values.specs.BareItems.{bare_value, input_value, is_borrowed};
 ghost use Rattle.sfv_values.specs.CheckedTexts.{text_of};
@@ -9,7 +11,7 @@ ghost use Rattle.sfv_tree.specs.Seeds.{ItemHasSeed};
 ghost use Rattle.sfv_tree.specs.declared.hash_seed.HashSeed.{HashSeed};
 ghost use Rattle.sfv_tree.specs.Events.{event_of, is_moved};
 ghost use Rattle.sfv_tree.specs.Builders.{member_step, member_state, step_state, plain_item, takes_memory};
-ghost use Rattle.sfv_tree.specs.Builders.{HasSeedSoFar, StepHasSeed};
+ghost use Rattle.sfv_tree.specs.Builders.{HasSeedSoFar, IsEntry};
 
 use crate::capacity::fit_after;
 use crate::hash_seed::HashSeed;
@@ -29,12 +31,13 @@ pub(crate) enum Member {
     Begun,
     // Before the bare item of an item.
     ItemHead,
-    ItemParams(Item),
-    // An inner list with its complete items so far.
-    InnerList(InnerList, Place),
+    // Within the items of an inner list, with its complete items so far.
+    Items(InnerList, Place),
+    // Within the parameters of an item or an inner list.
+    Entry(ListEntry),
 }
 
-/// The place within an inner list.
+/// The place within the items of an inner list.
 #[derive(Drop)]
 pub(crate) enum Place {
     // Before an item, or the end of the items.
@@ -42,8 +45,6 @@ pub(crate) enum Place {
     // Before the bare item of an item.
     ItemHead,
     ItemParams(Item),
-    // After the items.
-    Params,
 }
 
 // Returns the item of this bare item, without parameters.
@@ -53,6 +54,18 @@ fn plain_item(alloc: Global, seed: HashSeed, bare_item: BareItem) -> Item
     ensures seed { ItemHasSeed seed result }
 {
     Item::with_params(bare_item, Parameters::with_hasher(alloc, seed))
+}
+
+// Releases the unused memory of the parameters, which are complete, after many members.
+#[inline(always)]
+fn fit_member(count: usize, member: &mut ListEntry)
+    ensures tree { member_tree member.new ≡ member_tree member.old }
+    ensures seed { (seed : HashSeed) → MemberHasSeed seed member.old → MemberHasSeed seed member.new }
+{
+    match member {
+        ListEntry::Item(item) => fit_after(count, &mut item.params),
+        ListEntry::InnerList(list) => fit_after(count, &mut list.params),
+    }
 }
 
 impl Place {
@@ -88,15 +101,15 @@ impl Member {
             (tree.parameter (text_of key.entry) (input_value value.entry)))) }
     {
         match self {
-            Member::ItemParams(item) => {
+            Member::Items(_, Place::ItemParams(item)) => {
                 insert_parameter(alloc, &mut item.params, key, value)?;
                 Ok(())
             }
-            Member::InnerList(_, Place::ItemParams(item)) => {
+            Member::Entry(ListEntry::Item(item)) => {
                 insert_parameter(alloc, &mut item.params, key, value)?;
                 Ok(())
             }
-            Member::InnerList(list, Place::Params) => {
+            Member::Entry(ListEntry::InnerList(list)) => {
                 insert_parameter(alloc, &mut list.params, key, value)?;
                 Ok(())
             }
@@ -112,7 +125,7 @@ impl Member {
     {
         match self {
             Member::Begun => self.set(Member::ItemHead),
-            Member::InnerList(_, place) => {
+            Member::Items(_, place) => {
                 if let Place::Items = place {
                     place.set(Place::ItemHead);
                 }
@@ -130,7 +143,7 @@ impl Member {
         if let Member::Begun = self {
             let params = Parameters::with_hasher(alloc, seed);
             let list = InnerList::with_params(Vec::new(alloc), params);
-            self.set(Member::InnerList(list, Place::Items));
+            self.set(Member::Items(list, Place::Items));
         }
     }
 
@@ -152,9 +165,10 @@ impl Member {
         match self {
             Member::ItemHead => {
                 let bare_item = bare_item.try_into_owned(alloc)?;
-                self.set(Member::ItemParams(plain_item(alloc, seed, bare_item)));
+                let item = ListEntry::Item(plain_item(alloc, seed, bare_item));
+                self.set(Member::Entry(item));
             }
-            Member::InnerList(_, place) => {
+            Member::Items(_, place) => {
                 if let Place::ItemHead = place {
                     let bare_item = bare_item.try_into_owned(alloc)?;
                     place.set(Place::ItemParams(plain_item(alloc, seed, bare_item)));
@@ -165,59 +179,51 @@ impl Member {
         Ok(())
     }
 
-    // Ends the parameters of the current item, or of the inner list. Returns the member if it ends here. `count` members
-    // come before this one.
+    // Ends the parameters of the current item, or of the inner list. Returns `true` if the member ends here. `count`
+    // members come before this one.
     #[inline(never)]
-    fn end_parameters(&mut self, count: usize) -> Result<Option<ListEntry>, OutOfMemory>
-        ensures state { IfOk result (λ whole. step_state self.new whole
+    fn end_parameters(&mut self, count: usize) -> Result<bool, OutOfMemory>
+        ensures state { IfOk result (λ ends. step_state ends self.new
             ≡ member_step (member_state self.old) tree.parameters_end) }
-        ensures seed { IfOk result (λ whole. (seed : HashSeed) → HasSeedSoFar seed self.old
-            → StepHasSeed seed self.new whole) }
+        ensures entry { IfOk result (λ ends. IsTrue ends → IsEntry self.new) }
+        ensures seed { OnOk result ((seed : HashSeed) → HasSeedSoFar seed self.old → HasSeedSoFar seed self.new) }
         ensures out_of_memory { OnErr result (IsTrue (takes_memory (member_state self.old) tree.parameters_end)) }
     {
-        match mem::replace(self, Member::Begun) {
-            Member::ItemParams(mut item) => {
-                fit_after(count, &mut item.params);
-                Ok(Some(ListEntry::Item(item)))
-            }
-            Member::InnerList(mut list, place) => match place {
+        match self {
+            Member::Items(list, place) => match mem::replace(place, Place::Items) {
                 Place::ItemParams(mut item) => {
                     fit_after(count.saturating_add(list.items.len()), &mut item.params);
                     list.items.push(item)?;
-                    self.set(Member::InnerList(list, Place::Items));
-                    Ok(None)
+                    Ok(false)
                 }
-                Place::Params => {
-                    fit_after(count, &mut list.params);
-                    Ok(Some(ListEntry::InnerList(list)))
-                }
-                place => {
-                    self.set(Member::InnerList(list, place));
-                    Ok(None)
+                other => {
+                    place.set(other);
+                    Ok(false)
                 }
             },
-            member => {
-                self.set(member);
-                Ok(None)
+            Member::Entry(entry) => {
+                fit_member(count, entry);
+                Ok(true)
             }
+            _ => Ok(false),
         }
     }
 
     // Ends the items of the inner list.
-    #[inline(always)]
+    #[inline(never)]
     fn end_inner_list(&mut self)
         ensures state { member_state self.new ≡ member_step (member_state self.old) tree.inner_list_end }
         ensures seed { (seed : HashSeed) → HasSeedSoFar seed self.old → HasSeedSoFar seed self.new }
     {
-        if let Member::InnerList(_, place) = self {
-            if let Place::Items = place {
-                place.set(Place::Params);
+        if let Member::Items(_, Place::Items) = self {
+            if let Member::Items(list, _) = mem::replace(self, Member::Begun) {
+                self.set(Member::Entry(ListEntry::InnerList(list)));
             }
         }
     }
 
-    /// Applies an event, and returns the member if it ends here. An event out of sequence changes nothing. `count` members
-    /// come before this one.
+    /// Applies an event, and returns `true` if the member ends here: it is then an entry. An event out of sequence changes
+    /// nothing. `count` members come before this one.
     #[inline(always)]
     pub(crate) fn step(
         &mut self,
@@ -225,10 +231,11 @@ impl Member {
         seed: HashSeed,
         count: usize,
         event: Event<'_>,
-    ) -> Result<Option<ListEntry>, OutOfMemory>
-        ensures state { IfOk result (λ whole. step_state self.new whole
+    ) -> Result<bool, OutOfMemory>
+        ensures state { IfOk result (λ ends. step_state ends self.new
             ≡ member_step (member_state self.old) (event_of event.entry)) }
-        ensures seed { IfOk result (λ whole. HasSeedSoFar seed self.old → StepHasSeed seed self.new whole) }
+        ensures entry { IfOk result (λ ends. IsTrue ends → IsEntry self.new) }
+        ensures seed { OnOk result (HasSeedSoFar seed self.old → HasSeedSoFar seed self.new) }
         ensures out_of_memory { OnErr result (IsTrue (takes_memory (member_state self.old) (event_of event.entry))) }
         ensures copied { OnErr result (is_moved event.entry ≡ false) }
     {
@@ -241,6 +248,6 @@ impl Member {
             Event::InnerListEnd => self.end_inner_list(),
             Event::Entry | Event::KeyedEntry(_) => {}
         }
-        Ok(None)
+        Ok(false)
     }
 }

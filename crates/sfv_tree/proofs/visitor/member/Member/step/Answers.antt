@@ -1,14 +1,19 @@
+use Rattle.sfv_tree.specs.declared.hash_seed.HashSeed.{HashSeed}
+use Rattle.sfv_tree.specs.Builders.{HasSeedSoFar}
+use Rattle.sfv_tree.proofs.Members.{on_ok}
 use Rattle.sfv_tree.proofs.visitor.member.Member.step.Goals as goal
-use Rattle.sfv_tree.proofs.visitor.member.Member.step.Goals.{in-Item, in-InnerList, in-InnerListEnd, in-Entry}
-use Rattle.sfv_tree.proofs.visitor.member.Member.step.Goals.{in-BareItem+in_ok-bare_item-in-BareItem}
-use Rattle.sfv_tree.proofs.visitor.member.Member.step.Goals.{in-Parameter+in_ok-parameter-in-Parameter}
 
-pub returns-clause-seed : goal.returns-clause-seed
-returns-clause-seed c = λ h. elim c.match-event.branch [
-  | in-Item w ↦ rw w.self-is (w.begin_item.ensures.seed c.args.seed h)
-  | in-InnerList w ↦ rw w.self-is (w.begin_inner_list.ensures.seed h)
-  | in-BareItem+in_ok-bare_item-in-BareItem w ↦ rw w.self-is (w.in_ok-bare_item-in-BareItem.ensures.seed h)
-  | in-Parameter+in_ok-parameter-in-Parameter w ↦ rw w.self-is (w.in_ok-parameter-in-Parameter.ensures.seed c.args.seed h)
-  | in-InnerListEnd w ↦ rw w.self-is (w.end_inner_list.ensures.seed c.args.seed h)
-  | in-Entry w ↦ rw w.self-is h
-]
+pub returns-in-ParametersEnd-clause-seed : goal.returns-in-ParametersEnd-clause-seed
+returns-in-ParametersEnd-clause-seed c = on_ok _
+    ((seed : HashSeed) → HasSeedSoFar seed c.args.self.now → HasSeedSoFar seed c.end_parameters.new.self)
+    (HasSeedSoFar c.args.seed c.args.self.now → HasSeedSoFar c.args.seed c.end_parameters.new.self)
+    c.end_parameters.ensures.seed (λ h. h c.args.seed)
+
+pub returns-in-Item-clause-seed : goal.returns-in-Item-clause-seed
+returns-in-Item-clause-seed c = c.begin_item.ensures.seed c.args.seed
+
+pub returns-in_ok-parameter-in-Parameter-clause-seed : goal.returns-in_ok-parameter-in-Parameter-clause-seed
+returns-in_ok-parameter-in-Parameter-clause-seed c = c.in_ok-parameter-in-Parameter.ensures.seed c.args.seed
+
+pub returns-in-InnerListEnd-clause-seed : goal.returns-in-InnerListEnd-clause-seed
+returns-in-InnerListEnd-clause-seed c = c.end_inner_list.ensures.seed c.args.seed
