@@ -1,4 +1,4 @@
-use Rattle.std.proofs.Common.{rules, ◌≡◌, ℕ, List, refl, ap}
+use Rattle.std.proofs.Common.{rules, ◌≡◌, refl, ap}
 use Rattle.std.proofs.lemmas.Map.Made.{lookup-map_values}
 use Rattle.std.specs.Prelude.{Some, None, IsTrue, bytes_eq}
 use Rattle.indexmap.specs.IndexMap.{get}
