@@ -47,8 +47,8 @@ pub(crate) fn syntax_of(error: ParseError<Infallible>) -> Error
 
 /// A receiver of the events of a field. It never fails.
 ///
-/// It is passed by reference. A visitor is passed by value, and then its caller knows nothing of the rows behind a
-/// `&mut` of the visitor, because the type of rows names a lifetime.
+/// It is passed by reference. A visitor is passed by value, and then its caller knows nothing of rows that the visitor
+/// borrows mutably, because their type names a lifetime.
 pub(crate) trait Receiver<'de>: Drop {
     /// `receives s e t`: in state `s` the receiver may receive `e`, and then is in state `t`.
     ghost receives: { Self → Event → Self → Type 0 };
@@ -104,7 +104,7 @@ pub(crate) fn read_into<'de, R: Receiver<'de>>(
 {
     match read(alloc, field, parser, Passing { receiver }) {
         Ok(passing) => {
-            // This gives the proof the last value behind the reference.
+            // This gives the proof the last value of the reference.
             let receiver = passing.receiver;
             let _last = &*receiver;
             Ok(())
