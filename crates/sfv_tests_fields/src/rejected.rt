@@ -236,6 +236,13 @@ fn fields_of_each_number_of_parts_are_rejected(rt: HostRuntime) -> Result<(), Fa
 /// follow its index.
 const PIECES: &[(&str, &str, &str, ErrorKind, usize)] = &[
     (
+        "",
+        "b",
+        "(",
+        ErrorKind::TrailingCharactersAfterParsedValue,
+        1,
+    ),
+    (
         "a",
         "b",
         "(",
