@@ -13,6 +13,8 @@ mod long;
 #[cfg(test)]
 mod memory;
 #[cfg(test)]
+mod owned;
+#[cfg(test)]
 mod rejected;
 #[cfg(test)]
 mod runs;
