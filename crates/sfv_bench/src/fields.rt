@@ -1,7 +1,7 @@
 //! Fields that are made from templates.
 
-use crate::random::Random;
 use sfv::FieldKind;
+use sfv_random::Random;
 use std::alloc::{AllocError, Global};
 
 /// A field whose text changes from call to call.

@@ -2,8 +2,8 @@
 
 use crate::fields::Field;
 use crate::keys::{letters, place};
-use crate::random::Random;
 use sfv::{FieldKind, KeyRef};
+use sfv_random::Random;
 use std::alloc::{AllocError, Global};
 
 /// The number of kinds of large fields.

@@ -2,9 +2,9 @@
 
 use crate::digest::Digest;
 use crate::fields::Field;
-use crate::random::Random;
 use sfv::visitor::Ignored;
 use sfv::{Dictionary, Error, FieldKind, HashSeed, Item, List, ParseError, Parser};
+use sfv_random::Random;
 use std::alloc::{AllocError, Global};
 
 // Adds an error, or that there is none.

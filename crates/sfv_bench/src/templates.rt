@@ -1,8 +1,8 @@
 //! Templates of fields as servers receive them.
 
 use crate::fields::Field;
-use crate::random::Random;
 use sfv::FieldKind;
+use sfv_random::Random;
 use std::alloc::{AllocError, Global};
 
 /// A field that has a reader, or the type of another one.

@@ -1,7 +1,6 @@
 //! Writing of fields: call by call, and as lists of calls.
 
 use crate::digest::Digest;
-use crate::random::Random;
 use sfv::script::{ItemCalls, MemberCalls, ParamCall, run_dict, run_list};
 use sfv::{
     Date, Decimal, DictSerializer, Error, GenericBareItem, InnerListSerializer, Integer,
@@ -9,6 +8,7 @@ use sfv::{
     StringRef, TokenRef, key_ref, string_ref, token_ref,
 };
 use sfv_http_fields::priority::{Priority, write_priority};
+use sfv_random::Random;
 use std::alloc::Global;
 
 /// The texts and bytes that a response has at hand.

@@ -6,4 +6,6 @@ mod damaged;
 mod long;
 mod numbers;
 mod parsing;
+mod random;
+mod seeds;
 mod writing;

@@ -3,6 +3,7 @@
 use crate::reading::{Answer, is_answer, read, read_into_dictionary, read_into_list, write_for};
 use crate::{copies, scripts, visiting, writing};
 use sfv::{Dictionary, Error, ErrorKind, FieldKind, Item, List, Version};
+use sfv_leaks::Repeated;
 use std::alloc::Global;
 
 /// A call, or a few calls that prepare one.
@@ -285,5 +286,11 @@ pub fn perform(alloc: Global, call: Call) -> Result<bool, Error> {
         Call::Visit(version, field, input, whole, before) => {
             visiting::visit(alloc, version, field, input, whole, before)
         }
+    }
+}
+
+impl Repeated for Call {
+    fn repeat(&self, alloc: Global) -> bool {
+        matches!(perform(alloc, *self), Ok(true))
     }
 }

@@ -1,8 +1,9 @@
 //! Calls that allocate, each with its result if there is enough memory.
 //!
-//! Without standard input, the program makes each call, and prints how many. Standard input may contain a number from 1
-//! to 999. Then the program's 1000th allocation has to fail (`rt try --fail-alloc 1000`). The program allocates before
-//! the calls, so the calls' allocation with this number fails.
+//! Without standard input, the program makes each call, and prints how many. Then it makes each call often, and prints
+//! the number of each that loses memory. Standard input may contain a number from 1 to 999. Then the program's 1000th
+//! allocation has to fail (`rt try --fail-alloc 1000`). The program allocates before the calls, so the calls' allocation
+//! with this number fails.
 //!
 //! The call that meets the failure returns that memory ran out, with its arguments as its contract states, or it can do
 //! without the allocation and returns its usual result. Each other call returns its usual result. The program prints
@@ -19,6 +20,7 @@ mod writing;
 
 use crate::calls::{CALLS, perform};
 use sfv::{Error, OutOfMemory};
+use sfv_leaks::keeps_memory;
 use std::alloc::Global;
 use std::io;
 use std::io::Read;
@@ -90,6 +92,16 @@ fn make_calls(alloc: Global) -> Answers {
     answers
 }
 
+/// Makes each call often, and prints the number of each that loses memory.
+fn print_losses(rt: &HostRuntime) -> io::Result<()> {
+    for (number, call) in CALLS.iter().enumerate() {
+        if !keeps_memory(rt, call)? {
+            println!(rt; "call {number} loses memory")?;
+        }
+    }
+    Ok(())
+}
+
 fn main(rt: HostRuntime) -> io::Result<ExitCode> {
     let alloc = rt.alloc();
     let mut bytes = [0; 3];
@@ -103,7 +115,12 @@ fn main(rt: HostRuntime) -> io::Result<ExitCode> {
             println!(rt; "call {number} is out of memory")?;
         }
         Answers::Usual if has_failed && !early => println!(rt; "each call is made nevertheless")?,
-        Answers::Usual if !early => println!(rt; "{} made", CALLS.len())?,
+        Answers::Usual if !early => {
+            println!(rt; "{} made", CALLS.len())?;
+            if request.is_none() {
+                print_losses(&rt)?;
+            }
+        }
         Answers::Usual => println!(rt; "an allocation failed before the calls")?,
         Answers::OutOfMemory(number) | Answers::Other(number) => {
             println!(rt; "call {number} answers otherwise")?;

@@ -57,10 +57,13 @@ fn last_ages_are_found(rt: HostRuntime) {
     }
 }
 
-/// Appends a token. Runs out of memory at the token `no`.
+/// Appends a token. Ignores a boolean. Runs out of memory at the token `no`, and at any other kind of value.
 fn push(text: &mut String, front: &str, value: &BareItemFromInput<'_>) -> Result<(), OutOfMemory> {
     let Some(token) = value.as_token() else {
-        return Ok(());
+        return match value.as_boolean() {
+            Some(_) => Ok(()),
+            None => Err(OutOfMemory),
+        };
     };
     if token.as_str() == "no" {
         return Err(OutOfMemory);
@@ -171,8 +174,19 @@ fn items_are_received(rt: HostRuntime) {
         ("a=(x), b=no;p=no, c=(no), a=(y);p=z, d=no", "( x)( y);z"),
         ("a=x;p=y, b=(no), a=z, c=no;p=no, a=()", " x;y z()"),
         ("aa=(no), b=no", ""),
+        (
+            "b=1;p=@1, c=:aGk=:;p=\"\\\"\", d=(1.5;p ?0), e=%\"%c3%bc\";p=-1.5, a=(x), f=@1;p=%\"a\", g=\"a\";p=?0",
+            "( x)",
+        ),
     ];
     let mut holds = true;
+    for &input in &[
+        "no;p=no, (x);p=no",
+        "1;p=1, \"a\";p=\"a\", ();p=:aGk=:",
+        ":aGk=:;p=no, a;p=@1, no",
+    ] {
+        holds &= has_text(told(alloc, true, input.as_bytes()), "");
+    }
     for &(input, wanted) in rows {
         holds &= has_text(told(alloc, false, input.as_bytes()), wanted);
     }

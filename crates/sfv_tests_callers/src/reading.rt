@@ -23,6 +23,8 @@ use sfv_first_field::mobile_hint::{HintError, is_mobile};
 use sfv_http_fields::cache_status::last_hit;
 use sfv_http_fields::content_digest::{DigestError, read};
 use sfv_http_fields::proxy_status::reading::last_proxy;
+use sfv_leaks::{Repeated, keeps_memory};
+use sfv_random::Random;
 use std::alloc::Global;
 use std::test::Fail;
 
@@ -88,7 +90,7 @@ fn items_have(alloc: Global, version: Version, input: &[u8], wanted: Option<Erro
         & is_of_kind(string(alloc, input), first == Some(&b'"'), wanted)
         & is_of_kind(
             token(alloc, input),
-            matches!(first, Some(b'a'..=b'z')),
+            matches!(first, Some(b'A'..=b'Z' | b'a'..=b'z' | b'*')),
             wanted,
         )
 }
@@ -201,6 +203,9 @@ const FIELDS: &[(&str, &str, &str, &str, &str, usize, Fault)] = &[
     ("item", "1", ";k#=\"a\"", "", "", 1 << 10, Fault::None),
     ("item", "", " ", "", "", 1 << 17, Fault::Last(ErrorKind::ExpectedStartOfBareItem, 0)),
     ("item", "1 a", "a", "", "", 1 << 17, Fault::First(ErrorKind::TrailingCharactersAfterParsedValue, 2)),
+    ("item", "\"\\\\\";k b", "b", "", "", 1 << 17, Fault::First(ErrorKind::TrailingCharactersAfterParsedValue, 7)),
+    ("item", "\"\\\\", "a", "", "\u{7f}\"", 1 << 17, Fault::Last(ErrorKind::InvalidStringCharacter, 2)),
+    ("item", "%\"%c3%bc", "a", "", "%zz\"", 1 << 17, Fault::Last(ErrorKind::InvalidEscapeSequence, 3)),
     ("list", "", "a", "", "", 1 << 21, Fault::None),
     ("list", "(\"", "a", "", "\")", 1 << 17, Fault::None),
     ("list", "\"\\\\", "a", "", "\"", 1 << 17, Fault::None),
@@ -227,6 +232,7 @@ const FIELDS: &[(&str, &str, &str, &str, &str, usize, Fault)] = &[
     ("dict", "", "k#=1", ", ", "", 1 << 17, Fault::None),
     ("dict", "", "k#=%\"%c3%bc\"", ",", "", 1 << 10, Fault::None),
     ("dict", "k0=(", "a", " ", ");k0", 1 << 10, Fault::None),
+    ("dict", "", "k#=(\"\\\\\" %\"%c3%bc\";a=:aGk=:)", ", ", "", 1 << 10, Fault::None),
     ("dict", "u", ";k#=:aGk=:", "", "", 1 << 10, Fault::None),
     ("dict", "A", "a", "", "", 1 << 17, Fault::First(ErrorKind::ExpectedStartOfKey, 0)),
     ("dict", "a b", "a", "", "", 1 << 17, Fault::First(ErrorKind::TrailingCharactersAfterMember, 2)),
@@ -273,6 +279,68 @@ fn dictionaries_of_each_size_are_read(rt: HostRuntime) -> Result<(), Fail> {
     Ok(())
 }
 
+/// An input, which is read by all calls of its type.
+#[derive(Clone, Copy)]
+struct Reading<'a> {
+    field: &'a str,
+    version: Version,
+    input: &'a [u8],
+    error: Option<Error>,
+}
+
+impl Repeated for Reading<'_> {
+    fn repeat(&self, alloc: Global) -> bool {
+        have(alloc, self.field, self.version, self.input, self.error)
+    }
+}
+
+/// Returns `true` if no memory is lost by the fields of this type, with two and with more parts or bytes.
+fn are_released(rt: &HostRuntime, wanted: &str) -> Result<bool, Fail> {
+    let mut holds = true;
+    for &(field, begin, part, separator, end, _, fault) in FIELDS {
+        if field != wanted {
+            continue;
+        }
+        let more = [12, 100][usize::from(part.len() == 1 && separator.is_empty())];
+        let is_newer = begin.contains('@') || begin.contains('%') || part.contains('%');
+        for &(size, version) in &[
+            (2, Version::Rfc8941),
+            (2, Version::Rfc9651),
+            (more, Version::Rfc9651),
+        ] {
+            let text = of_size(rt.alloc(), (begin, part, separator, end), size)?;
+            let (input, error) = (text.as_str().as_bytes(), error_at(fault, text.len()));
+            let reading = Reading {
+                field,
+                version,
+                input,
+                error,
+            };
+            let is_lacking = is_newer && version == Version::Rfc8941;
+            holds &= is_lacking || keeps_memory(rt, &reading)?;
+        }
+    }
+    Ok(holds)
+}
+
+#[test]
+fn items_are_released(rt: HostRuntime) -> Result<(), Fail> {
+    assert!(rt; are_released(&rt, "item")?);
+    Ok(())
+}
+
+#[test]
+fn lists_are_released(rt: HostRuntime) -> Result<(), Fail> {
+    assert!(rt; are_released(&rt, "list")?);
+    Ok(())
+}
+
+#[test]
+fn dictionaries_are_released(rt: HostRuntime) -> Result<(), Fail> {
+    assert!(rt; are_released(&rt, "dict")?);
+    Ok(())
+}
+
 /// Returns the error of the library's call.
 fn error_of_parser(alloc: Global, field: &str, version: Version, input: &[u8]) -> Option<Error> {
     let parser = Parser::new(input).with_version(version);
@@ -299,6 +367,36 @@ fn inputs_of_two_bytes_have_the_error_of_the_parser(rt: HostRuntime) {
         }
     }
     assert!(rt; holds);
+}
+
+/// How many random fields of each type and version are tried.
+const RANDOM: u64 = 4_000;
+
+#[test]
+fn random_inputs_have_the_error_of_the_parser(rt: HostRuntime) -> Result<(), Fail> {
+    let alloc = rt.alloc();
+    let mut holds = true;
+    for &field in &["item", "list", "dict"] {
+        for &version in &[Version::Rfc8941, Version::Rfc9651] {
+            for seed in 0..RANDOM {
+                let (mut random, mut text) = (Random::new(seed), String::new(alloc));
+                random.push_field(&mut text, field, version == Version::Rfc8941)?;
+                let mut bytes = text.into_bytes();
+                holds &= have(alloc, field, version, &bytes[..], None);
+                for _ in 0..3 {
+                    let (place, byte) = (random.below(bytes.len()), random.byte());
+                    if let Some(old) = bytes.get_mut(place) {
+                        *old = byte;
+                    }
+                    let wanted = error_of_parser(alloc, field, version, &bytes[..]);
+                    holds &= bytes.ends_with(b"\n")
+                        || have(alloc, field, version, &bytes[..], wanted);
+                }
+            }
+        }
+    }
+    assert!(rt; holds);
+    Ok(())
 }
 
 /// Bare items with a syntax error: its kind and its index. If this is the length, the input ends there. Only this
@@ -356,6 +454,60 @@ fn faults_have_their_kind_and_index(rt: HostRuntime) -> Result<(), Fail> {
                 for &version in &[Version::Rfc8941, Version::Rfc9651] {
                     holds &= only.unwrap_or(version) != version
                         || have(alloc, field, version, text.as_str().as_bytes(), wanted);
+                }
+            }
+        }
+    }
+    assert!(rt; holds);
+    Ok(())
+}
+
+/// Bare items of each kind, with and without escapes.
+const PARTS: &[&str] = &[
+    "1",
+    "-1.5",
+    "\"a\"",
+    "\"\\\"\"",
+    "*a:b",
+    "Tok",
+    ":aGk=:",
+    "::",
+    "?0",
+    "?1",
+    "@1",
+    "%\"a\"",
+    "%\"%c3%bc\"",
+];
+
+/// Fields of two bare items: their type, and the texts before, between and after them.
+const PAIRS: &[(&str, &str, &str, &str)] = &[
+    ("item", "", ";a=", ""),
+    ("item", "", ";*=", ";b"),
+    ("list", "", ", ", ""),
+    ("list", "", ";a=", ";b"),
+    ("list", "(", " ", ");a"),
+    ("list", "(a);a=", ";a=", ""),
+    ("dict", "max-age=", ", a=", ""),
+    ("dict", "a=", ", max-age=", ""),
+    ("dict", "sha-256=", ";a=", ""),
+    ("dict", "u=(", " ", "), max-age=1;a"),
+];
+
+// Of each pair of parts, and with a fault after it.
+#[test]
+fn pairs_of_parts_have_the_error_of_the_parser(rt: HostRuntime) -> Result<(), Fail> {
+    let alloc = rt.alloc();
+    let mut holds = true;
+    for &(field, begin, between, end) in PAIRS {
+        for &one in PARTS {
+            for &other in PARTS {
+                for &fault in &["", ",", "!", ";B", " (", ", A", ", (a"] {
+                    let text = format!(in alloc; "{begin}{one}{between}{other}{end}{fault}")?;
+                    let input = text.as_str().as_bytes();
+                    for &version in &[Version::Rfc8941, Version::Rfc9651] {
+                        let wanted = error_of_parser(alloc, field, version, input);
+                        holds &= have(alloc, field, version, input, wanted);
+                    }
                 }
             }
         }

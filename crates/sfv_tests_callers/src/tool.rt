@@ -1,8 +1,10 @@
 //! Runs of the program `sfv_tool` over memory.
 
 use crate::common::{ladder, of_size};
-use sfv::HashSeed;
+use sfv::{FieldKind, HashSeed, Version};
+use sfv_answers::answer::{answer, answer_priority};
 use sfv_answers::run::{random_seed, run, run_with_random_seed};
+use sfv_random::Random;
 use std::alloc::Global;
 use std::cell::Cell;
 use std::hash::{BuildHasher, Hasher};
@@ -446,6 +448,7 @@ fn only_fields_take_random_bytes(rt: HostRuntime) {
     assert!(rt; ends_under(alloc, &denied, "priority 9651", "", no_priority));
     assert!(rt; calls_of(alloc, "dict", usage) == Some(0));
     assert!(rt; calls_of(alloc, "priority 9651", no_priority) == Some(0));
+    assert!(rt; calls_of(alloc, "priority 8941", no_priority) == Some(0));
 }
 
 // Each field takes random bytes once. It fails if there are none, whatever the error.
@@ -470,6 +473,10 @@ fn each_field_takes_random_bytes(rt: HostRuntime) -> Result<(), Fail> {
                 ErrorKind::WouldBlock,
                 ErrorKind::UnexpectedEof,
                 ErrorKind::OutOfMemory,
+                ErrorKind::Unsupported,
+                ErrorKind::NotFound,
+                ErrorKind::InvalidInput,
+                ErrorKind::TimedOut,
                 ErrorKind::Other,
             ] {
                 let no_seed = ("", "error: no random seed\n", 1);
@@ -493,6 +500,17 @@ fn is_seed_of(bytes: [u8; 8], number: u64) -> bool {
     }
 }
 
+#[test]
+fn the_seed_is_the_number_of_the_bytes(rt: HostRuntime) {
+    let (mut random, mut holds) = (Random::new(1), true);
+    for _ in 0..10_000 {
+        let number = random.next();
+        holds &= is_seed_of(number.to_le_bytes(), number);
+        holds &= !is_seed_of(number.to_le_bytes(), number ^ (1 << (number % 64)));
+    }
+    assert!(rt; holds);
+}
+
 // Another number has another hash of no key.
 #[test]
 fn each_bit_of_the_source_is_a_bit_of_the_seed(rt: HostRuntime) {
@@ -505,4 +523,80 @@ fn each_bit_of_the_source_is_a_bit_of_the_seed(rt: HostRuntime) {
         }
     }
     assert!(rt; holds);
+}
+
+/// Returns `true` if a run writes exactly this text and flushes it, or writes exactly this error.
+fn is_told(alloc: Global, args: &str, input: &[u8], wanted: Result<String, String>) -> bool {
+    let Some(args) = arguments(alloc, args) else {
+        return false;
+    };
+    let mut output = Output {
+        text: Vec::new(alloc),
+        room: usize::MAX,
+        can_flush: true,
+        is_flushed: false,
+    };
+    let (mut left, mut errors) = (input, Vec::new(alloc));
+    let seed = HashSeed::new(1);
+    let status = run(
+        alloc,
+        seed,
+        args.as_slice(),
+        &mut left,
+        &mut output,
+        &mut errors,
+    );
+    match wanted {
+        Ok(text) => {
+            status == 0
+                && output.text.as_slice() == text.as_str().as_bytes()
+                && output.is_flushed
+                && errors.is_empty()
+        }
+        Err(text) => {
+            status == 1 && output.text.is_empty() && errors.as_slice() == text.as_str().as_bytes()
+        }
+    }
+}
+
+/// Returns `true` if the program tells the answer of the library for this input, as a field of this type and as a
+/// Priority field.
+fn tells(alloc: Global, field: &str, input: &[u8]) -> Result<bool, Fail> {
+    let (kind, version) = match field {
+        "item" => (FieldKind::Item, Version::Rfc9651),
+        "list" => (FieldKind::List, Version::Rfc9651),
+        _ => (FieldKind::Dictionary, Version::Rfc9651),
+    };
+    let wanted = match answer(alloc, HashSeed::new(1), kind, version, version, input) {
+        Ok(text) => Ok(text),
+        Err(fault) => Err(format!(in alloc; "error: {fault}\n")?),
+    };
+    let args = format!(in alloc; "{field} 9651")?;
+    let is_field = is_told(alloc, args.as_str(), input, wanted);
+    let wanted = match answer_priority(alloc, version, input) {
+        Ok(text) => Ok(text),
+        Err(fault) => Err(format!(in alloc; "error: {fault}\n")?),
+    };
+    Ok(is_field && is_told(alloc, "priority 9651", input, wanted))
+}
+
+#[test]
+fn random_inputs_have_the_answer_of_the_library(rt: HostRuntime) -> Result<(), Fail> {
+    let alloc = rt.alloc();
+    let mut holds = true;
+    for &field in &["item", "list", "dict"] {
+        for seed in 0..3_000 {
+            let (mut random, mut text) = (Random::new(seed), String::new(alloc));
+            random.push_field(&mut text, field, false)?;
+            let mut bytes = text.into_bytes();
+            holds &= tells(alloc, field, &bytes[..])?;
+            let (place, byte) = (random.below(bytes.len()), random.byte());
+            if let Some(old) = bytes.get_mut(place) {
+                *old = byte;
+            }
+            holds &= tells(alloc, field, &bytes[..])?;
+        }
+    }
+    assert!(rt; holds);
+    Ok(())
 }

@@ -83,7 +83,7 @@ fn are_dictionaries_fit(
 }
 
 /// Returns `true` if each call makes a field of this many members or parameters, with the right capacities.
-fn fits(
+pub fn fits(
     alloc: Global,
     field: &str,
     version: Version,
@@ -113,6 +113,17 @@ const FIELDS: &[(&str, usize, usize, (&str, &str, &str, &str))] = &[
     ("dict", 0, NEAR, ("k=(", "$;b~", " ", ");b=1;c")),
     ("item", 601, 147_456, ("a", ";k#~", "", "")),
     ("item", 601, NEAR, ("a", ";k#", "", "")),
+    ("item", 0, NEAR, ("1", ";k#~", "", "")),
+    ("item", 0, NEAR, ("\"\\\\\"", ";k#~", "", "")),
+    ("item", 0, NEAR, ("?1", ";k#~", "", "")),
+    ("item", 0, NEAR, (":aGk=:", ";k#~", "", "")),
+    ("item", 0, NEAR, ("1.5", ";k#~", "", "")),
+    ("list", 0, 50_000, ("a, ?1, (", "$;b~", " ", ")")),
+    ("list", 0, 50_000, ("", "(a;b~);b~", ", ", "")),
+    ("dict", 0, 50_000, ("a, b=(", "$;b~", " ", ");b")),
+    ("dict", 0, 50_000, ("", "k#=$;b~;c;d", ", ", "")),
+    ("dict", 0, NEAR, ("", "k#=()", ", ", "")),
+    ("dict", 0, 50_000, ("", "k#=(a;b~);b~", ", ", "")),
 ];
 
 /// Returns `true` if a field of so many parts has the right capacities under this version.
@@ -125,7 +136,11 @@ fn parts_fit(
 ) -> Result<bool, Fail> {
     let (version, values) = version_of(is_newer);
     let text = field_of(alloc, parts, values, count)?;
-    let wanted = if parts.0.ends_with("(") { 1 } else { count };
+    let wanted = if parts.0.ends_with("(") {
+        parts.0.split(',').count()
+    } else {
+        count
+    };
     Ok(fits(alloc, field, version, text.as_str(), (wanted, 0)))
 }
 
@@ -244,4 +259,41 @@ fn empty_fields_have_no_memory(rt: HostRuntime) {
     let alloc = rt.alloc();
     assert!(rt; fits(alloc, "list", Version::Rfc9651, " ", (0, 0)));
     assert!(rt; fits(alloc, "dict", Version::Rfc9651, " ", (0, 0)));
+}
+
+/// Returns a field with so many members, and then members and items with many parameters.
+fn with_many(alloc: Global, field: &str, before: usize, number: usize) -> Result<String, Fail> {
+    let (_, values) = version_of(false);
+    let params = field_of(alloc, ("", ";p#~", "", ""), values, number)?;
+    if field == "list" {
+        let mut text = repeated(alloc, "a", ", a", before.saturating_sub(1), "")?;
+        write!(text, ", a{params}, (a{params} b){params}")?;
+        return Ok(text);
+    }
+    let mut text = counted(alloc, "", "k", ", ", "", before)?;
+    write!(text, ", l{params}, m=a{params}, n=(a{params} b){params}")?;
+    Ok(text)
+}
+
+#[test]
+fn many_parameters_have_little_unused_memory(rt: HostRuntime) -> Result<(), Fail> {
+    let alloc = rt.alloc();
+    let mut holds = true;
+    for &before in &[1, 100, 4_000, 7_000] {
+        for &number in numbers(alloc, 0, NEAR)?.iter() {
+            let list = with_many(alloc, "list", before, number)?;
+            holds &= fits(
+                alloc,
+                "list",
+                Version::Rfc8941,
+                list.as_str(),
+                (before.saturating_add(2), 0),
+            );
+            let dictionary = with_many(alloc, "dict", before, number)?;
+            let wanted = (before.saturating_add(3), 0);
+            holds &= fits(alloc, "dict", Version::Rfc8941, dictionary.as_str(), wanted);
+        }
+    }
+    assert!(rt; holds);
+    Ok(())
 }

@@ -380,12 +380,12 @@ fn dictionary_grows(alloc: Global, version: Version, full: usize, input: &str) -
 
 /// Returns `true` if this room is tried for a text of this length: each one, or a few for a long text.
 fn is_room(room: usize, len: usize) -> bool {
-    len <= 150 || room <= 2 || room == len / 2 || room.saturating_add(2) >= len
+    len <= 150 || room <= 2 || room.abs_diff(len / 2) <= 1 || room.saturating_add(2) >= len
 }
 
 /// Returns `true` if the field of the input is written into texts of so many bytes that are full, or have room for each
 /// number of its bytes.
-fn grows(alloc: Global, field: &str, full: usize, input: &str) -> bool {
+pub fn grows(alloc: Global, field: &str, full: usize, input: &str) -> bool {
     let mut holds = true;
     for &version in versions_of(input) {
         let answer = match field {
@@ -417,7 +417,14 @@ const VALUES: &[&str] = &[
     ":aGVsbG8sIGhlbGxvLCBoZWxsbywgaGVsbG8sIGhlbGxvIQ==:",
     "?0",
     "\"!#$&'()*+,-./0123456789:;<=>?[]^_`{|}~ \"",
+    "0.001",
+    "-0.999",
+    "999999999999.999",
+    "999999999999999",
+    ":AAAAAA==:",
+    "://///w==:",
     "@0",
+    "@999999999999999",
     "@-1659578233",
     "%\"\"",
     "%\"f%c3%bcr\"",
@@ -450,6 +457,10 @@ const MIXED: &[(&str, &str)] = &[
         "a, b=(?1 tok;k \"s\");l=7, long-key=-12;m=1.5, d=:aGkh:, e=()",
     ),
     ("dict", "a=@1;k=%\"a\", b=(@-12);l, c=%\"%25\""),
+    ("item", "?1;k"),
+    ("list", "(a);b, c"),
+    ("dict", "a=(1;b);c, d"),
+    ("dict", "*a=(1), *b;*c=2"),
 ];
 
 #[test]
@@ -553,8 +564,10 @@ fn finish_keeps(alloc: Global, version: Version, full: usize, room: usize) -> Op
     let is_none = is_list_none && serializer.finish().is_none();
     let has_list = run_list_for(version, &mut text, &[]).ok()?;
     let has_member = has_list || run_dict_for(version, &mut text, &[]).ok()?;
+    let is_appended = list.append_to(version, &mut text).ok()?
+        || dictionary.append_to(version, &mut text).ok()?;
     let is_kept = text.len() == full.saturating_sub(room) && text.capacity() == full;
-    Some(is_none && !has_member && is_kept)
+    Some(is_none && !has_member && !is_appended && is_kept)
 }
 
 #[test]
@@ -565,6 +578,7 @@ fn finish_without_a_member_keeps_the_text(rt: HostRuntime) -> Result<(), Fail> {
         for &version in versions_of("") {
             holds &= finish_keeps(alloc, version, full, 0) == Some(true);
             holds &= finish_keeps(alloc, version, full, full.min(100)) == Some(true);
+            holds &= finish_keeps(alloc, version, full, full) == Some(true);
         }
     }
     assert!(rt; holds);

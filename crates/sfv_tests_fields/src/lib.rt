@@ -15,6 +15,8 @@ mod memory;
 #[cfg(test)]
 mod owned;
 #[cfg(test)]
+mod random;
+#[cfg(test)]
 mod rejected;
 #[cfg(test)]
 mod runs;

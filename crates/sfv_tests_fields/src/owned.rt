@@ -1,12 +1,12 @@
 //! The capacity of the texts and bytes of bare items, and of keys.
 
-use crate::common::{doubled, numbers, repeated};
+use crate::common::{doubled, field_of, numbers, repeated, version_of};
 use crate::kept::versions_of;
 use crate::sizes::{FAR, filled};
 use sfv::visitor::{DictionaryBuilder, ItemBuilder};
 use sfv::{
-    BareItem, BareItemFromInput, Dictionary, GenericBareItem, Item, Key, ListEntry, Parser,
-    StringFromInput,
+    BareItem, BareItemFromInput, Dictionary, GenericBareItem, InnerList, Item, Key, List,
+    ListEntry, Parameters, Parser, StringFromInput,
 };
 use std::alloc::Global;
 use std::test::Fail;
@@ -159,6 +159,129 @@ fn keys_have_no_unused_memory(rt: HostRuntime) -> Result<(), Fail> {
         for &place in &["$;$", "$=1;$=2", "$=(a;b);$"] {
             let input = filled(alloc, place, key.as_str())?;
             holds &= have_exact_keys(alloc, input.as_str()) == Some(true);
+        }
+    }
+    assert!(rt; holds);
+    Ok(())
+}
+
+/// Returns `true` if the text or the bytes have no unused memory. A text whose escapes are unknown may have less unused
+/// memory than its length, or eight bytes in all. Otherwise a text of four bytes has an escape.
+fn is_held(value: BareItem, is_known: bool) -> bool {
+    let may_grow = matches!(
+        value,
+        GenericBareItem::String(_) | GenericBareItem::DisplayString(_)
+    );
+    match room_of(value) {
+        Some((len, 8)) if may_grow && (len == 4 || !is_known) => true,
+        Some((len, capacity)) => capacity == len || (may_grow && !is_known && capacity / 2 < len),
+        None => true,
+    }
+}
+
+/// Returns `true` if the keys and the values of the parameters have no unused memory.
+fn are_params_held(mut params: Parameters, is_known: bool) -> bool {
+    let mut holds = true;
+    for _ in 0..params.len() {
+        let Some((key, value)) = params.pop() else {
+            return false;
+        };
+        let key = key.into_string();
+        holds &= key.capacity() == key.len() && is_held(value, is_known);
+    }
+    holds
+}
+
+fn is_item_held(item: Item, is_known: bool) -> bool {
+    is_held(item.bare_item, is_known) & are_params_held(item.params, is_known)
+}
+
+fn is_inner_list_held(mut list: InnerList, is_known: bool) -> bool {
+    let mut holds = are_params_held(list.params, is_known);
+    for _ in 0..list.items.len() {
+        let Some(item) = list.items.pop() else {
+            return false;
+        };
+        holds &= is_item_held(item, is_known);
+    }
+    holds
+}
+
+fn is_member_held(member: ListEntry, is_known: bool) -> bool {
+    match member {
+        ListEntry::Item(item) => is_item_held(item, is_known),
+        ListEntry::InnerList(list) => is_inner_list_held(list, is_known),
+    }
+}
+
+fn is_list_held(mut list: List, is_known: bool) -> bool {
+    let mut holds = true;
+    for _ in 0..list.len() {
+        let Some(member) = list.pop() else {
+            return false;
+        };
+        holds &= is_member_held(member, is_known);
+    }
+    holds
+}
+
+fn is_dictionary_held(mut dictionary: Dictionary, is_known: bool) -> bool {
+    let mut holds = true;
+    for _ in 0..dictionary.len() {
+        let Some((key, member)) = dictionary.pop() else {
+            return false;
+        };
+        let key = key.into_string();
+        holds &= key.capacity() == key.len() && is_member_held(member, is_known);
+    }
+    holds
+}
+
+/// Returns `true` if the texts of the field have no unused memory, whether it is parsed or built, as `is_held` says.
+pub fn is_field_held(
+    alloc: Global,
+    field: &str,
+    parser: Parser<'_>,
+    is_known: bool,
+) -> Option<bool> {
+    Some(match field {
+        "item" => {
+            is_item_held(parser.parse::<Item>(alloc).ok()?, is_known)
+                & is_item_held(parser.parse_item::<Item>(alloc).ok()?, is_known)
+        }
+        "list" => {
+            is_list_held(parser.parse::<List>(alloc).ok()?, is_known)
+                & is_list_held(parser.parse_list::<List>(alloc).ok()?, is_known)
+        }
+        _ => {
+            is_dictionary_held(parser.parse::<Dictionary>(alloc).ok()?, is_known)
+                & is_dictionary_held(parser.parse_dictionary::<Dictionary>(alloc).ok()?, is_known)
+        }
+    })
+}
+
+/// Fields of numbered parts: the type, and the arguments of `field_of`.
+const PARTS: &[(&str, (&str, &str, &str, &str))] = &[
+    ("item", ("tok", ";key#~", "", "")),
+    ("item", (":aGk=:", ";key#~", "", "")),
+    ("list", ("", "$", ", ", "")),
+    ("list", ("", "$;a~;key#~", ", ", "")),
+    ("list", ("", "($ $;a;b~);a~;b~", ", ", "")),
+    ("dict", ("", "key#=$", ", ", "")),
+    ("dict", ("", "k#=$;a~;b~, l#;a~;b~", ", ", "")),
+    ("dict", ("", "key#=($ $;a~;b~);c~;d~", ", ", "")),
+];
+
+#[test]
+fn texts_of_members_have_little_unused_memory(rt: HostRuntime) -> Result<(), Fail> {
+    let alloc = rt.alloc();
+    let mut holds = true;
+    for &(field, parts) in PARTS {
+        for &count in numbers(alloc, 0, 2_000)?.iter() {
+            let (version, values) = version_of(count % 3 > 0);
+            let text = field_of(alloc, parts, values, count)?;
+            let parser = Parser::new(text.as_bytes()).with_version(version);
+            holds &= is_field_held(alloc, field, parser, true) == Some(true);
         }
     }
     assert!(rt; holds);

@@ -1,6 +1,6 @@
 //! Rejected fields of each length: the kind and the index of the error.
 
-use crate::common::{NEAR, counted, numbers, repeated};
+use crate::common::{NEAR, OLDER, counted, field_of, numbers, repeated};
 use crate::sizes::FAR;
 use sfv::visitor::Ignored;
 use sfv::{Dictionary, Error, ErrorKind, Item, List, ParseError, Parser, Version};
@@ -16,18 +16,21 @@ fn is_syntax<T: Drop, E: Drop>(parsed: Result<T, ParseError<E>>, error: Error) -
 }
 
 /// Returns `true` if the parser rejects the input with this error, as a tree and with a visitor.
-fn rejects(alloc: Global, parser: Parser<'_>, field: &str, error: Error) -> bool {
+pub fn rejects(alloc: Global, parser: Parser<'_>, field: &str, error: Error) -> bool {
     match field {
         "item" => {
             (parser.parse::<Item>(alloc).err() == Some(error))
+                & is_syntax(parser.parse_item::<Item>(alloc), error)
                 & is_syntax(parser.parse_item_with_visitor(alloc, Ignored), error)
         }
         "list" => {
             (parser.parse::<List>(alloc).err() == Some(error))
+                & is_syntax(parser.parse_list::<List>(alloc), error)
                 & is_syntax(parser.parse_list_with_visitor(alloc, Ignored), error)
         }
         _ => {
             (parser.parse::<Dictionary>(alloc).err() == Some(error))
+                & is_syntax(parser.parse_dictionary::<Dictionary>(alloc), error)
                 & is_syntax(parser.parse_dictionary_with_visitor(alloc, Ignored), error)
         }
     }
@@ -372,6 +375,138 @@ fn each_byte_after_an_item_has_its_error(rt: HostRuntime) -> Result<(), Fail> {
                     Some(error) => is_syntax(parser.parse_item_with_visitor(alloc, Ignored), error),
                     None => parser.parse_item_with_visitor(alloc, Ignored).is_ok(),
                 };
+            }
+        }
+    }
+    assert!(rt; holds);
+    Ok(())
+}
+
+/// Members, or a text after an item, that end a field with an error: the text, the kind of the error, and how many bytes
+/// follow its index.
+const ENDS: &[(&str, ErrorKind, usize)] = &[
+    ("(", ErrorKind::UnterminatedInnerList, 0),
+    ("( ", ErrorKind::ExpectedStartOfBareItem, 0),
+    ("(a", ErrorKind::UnterminatedInnerList, 0),
+    ("(a;b", ErrorKind::UnterminatedInnerList, 0),
+    ("(a b ", ErrorKind::ExpectedStartOfBareItem, 0),
+    ("(a,", ErrorKind::ExpectedInnerListDelimiter, 1),
+    ("(a b\t", ErrorKind::ExpectedInnerListDelimiter, 1),
+    ("(()", ErrorKind::ExpectedStartOfBareItem, 2),
+    ("(a;", ErrorKind::ExpectedStartOfKey, 0),
+    ("(a;b=", ErrorKind::ExpectedStartOfBareItem, 0),
+    ("();", ErrorKind::ExpectedStartOfKey, 0),
+    ("();a;B", ErrorKind::ExpectedStartOfKey, 1),
+    ("();a=", ErrorKind::ExpectedStartOfBareItem, 0),
+    ("(a)b", ErrorKind::TrailingCharactersAfterMember, 1),
+    ("a;", ErrorKind::ExpectedStartOfKey, 0),
+    ("a;b;B", ErrorKind::ExpectedStartOfKey, 1),
+    ("a;b=", ErrorKind::ExpectedStartOfBareItem, 0),
+    ("a;b=!", ErrorKind::ExpectedStartOfBareItem, 1),
+    ("a b", ErrorKind::TrailingCharactersAfterMember, 1),
+    ("a\t(", ErrorKind::TrailingCharactersAfterMember, 1),
+    ("a,", ErrorKind::TrailingComma, 1),
+    ("a\t,\t", ErrorKind::TrailingComma, 2),
+    ("()\t, ", ErrorKind::TrailingComma, 2),
+    ("!", ErrorKind::ExpectedStartOfBareItem, 1),
+    ("-", ErrorKind::ExpectedDigit, 0),
+    ("1.", ErrorKind::TrailingDecimalPoint, 1),
+    ("?2", ErrorKind::ExpectedBoolean, 1),
+    ("\"a", ErrorKind::UnterminatedString, 0),
+    ("\"\\a", ErrorKind::InvalidEscapeSequence, 1),
+    (":A", ErrorKind::UnterminatedByteSequence, 0),
+];
+
+/// Members of a list, with a comma after the last one.
+const BEFORE: &[&str] = &[
+    "",
+    "a, ",
+    "1;a;b, (a b;c);d, ",
+    ":aGk=:, ",
+    "\"\\\\\", a;b, ",
+    "a%, ?1;a, ",
+    "a;b=:aA==:, ",
+    "(a :aA==: b;c=\"\\\\\");d, (), ",
+    "1, 2, 3, 4, 5, ();a=:aGk=:, ",
+];
+
+/// Returns the members as those of a dictionary, or the same text for a list.
+fn named(alloc: Global, field: &str, members: &str, number: usize) -> Result<String, Fail> {
+    let mut text = String::new(alloc);
+    for (place, member) in members.split(", ").enumerate() {
+        if place > 0 {
+            text.push_str(", ")?;
+        }
+        if field == "dict" && !member.is_empty() {
+            let key = format!(in alloc; "k{number}-{place}=")?;
+            text.push_str(key.as_str())?;
+        }
+        text.push_str(member)?;
+    }
+    Ok(text)
+}
+
+#[test]
+fn errors_after_members_of_each_kind_have_their_index(rt: HostRuntime) -> Result<(), Fail> {
+    let alloc = rt.alloc();
+    let mut holds = true;
+    for &field in &["list", "dict"] {
+        for &before in BEFORE {
+            for &times in &[1, 2, 30] {
+                let mut front = String::new(alloc);
+                for number in 0..times {
+                    front.push_str(named(alloc, field, before, number)?.as_str())?;
+                }
+                for &(end, kind, back) in ENDS {
+                    let last = if field == "dict" { "*=" } else { "" };
+                    let text = format!(in alloc; "{front}{last}{end}")?;
+                    holds &= is_rejected(alloc, field, text.as_str(), (kind, back, false), 0);
+                }
+            }
+        }
+    }
+    assert!(rt; holds);
+    Ok(())
+}
+
+// The key of a member is wrong after members of each kind.
+#[test]
+fn errors_of_keys_have_their_index(rt: HostRuntime) -> Result<(), Fail> {
+    let alloc = rt.alloc();
+    let mut holds = true;
+    for &before in BEFORE {
+        for &times in &[1, 2, 30] {
+            let mut front = String::new(alloc);
+            for number in 0..times {
+                front.push_str(named(alloc, "dict", before, number)?.as_str())?;
+            }
+            let text = format!(in alloc; "{front}B")?;
+            let fault = (ErrorKind::ExpectedStartOfKey, 1, false);
+            holds &= is_rejected(alloc, "dict", text.as_str(), fault, 0);
+        }
+    }
+    assert!(rt; holds);
+    Ok(())
+}
+
+// An item of each kind, with parameters, and an error after it.
+#[test]
+fn errors_after_items_of_each_kind_have_their_index(rt: HostRuntime) -> Result<(), Fail> {
+    let alloc = rt.alloc();
+    let mut holds = true;
+    for &value in OLDER {
+        for &count in &[0, 1, 2, 9, 10, 11, 64, 65, 300] {
+            let item = field_of(alloc, (value, ";k#~", "", ""), OLDER, count)?;
+            for &(end, kind, back) in &[
+                (" !", ErrorKind::TrailingCharactersAfterParsedValue, 1),
+                ("\t", ErrorKind::TrailingCharactersAfterParsedValue, 1),
+                (";", ErrorKind::ExpectedStartOfKey, 0),
+                (";a;B", ErrorKind::ExpectedStartOfKey, 1),
+                (";a=", ErrorKind::ExpectedStartOfBareItem, 0),
+                (";a=\"\n", ErrorKind::InvalidStringCharacter, 1),
+            ] {
+                let text = format!(in alloc; "{item}{end}")?;
+                holds &= is_rejected(alloc, "item", text.as_str(), (kind, back, false), 0);
             }
         }
     }

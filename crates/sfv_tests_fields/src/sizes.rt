@@ -5,8 +5,8 @@ use crate::common::{NEAR, OLDER, field_of, is_grown, map_capacity, numbers, repe
 use sfv::script::{ItemCalls, MemberCalls, ParamCall, run_dict_for, run_item_for, run_list_for};
 use sfv::visitor::{DictionaryBuilder, ItemBuilder, ListBuilder};
 use sfv::{
-    BareItem, BareItemFromInput, DictSerializer, Dictionary, FieldType, InnerList, Item,
-    ItemSerializer, KeyRef, List, ListEntry, ListSerializer, Parameters, Parser, Version,
+    BareItem, BareItemFromInput, DictSerializer, Dictionary, FieldType, GenericBareItem, InnerList,
+    Item, ItemSerializer, KeyRef, List, ListEntry, ListSerializer, Parameters, Parser, Version,
     insert_entry, insert_param,
 };
 use std::alloc::Global;
@@ -33,6 +33,34 @@ const FIELDS: &[(&str, usize, usize, (&str, &str, &str, &str))] = &[
     ("dict", 0, NEAR, ("", "k#=($;b~ $);c", ", ", "")),
     ("dict", 0, NEAR, ("a=(", "$", " ", ");b")),
     ("dict", 0, NEAR, ("a", ";k#~", "", "")),
+    ("list", 0, MOST_PARTS, ("a, b, (", "$", " ", ");b")),
+    ("list", 0, NEAR, ("a, (", "$;a", " ", ")")),
+    ("list", 0, NEAR, ("(), tok", ";k#~", "", "")),
+    ("list", 0, NEAR, ("", "(tok;a~ $);b~", ", ", "")),
+    ("item", 0, NEAR, ("tok", ";k#~", "", "")),
+    ("item", 0, NEAR, ("\"a\"", ";k#~", "", "")),
+    (
+        "item",
+        0,
+        NEAR,
+        (
+            "12",
+            ";a-long-key-of-a-parameter#=a-long-token-as-its-value",
+            "",
+            "",
+        ),
+    ),
+    ("dict", 0, MOST_PARTS, ("a, b=(", "$", " ", ");b")),
+    ("dict", 0, NEAR, ("b, a=1", ";k#~", "", "")),
+    ("dict", 0, NEAR, ("b, a=tok", ";k#~", "", "")),
+    ("dict", 0, NEAR, ("", "k#=tok;a~", ", ", "")),
+    ("list", 0, NEAR, ("", "$, ($;a~)", ", ", "")),
+    ("list", 0, NEAR, ("", "($), $", ", ", "")),
+    ("dict", 0, NEAR, ("", "k#~, l#=($)", ", ", "")),
+    ("dict", 0, NEAR, ("", "k#=($), l#~", ", ", "")),
+    ("item", 0, NEAR, (":aA==:", ";k#~", "", "")),
+    ("item", 0, NEAR, ("-1.5", ";k#~", "", "")),
+    ("dict", 0, NEAR, ("a=?0", ";k#~", "", "")),
 ];
 
 /// The most bytes of a text.
@@ -176,17 +204,35 @@ fn is_built_item(alloc: Global, parser: Parser<'_>, item: &Item) -> Option<bool>
     Some(built == *item)
 }
 
-/// Returns `true` if the parameters of the item have no unused memory.
-fn is_exact_item(item: &Item) -> bool {
-    item.params.capacity() == item.params.len()
+/// Returns `true` if the text or the byte sequence has no unused memory.
+fn is_exact_value(value: &BareItem) -> bool {
+    match value {
+        GenericBareItem::ByteSequence(bytes) => bytes.capacity() == bytes.len(),
+        GenericBareItem::DisplayString(text) => text.capacity() == text.len(),
+        _ => true,
+    }
 }
 
-/// Returns `true` if the parameters and the items of the member have no unused memory.
+/// Returns `true` if the parameters and their values have no unused memory.
+fn are_exact_params(params: &Parameters) -> bool {
+    let mut holds = params.capacity() == params.len();
+    for value in params.values() {
+        holds &= is_exact_value(value);
+    }
+    holds
+}
+
+/// Returns `true` if the item has no unused memory.
+fn is_exact_item(item: &Item) -> bool {
+    is_exact_value(&item.bare_item) && are_exact_params(&item.params)
+}
+
+/// Returns `true` if the member has no unused memory.
 fn is_exact_member(member: &ListEntry) -> bool {
     match member {
         ListEntry::Item(item) => is_exact_item(item),
         ListEntry::InnerList(list) => {
-            let mut holds = list.params.capacity() == list.params.len();
+            let mut holds = are_exact_params(&list.params);
             for item in list.items.iter() {
                 holds &= is_exact_item(item);
             }
@@ -198,9 +244,12 @@ fn is_exact_member(member: &ListEntry) -> bool {
 /// Returns `true` if a copy of the item and one of its parameters are equal to them, and have little unused memory.
 fn is_copied_item(alloc: Global, item: &Item) -> Option<bool> {
     let copy = item.clone().ok()?;
+    let again = copy.clone().ok()?;
     let params = inserted_params(alloc, &item.params)?;
-    let is_kept = is_exact_item(&copy) && params.capacity() == map_capacity(params.len());
-    Some(copy == *item && params == item.params && is_kept)
+    let is_kept = is_exact_item(&copy)
+        && is_exact_item(&again)
+        && params.capacity() == map_capacity(params.len());
+    Some(copy == *item && again == *item && params == item.params && is_kept)
 }
 
 /// Returns `true` if the parser reads this bare item, owned and borrowed, and a copy is equal to it.
@@ -262,7 +311,9 @@ fn are_copied(alloc: Global, list: &List) -> Option<bool> {
     let mut holds = true;
     for member in list.iter() {
         let copy = member.clone().ok()?;
+        let again = copy.clone().ok()?;
         holds &= copy == *member && is_exact_member(&copy);
+        holds &= again == *member && is_exact_member(&again);
         holds &= is_new_bare(alloc, copy);
     }
     Some(holds)

@@ -103,8 +103,9 @@ fn is_left_by_members(alloc: Global) -> bool {
     };
     let mut text = String::new(alloc);
     let mut serializer = ListSerializer::with_buffer_for(&mut text, Version::Rfc8941);
-    let is_refused = serializer.members(list.iter()) == Err(DATE);
-    let is_left = !serializer.has_member();
+    let mut members = list.iter();
+    let is_refused = serializer.members(&mut members) == Err(DATE);
+    let is_left = !serializer.has_member() && members.len() == 1;
     let is_written = serializer.members(list[..1].iter()) == Ok(());
     is_refused & is_left & is_written & (serializer.finish() == Some("1"))
 }

@@ -3,10 +3,11 @@
 use crate::common::{has_text, repeated};
 use linked_list_allocator::LocalHeap;
 use sfv::visitor::{Event, Visitor};
-use sfv::{BareItemFromInput, GenericBareItem, ParseError, Parser, StringFromInput};
+use sfv::{BareItemFromInput, GenericBareItem, ParseError, Parser, StringFromInput, Version};
 use std::alloc::{AllocError, Allocator, Global};
 use std::borrow::CowStr;
 use std::fmt::Write;
+use std::rc::Rc;
 use std::test::Fail;
 
 /// A visitor that writes each event into a text. Its error is out of memory.
@@ -242,4 +243,148 @@ fn want_of_memory_is_the_visitors_answer(rt: HostRuntime) {
         }
     }
     assert!(rt; was_out_of_memory && was_answered);
+}
+
+/// A visitor that fails at the event after `left` others, or in `finish`. It holds a value.
+#[derive(Drop)]
+struct Stopper {
+    left: usize,
+    held: Rc<u8>,
+}
+
+impl<'de> Visitor<'de> for Stopper {
+    ghost use Rattle.std.specs.Prelude.{⊤};
+
+    type Out = (usize, Rc<u8>);
+
+    type Error = AllocError;
+
+    ghost takes = { λ _ _ _. ⊤ };
+
+    ghost fails = { λ _ _ _. ⊤ };
+
+    ghost finishes = { λ _ _. ⊤ };
+
+    ghost finish_fails = { λ _ _. ⊤ };
+
+    ghost is_memory = { λ _. ⊤ };
+
+    fn event(&mut self, _event: Event<'de>) -> Result<(), AllocError> {
+        if self.left == 0 {
+            return Err(AllocError);
+        }
+        self.left -= 1;
+        Ok(())
+    }
+
+    fn finish(self) -> Result<(usize, Rc<u8>), AllocError> {
+        if self.left == 0 {
+            return Err(AllocError);
+        }
+        Ok((self.left, self.held))
+    }
+}
+
+/// Returns how many events a visitor could still receive, or `None` if it failed. The visitor fails after so many events.
+fn stops(
+    alloc: Global,
+    field: &str,
+    version: Version,
+    input: &str,
+    (left, held): (usize, &Rc<u8>),
+) -> Result<Option<usize>, Fail> {
+    let visitor = Stopper {
+        left,
+        held: held.clone()?,
+    };
+    let parser = Parser::new(input.as_bytes()).with_version(version);
+    let answer = match field {
+        "item" => parser.parse_item_with_visitor(alloc, visitor),
+        "list" => parser.parse_list_with_visitor(alloc, visitor),
+        _ => parser.parse_dictionary_with_visitor(alloc, visitor),
+    };
+    Ok(match answer {
+        Ok((left, _)) => Some(left),
+        Err(ParseError::Visitor(AllocError)) => None,
+        Err(ParseError::Syntax(_)) => Some(usize::MAX),
+    })
+}
+
+/// More than the events of a field.
+pub const MOST: usize = 1_000_000;
+
+/// Returns `true` if a visitor of this field may fail at each of its first 60 events, and in `finish`, and is dropped.
+pub fn stops_at_each_event(
+    alloc: Global,
+    field: &str,
+    version: Version,
+    input: &str,
+) -> Result<bool, Fail> {
+    let held = Rc::new(alloc, 1u8)?;
+    let left = stops(alloc, field, version, input, (MOST, &held))?.unwrap_or(0);
+    let events = MOST.saturating_sub(left);
+    let mut holds = stops(alloc, field, version, input, (events, &held))?.is_none();
+    for count in 0..events.min(60) {
+        holds &= stops(alloc, field, version, input, (count, &held))?.is_none();
+    }
+    Ok(holds && Rc::strong_count(&held) == 1)
+}
+
+/// Fields with escaped texts and byte sequences.
+const EVENTS: &[(&str, &str)] = &[
+    ("item", ":aGk=:"),
+    ("item", ":aGk=:;a;b=:aA==:;c=\"\\\\\""),
+    ("item", " a;b=c%;c=1 "),
+    ("list", ""),
+    ("list", ":aGk=:, (1 \"\\\\\";a;b=:aA==:);c=c%;d, (), a;b"),
+    ("list", "(:aGk=:;a b);a, \"\\\\\", 1.5;a=::"),
+    (
+        "dict",
+        "a=:aGk=:, b, c;d, e=(1 \"\\\\\";a;b=:aA==:);c=c%;d, f=(), g=a;b",
+    ),
+    ("dict", "a, b=:aGk=:"),
+];
+
+#[test]
+fn a_visitor_may_fail_at_each_event(rt: HostRuntime) -> Result<(), Fail> {
+    let mut holds = true;
+    for &(field, input) in EVENTS {
+        for &version in &[Version::Rfc8941, Version::Rfc9651] {
+            holds &= stops_at_each_event(rt.alloc(), field, version, input)?;
+        }
+    }
+    assert!(rt; holds);
+    Ok(())
+}
+
+/// Rejected fields with the number of the events before the error.
+const REJECTED: &[(&str, &str, usize)] = &[
+    ("item", "!", 0),
+    ("item", ":aGk=:;a;!", 2),
+    ("item", ":aGk=:;a !", 3),
+    ("list", ":aGk=:, ", 4),
+    ("list", ":aGk=:, (a", 9),
+    ("dict", "a=:aGk=:, b=!", 6),
+    ("dict", "a=:aGk=:, (", 4),
+];
+
+#[test]
+fn a_visitor_is_dropped_after_an_error(rt: HostRuntime) -> Result<(), Fail> {
+    let alloc = rt.alloc();
+    let held = Rc::new(alloc, 1u8)?;
+    let mut holds = true;
+    for &(field, input, count) in REJECTED {
+        for left in 0..count.saturating_add(3) {
+            let finishes = usize::from(input == ":aGk=:;a !");
+            let wanted = if left < count.saturating_add(finishes) {
+                None
+            } else {
+                Some(usize::MAX)
+            };
+            holds &= stops(alloc, field, Version::Rfc9651, input, (left, &held))? == wanted;
+            holds &= Rc::strong_count(&held) == 1;
+        }
+    }
+    assert!(rt; holds);
+    Ok(())
 }

@@ -20,10 +20,16 @@ pub fn has_text(text: Option<String>, wanted: &str) -> bool {
 
 /// Returns `true` if `Display` prints this text.
 pub fn prints<T: Display>(alloc: Global, value: &T, text: &str) -> bool {
-    match value.to_string(alloc) {
-        Ok(printed) => printed.as_str() == text,
-        Err(_) => false,
+    let Ok(printed) = format!(in alloc;
+        "{value}\n{value:>40}\n{value:<40}\n{value:+}\n{value:#}\n{value:.1}\n{value:040}"
+    ) else {
+        return false;
+    };
+    let mut holds = true;
+    for part in printed.as_str().split('\n') {
+        holds &= part == text;
     }
+    holds
 }
 
 /// Returns `true` if `Debug` prints this text.

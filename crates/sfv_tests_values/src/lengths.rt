@@ -16,7 +16,7 @@ use std::string::String as StdString;
 use std::test::Fail;
 
 /// The longest text that is printed.
-const LONGEST_PRINTED: usize = 2_000;
+const LONGEST_PRINTED: usize = 2_000_000;
 
 /// Returns the numbers below 300, and the powers of two up to 1,048,576 with their neighbours.
 fn lengths(alloc: Global) -> Result<Vec<usize>, AllocError> {
@@ -206,4 +206,119 @@ fn texts_of_each_length_are_copied_and_moved(rt: HostRuntime) -> Result<(), Fail
     }
     assert!(rt; holds);
     Ok(())
+}
+
+/// Returns the text with room for more.
+fn roomy(alloc: Global, text: &str) -> Result<StdString, AllocError> {
+    let mut copy = StdString::with_capacity(alloc, room_of(text.len()))?;
+    copy.push_str(text)?;
+    Ok(copy)
+}
+
+/// Returns `true` if strings, keys and tokens of this text are copied and moved, as far as it is of the class.
+fn are_texts_kept(alloc: Global, text: &str) -> Option<bool> {
+    let (len, all) = (text.len(), room_of(text.len()));
+    let mut holds = true;
+    if let Ok(string) = StringRef::from_str(text) {
+        let item = RefBareItem::from(string);
+        let borrowed = GenericBareItem::String(StringFromInput::Borrowed(string));
+        let owned = sfv::String::from_string(roomy(alloc, text).ok()?).ok()?;
+        let read = GenericBareItem::String(StringFromInput::Owned(owned));
+        let owned = sfv::String::from_string(roomy(alloc, text).ok()?).ok()?;
+        holds &= is_text_kept::<StringClass>(alloc, roomy(alloc, text).ok()?, "String")?
+            && is_copied(alloc, item, len)?
+            && is_read(alloc, borrowed, item, len, len)?
+            && is_read(alloc, read, item, len, all)?
+            && capacity_of(BareItem::from(owned)) == Some(all);
+    }
+    if let Ok(token) = TokenRef::from_str(text) {
+        let item = RefBareItem::from(token);
+        let owned = sfv::Token::from_string(roomy(alloc, text).ok()?).ok()?;
+        holds &= is_text_kept::<TokenClass>(alloc, roomy(alloc, text).ok()?, "Token")?
+            && is_copied(alloc, item, len)?
+            && is_read(alloc, BareItemFromInput::from(token), item, len, len)?
+            && capacity_of(BareItem::from(owned)) == Some(all);
+    }
+    if CheckedTextRef::<KeyClass>::from_str(text).is_ok() {
+        holds &= is_text_kept::<KeyClass>(alloc, roomy(alloc, text).ok()?, "Key")?;
+    }
+    let item = GenericBareItem::DisplayString(text);
+    let borrowed = GenericBareItem::DisplayString(CowStr::Borrowed(text));
+    let owned = GenericBareItem::DisplayString(CowStr::Owned(roomy(alloc, text).ok()?));
+    holds &= is_copied(alloc, item, len)?
+        && is_read(alloc, borrowed, item, len, len)?
+        && is_read(alloc, owned, item, len, all)?;
+    Some(holds)
+}
+
+/// Returns the bytes with room for more.
+fn roomy_bytes(alloc: Global, bytes: &[u8]) -> Result<Vec<u8>, AllocError> {
+    let mut copy = Vec::with_capacity(alloc, room_of(bytes.len()))?;
+    copy.extend_from_slice(bytes)?;
+    Ok(copy)
+}
+
+/// Returns `true` if a byte sequence of these bytes is copied and moved.
+fn are_these_bytes_kept(alloc: Global, bytes: &[u8]) -> Option<bool> {
+    let (len, all) = (bytes.len(), room_of(bytes.len()));
+    let item = RefBareItem::from(bytes);
+    let read = BareItemFromInput::from(roomy_bytes(alloc, bytes).ok()?);
+    let owned = BareItem::from(roomy_bytes(alloc, bytes).ok()?);
+    let empty = BareItem::from(Vec::new(alloc));
+    Some(
+        is_copied(alloc, item, len)?
+            && is_read(alloc, read, item, len, all)?
+            && capacity_of(owned) == Some(all)
+            && capacity_of(empty) == Some(0),
+    )
+}
+
+/// Letters of one to four bytes of UTF-8, with the first and last ones.
+const WIDE: &[char] = &[
+    '\u{80}',
+    '\u{7ff}',
+    '\u{800}',
+    '\u{feff}',
+    '\u{ffff}',
+    '\u{10000}',
+    '\u{10ffff}',
+];
+
+/// Returns the letter of this place: those of ASCII, and then the others.
+fn letter_at(place: usize) -> char {
+    match place.checked_sub(128) {
+        Some(place) => WIDE.get(place).copied().unwrap_or('a'),
+        None => char::from(u8::try_from(place).unwrap_or(b'a')),
+    }
+}
+
+// Each pair of letters, alone and with three letters between them.
+#[test]
+fn texts_of_each_two_letters_are_copied_and_moved(rt: HostRuntime) -> Result<(), Fail> {
+    let alloc = rt.alloc();
+    let mut holds = true;
+    for first in 0..135usize {
+        for last in 0..135usize {
+            for &between in &["", "aaa"] {
+                let mut text = StdString::new(alloc);
+                text.push(letter_at(first))?;
+                text.push_str(between)?;
+                text.push(letter_at(last))?;
+                holds &= are_texts_kept(alloc, text.as_str()) == Some(true);
+            }
+        }
+    }
+    assert!(rt; holds);
+    Ok(())
+}
+
+#[test]
+fn bytes_of_each_two_values_are_copied_and_moved(rt: HostRuntime) {
+    let mut holds = true;
+    for first in 0..=255u8 {
+        for last in 0..=255u8 {
+            holds &= are_these_bytes_kept(rt.alloc(), &[first, last]) == Some(true);
+        }
+    }
+    assert!(rt; holds);
 }

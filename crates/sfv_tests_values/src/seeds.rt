@@ -86,13 +86,18 @@ fn seeds_are_told_apart(rt: HostRuntime) {
 }
 
 #[test]
-fn all_seeds_are_shown_alike(rt: HostRuntime) {
+fn all_seeds_are_shown_alike(rt: HostRuntime) -> Result<(), Fail> {
     let alloc = rt.alloc();
-    let mut holds = is_shown(alloc, &HashSeed::default(), "HashSeed { .. }");
+    let default = HashSeed::default();
+    let shown = format!(in alloc; "{default:#?} {default:40?} {default:+.1?}")?;
+    let mut holds = is_shown(alloc, &default, "HashSeed { .. }");
     for place in 0..20 * 189 {
-        holds &= is_shown(alloc, &HashSeed::new(near_power(place)), "HashSeed { .. }");
+        let seed = HashSeed::new(near_power(place));
+        holds &= is_shown(alloc, &seed, "HashSeed { .. }");
+        holds &= format!(in alloc; "{seed:#?} {seed:40?} {seed:+.1?}")? == shown;
     }
     assert!(rt; holds);
+    Ok(())
 }
 
 /// Returns `true` if all maps of a parsed item and of its clone have that seed.

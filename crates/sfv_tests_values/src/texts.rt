@@ -222,3 +222,60 @@ fn texts_are_ordered_by_their_bytes_and_hash_by_them(rt: HostRuntime) {
         assert!(rt; is_ordered(rt.alloc(), a, b, order), "{a} {b}");
     }
 }
+
+/// Returns `true` if the texts of a class print the same with all options of a `Formatter`.
+fn is_printed_alike<C: TextClass>(alloc: Global, text: &str, name: &str) -> Option<bool> {
+    let borrowed = CheckedTextRef::<C>::from_str(text).ok()?;
+    let owned = borrowed.to_owned(alloc).ok()?;
+    let shown = format!(in alloc; "{name}({text:?}) {name}({text:?}) {name}({text:?})").ok()?;
+    let shown_ref = format!(in alloc;
+        "{name}Ref({text:?}) {name}Ref({text:?}) {name}Ref({text:?})"
+    ).ok()?;
+    let printed = format!(in alloc; "{text} {text} {text}").ok()?;
+    Some(
+        format!(in alloc; "{owned:#?} {owned:>40?} {owned:+.1?}").ok()? == shown
+            && format!(in alloc; "{borrowed:#?} {borrowed:>40?} {borrowed:+.1?}").ok()? == shown_ref
+            && format!(in alloc; "{owned:#} {owned:>40} {owned:+.1}").ok()? == printed
+            && format!(in alloc; "{borrowed:#} {borrowed:>40} {borrowed:+.1}").ok()? == printed,
+    )
+}
+
+#[test]
+fn texts_print_the_same_with_all_options(rt: HostRuntime) {
+    let alloc = rt.alloc();
+    let holds = is_printed_alike::<KeyClass>(alloc, "ab", "Key") == Some(true)
+        && is_printed_alike::<TokenClass>(alloc, "Ab", "Token") == Some(true)
+        && is_printed_alike::<StringClass>(alloc, "\"\\", "String") == Some(true);
+    assert!(rt; holds);
+}
+
+/// A writer that fails.
+#[derive(Drop)]
+struct Broken {
+    calls: usize,
+}
+
+impl std::fmt::Write for Broken {
+    fn write_str(&mut self, _s: &str) -> std::fmt::Result {
+        self.calls = self.calls.saturating_add(1);
+        Err(std::fmt::Error)
+    }
+}
+
+/// Returns `true` if the printing fails, and the writer is called once.
+fn fails_once<T: std::fmt::Display + std::fmt::Debug>(value: &T) -> bool {
+    let mut f = std::fmt::Formatter::new(Broken { calls: 0 });
+    let printed = std::fmt::Display::fmt(value, &mut f);
+    let calls = f.into_inner().calls;
+    let mut f = std::fmt::Formatter::new(Broken { calls: 0 });
+    let shown = std::fmt::Debug::fmt(value, &mut f);
+    printed.is_err() && shown.is_err() && calls == 1 && f.into_inner().calls == 1
+}
+
+#[test]
+fn prints_stop_at_the_error_of_the_writer(rt: HostRuntime) {
+    let key = key_ref("a");
+    assert!(rt; fails_once(&key));
+    assert!(rt; key.to_owned(rt.alloc()).is_ok_and(|key| fails_once(&key)));
+    assert!(rt; fails_once(&sfv::BareItemType::Date));
+}

@@ -1,4 +1,8 @@
-//! Numbers that a seed determines (the generator SplitMix64).
+//! Numbers and fields that a seed determines (the generator SplitMix64), and keys that collide under a hash seed.
+#![tactic(auto)]
+
+pub mod fields;
+pub mod keys;
 
 /// A source of numbers.
 #[derive(Clone, Copy)]
@@ -43,5 +47,27 @@ impl Random {
         } else {
             b'A' + place
         }
+    }
+
+    /// Returns a byte.
+    pub fn byte(&mut self) -> u8 {
+        (self.next() % 256) as u8
+    }
+
+    /// Returns a number below this one, or zero.
+    pub fn below(&mut self, most: usize) -> usize {
+        if most == 0 {
+            return 0;
+        }
+        (self.next() % (most as u64)) as usize
+    }
+
+    /// Returns a number below 2^`bits`. Small numbers are as frequent as great ones.
+    pub fn length(&mut self, bits: usize) -> usize {
+        let mut most = 1usize;
+        for _ in 0..self.below(bits.saturating_add(1)) {
+            most = most.saturating_mul(2);
+        }
+        self.below(most)
     }
 }
