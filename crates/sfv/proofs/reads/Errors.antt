@@ -65,6 +65,13 @@ ErrorOf-kept i j e n f same h = ErrorOf-fault (kept_input j) e (f (drop n (kept_
     (subst (λ (k : Parser × Global). IsFaultOf (kept_input k) e (f (drop n (kept_input k)))) same h)
 
 -- the whole is that part
+pub FaultOf-same : {A : Type 0} (i j : Parser × Global) (e : Error) (f : Version → Reader A) (t : List ℕ) (a : Answer A)
+    → i ≡ j → a ≡ f (kept_version j) t → IsFaultOf (kept_input i) e (f (kept_version i) t)
+    → IsFaultOf (kept_input j) e a
+FaultOf-same i j e f t a same eq h = rw eq (subst (λ (k : Parser
+    × Global). IsFaultOf (kept_input k) e (f (kept_version k) t)) same h)
+
+-- the whole is that part
 pub ErrorOf-same : {A : Type 0} (i j : Parser × Global) (e : Error) (f : Version → Reader A) (t : List ℕ) (a : Answer A)
     → i ≡ j → a ≡ f (kept_version j) t → IsErrorOf (kept_input i) e (f (kept_version i) t)
     → IsErrorOf (kept_input j) e a

@@ -1,11 +1,11 @@
 -- The inside of strings and display strings, after the opening quote. The flag is true for a display string.
 use Rattle.std.specs.Prelude.{◌*◌, ◌+◌, ◌≡◌, ⊤, ◌↔◌, ℕ, ◌<◌, Bool, true, false, not, ◌==◌, List, [], ◌∷◌, ◌++◌, length}
-use Rattle.std.specs.Prelude.{Result, Ok, Err, IsTrue, string_bytes}
+use Rattle.std.specs.Prelude.{◌⊎◌, Result, Ok, Err, IsOk, IsTrue, string_bytes}
 use Rattle.std.specs.declared.alloc.Global.{Global}
 use Rattle.std.specs.declared.vec.Vec.{Vec}
 use Rattle.std.specs.declared.string.String as std_string
 use Rattle.std.specs.declared.borrow.CowStr.{CowStr}
-use Rattle.sfv_spec.proofs.Marks.{percent_sign, backslash, double_quote}
+use Rattle.sfv_spec.proofs.Marks.{percent_sign, backslash, double_quote, colon, plain_of}
 use Rattle.sfv_spec.specs.Texts.{RunOf}
 use Rattle.sfv_spec.specs.Classes.{is_lower_hexadecimal}
 use Rattle.std.specs.Char.{digit_value as hexadecimal_value}
@@ -19,12 +19,13 @@ use Rattle.sfv_values.specs.declared.bare.GenericBareItem.{GenericBareItem}
 use Rattle.sfv_values.specs.declared.bare.GenericBareItem.TheVariants as bare
 use Rattle.sfv_values.specs.declared.bare.StringFromInput.{StringFromInput}
 use Rattle.sfv_values.specs.BareItems.{is_borrowed_string, is_borrowed_text}
-use Rattle.sfv_model.specs.Reader.{Answer, Reader}
+use Rattle.sfv_model.specs.Reader.{Answer, Reader, byte}
+use Rattle.sfv_model.specs.Content.{bytes_at}
 use Rattle.sfv_model.specs.Quoted.{after_bytes, string_from, outside, percent, digit, pieces_from}
 use Rattle.sfv.specs.declared.parser.cursor.Cursor.{Cursor}
 use Rattle.sfv.specs.declared.parser.quoted.QuotedBytes.{QuotedBytes}
 use Rattle.sfv.specs.declared.parser.quoted.QuotedBytes.TheVariants as quoted
-use Rattle.sfv.specs.parser.Cursor.{kept, input, rest, IsFaultOf}
+use Rattle.sfv.specs.parser.Cursor.{kept, input, rest, IsFaultOf, NextIs}
 
 -- the byte that opens an escape
 abbrev pub mark_of : Bool → ℕ
@@ -63,10 +64,20 @@ abbrev pub HasNoMark : Bool → Cursor → Cursor → Type 0
 HasNoMark display before after = (s : List ℕ) × (rest before ≡ s ++ rest after)
     × RunOf (λ c. not (c == mark_of display)) s
 
+-- after bytes that denote themselves, an escape begins
+abbrev pub HasEscape : Bool → List ℕ → Type 0
+HasEscape display t = (s : List ℕ) × (r : List ℕ) × (t ≡ s ++ r) × RunOf (plain_of display) s
+    × NextIs (byte (mark_of display)) true r
+
 -- the bytes of a string or display string up to its opening quote
 abbrev pub opening : Bool → List ℕ
 opening true = percent_sign ∷ double_quote ∷ []
 opening false = double_quote ∷ []
+
+-- a string or display string with an escape begins here, or a well-formed byte sequence
+abbrev pub MayAllocate : List ℕ → Type 0
+MayAllocate t = ((display : Bool) × (r : List ℕ) × (t ≡ opening display ++ r) × HasEscape display r)
+    ⊎ ((r : List ℕ) × (t ≡ colon ∷ r) × IsOk (bytes_at r))
 
 -- after the opening, `t` contains no escape before the rest `left`
 abbrev pub HasNoMarkUpTo : Bool → List ℕ → List ℕ → Type 0

@@ -1,16 +1,17 @@
 //! Parsing of bare items (RFC 9651, sections 4.2.3.1 and 4.2.5 to 4.2.10).
 
-ghost use Rattle.std.specs.Prelude.{◌≡◌, true, IfOk, IsTrue};
+ghost use Rattle.std.specs.Prelude.{◌≡◌, true, IfOk, IfErr, IsTrue};
 ghost use Rattle.sfv_spec.proofs.Marks.{double_quote, percent_sign, colon, question_mark, at_sign};
 ghost use Rattle.sfv_spec.specs.Values.{boolean, date};
 ghost use Rattle.sfv_spec.specs.declared.field_kind.FieldKind.TheVariants.{Item as item_field};
 ghost use Rattle.sfv_spec.specs.declared.version.Version.TheVariants.{Rfc9651};
+ghost use Rattle.sfv_base.specs.Errors.{out_of_memory};
 ghost use Rattle.sfv_base.specs.Numbers.{seconds_of};
 ghost use Rattle.sfv_values.specs.BareItems.{input_value, is_borrowed};
 ghost use Rattle.sfv_model.specs.Reader.{byte};
 ghost use Rattle.sfv_model.specs.Bare.{is_number_start, boolean_at, date_at, token_at, bare_at};
 ghost use Rattle.sfv.specs.parser.Cursor.{input, version, rest, Reads, ReadsOrOutOfMemory, NextIs, MayNeedMemory};
-ghost use Rattle.sfv.specs.parser.Quoted.{IsBorrowedUnlessEscaped};
+ghost use Rattle.sfv.specs.parser.Quoted.{IsBorrowedUnlessEscaped, MayAllocate};
 
 use crate::parser::cursor::Cursor;
 use crate::parser::digits::is_digit_byte;
@@ -51,7 +52,7 @@ impl<'de> Cursor<'de> {
     #[inline(never)]
     fn boolean_item(&mut self) -> Result<BareItemFromInput<'de>, Error>
         requires { NextIs (byte question_mark) true (rest self.old) }
-        ensures read { ReadsOrOutOfMemory input_value self.old self.new result (bare_at (version self.old)) }
+        ensures read { Reads input_value self.old self.new result (bare_at (version self.old)) }
         ensures borrowed { IfOk result (λ item. IsBorrowedUnlessEscaped item self.old self.new) }
         ensures memory { IfOk result (λ item. IsTrue (is_borrowed item) → MayNeedMemory item_field (input self.old)) }
     {
@@ -66,6 +67,7 @@ impl<'de> Cursor<'de> {
         ensures read { ReadsOrOutOfMemory input_value self.old self.new result (bare_at (version self.old)) }
         ensures borrowed { IfOk result (λ item. IsBorrowedUnlessEscaped item self.old self.new) }
         ensures memory { IfOk result (λ item. IsTrue (is_borrowed item) → MayNeedMemory item_field (input self.old)) }
+        ensures out_of_memory { IfErr result (λ e. e ≡ out_of_memory → MayAllocate (rest self.old)) }
     {
         self.skip();
         Ok(GenericBareItem::String(self.string()?))
@@ -77,6 +79,7 @@ impl<'de> Cursor<'de> {
         ensures read { ReadsOrOutOfMemory input_value self.old self.new result (bare_at (version self.old)) }
         ensures borrowed { IfOk result (λ item. IsBorrowedUnlessEscaped item self.old self.new) }
         ensures memory { IfOk result (λ item. IsTrue (is_borrowed item) → MayNeedMemory item_field (input self.old)) }
+        ensures out_of_memory { IfErr result (λ e. e ≡ out_of_memory → MayAllocate (rest self.old)) }
     {
         self.skip();
         Ok(GenericBareItem::ByteSequence(self.byte_sequence()?))
@@ -87,7 +90,7 @@ impl<'de> Cursor<'de> {
     #[tactic(auto, using(crate::proofs::reads::Steps::older_steps))]
     fn date_item(&mut self) -> Result<BareItemFromInput<'de>, Error>
         requires { NextIs (byte at_sign) true (rest self.old) }
-        ensures read { ReadsOrOutOfMemory input_value self.old self.new result (bare_at (version self.old)) }
+        ensures read { Reads input_value self.old self.new result (bare_at (version self.old)) }
         ensures borrowed { IfOk result (λ item. IsBorrowedUnlessEscaped item self.old self.new) }
         ensures memory { IfOk result (λ item. IsTrue (is_borrowed item) → MayNeedMemory item_field (input self.old)) }
     {
@@ -105,6 +108,7 @@ impl<'de> Cursor<'de> {
         ensures read { ReadsOrOutOfMemory input_value self.old self.new result (bare_at (version self.old)) }
         ensures borrowed { IfOk result (λ item. IsBorrowedUnlessEscaped item self.old self.new) }
         ensures memory { IfOk result (λ item. IsTrue (is_borrowed item) → MayNeedMemory item_field (input self.old)) }
+        ensures out_of_memory { IfErr result (λ e. e ≡ out_of_memory → MayAllocate (rest self.old)) }
     {
         match self.parser.version {
             Version::Rfc8941 => Err(self.error(ErrorKind::Rfc8941DisplayString)),
@@ -115,7 +119,7 @@ impl<'de> Cursor<'de> {
     #[inline(always)]
     fn number_item(&mut self) -> Result<BareItemFromInput<'de>, Error>
         requires { NextIs is_number_start true (rest self.old) }
-        ensures read { ReadsOrOutOfMemory input_value self.old self.new result (bare_at (version self.old)) }
+        ensures read { Reads input_value self.old self.new result (bare_at (version self.old)) }
         ensures borrowed { IfOk result (λ item. IsBorrowedUnlessEscaped item self.old self.new) }
         ensures memory { IfOk result (λ item. IsTrue (is_borrowed item) → MayNeedMemory item_field (input self.old)) }
     {
@@ -129,7 +133,7 @@ impl<'de> Cursor<'de> {
     #[inline(never)]
     fn token_item(&mut self) -> Result<BareItemFromInput<'de>, Error>
         requires { bare_at (version self.old) (rest self.old) ≡ token_at (rest self.old) }
-        ensures read { ReadsOrOutOfMemory input_value self.old self.new result (bare_at (version self.old)) }
+        ensures read { Reads input_value self.old self.new result (bare_at (version self.old)) }
         ensures borrowed { IfOk result (λ item. IsBorrowedUnlessEscaped item self.old self.new) }
         ensures memory { IfOk result (λ item. IsTrue (is_borrowed item) → MayNeedMemory item_field (input self.old)) }
     {
@@ -152,6 +156,7 @@ impl<'de> Cursor<'de> {
         ensures read { ReadsOrOutOfMemory input_value self.old self.new result (bare_at (version self.old)) }
         ensures borrowed { IfOk result (λ item. IsBorrowedUnlessEscaped item self.old self.new) }
         ensures memory { IfOk result (λ item. IsTrue (is_borrowed item) → MayNeedMemory item_field (input self.old)) }
+        ensures out_of_memory { IfErr result (λ e. e ≡ out_of_memory → MayAllocate (rest self.old)) }
     {
         // Each kind except a number is parsed in its own function, so a call reserves stack only for the kind it
         // parses.

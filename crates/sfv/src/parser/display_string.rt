@@ -1,13 +1,14 @@
 //! Parsing of display strings (RFC 9651, section 4.2.10).
 
-ghost use Rattle.std.specs.Prelude.{◌≡◌, ◌≤◌, ◌↔◌, ℕ, List, true, length, drop, IfOk, IsTrue, Ok};
+ghost use Rattle.std.specs.Prelude.{◌≡◌, ◌≤◌, ◌↔◌, ℕ, List, true, length, drop, IfOk, IfErr, IsTrue, Ok};
 ghost use Rattle.sfv_spec.proofs.Marks.{percent_sign};
 ghost use Rattle.sfv_spec.specs.declared.version.Version.TheVariants.{Rfc9651};
+ghost use Rattle.sfv_base.specs.Errors.{out_of_memory};
 ghost use Rattle.sfv_model.specs.Reader.{byte};
 ghost use Rattle.sfv_model.specs.Bare.{quoted_at};
 ghost use Rattle.sfv_model.specs.Quoted.{outside, pieces_from, after_pieces, display_at};
 ghost use Rattle.sfv.specs.parser.Cursor.{rest, ReadsOrOutOfMemory, NextIs};
-ghost use Rattle.sfv.specs.parser.Quoted.{HasNoMarkInside, GivesDisplayText};
+ghost use Rattle.sfv.specs.parser.Quoted.{HasNoMarkInside, MayAllocate, GivesDisplayText};
 ghost use Rattle.sfv.specs.parser.Values.{display_value_of, is_borrowed_text};
 
 use crate::parser::cursor::Cursor;
@@ -56,6 +57,7 @@ impl<'de> Cursor<'de> {
         ensures read { ReadsOrOutOfMemory display_value_of self.old self.new result (quoted_at Rfc9651) }
         ensures borrowed { IfOk result (λ text.
             IsTrue (is_borrowed_text text) ↔ HasNoMarkInside true self.old self.new) }
+        ensures out_of_memory { IfErr result (λ e. e ≡ out_of_memory → MayAllocate (rest self.old)) }
     {
         self.skip();
         if !self.take_if(b'"') {

@@ -1,12 +1,13 @@
 //! Parsing between two quotes: the inside of a string or a display string.
 
-ghost use Rattle.std.specs.Prelude.{◌≡◌, ◌++◌, ◌↔◌, Bool, true, false, IfOk, IfSome, IsTrue};
+ghost use Rattle.std.specs.Prelude.{◌≡◌, ◌++◌, ◌↔◌, Bool, true, false, IfOk, IfErr, IfSome, IsTrue};
 ghost use Rattle.sfv_spec.proofs.Marks.{double_quote, plain_of};
 ghost use Rattle.sfv_spec.specs.Texts.{RunOf};
+ghost use Rattle.sfv_base.specs.Errors.{out_of_memory};
 ghost use Rattle.sfv_model.specs.Reader.{Apart, byte};
 ghost use Rattle.sfv_model.specs.Quoted.{after_bytes};
 ghost use Rattle.sfv.specs.parser.Cursor.{input, kept, rest, IsFaultOf, ReadsOrOutOfMemory};
-ghost use Rattle.sfv.specs.parser.Quoted.{mark_of, end_error_of, inside, quoted_bytes, is_plain, HasNoMark};
+ghost use Rattle.sfv.specs.parser.Quoted.{mark_of, end_error_of, inside, quoted_bytes, is_plain, HasNoMark, HasEscape};
 ghost use Rattle.sfv.specs.parser.Quoted.{ReadsEscape, ReadsDigit, IsNextEscape};
 ghost use Rattle.sfv.specs.parser.Values.{vec_bytes};
 ghost use Rattle.sfv.specs.Memory.{HoldsMark};
@@ -189,6 +190,7 @@ impl<'de> Cursor<'de> {
         ensures read { ReadsOrOutOfMemory quoted_bytes self.old self.new result (inside Q.display) }
         ensures each { IfOk result (λ text. IsTrue (is_plain text) → RunOf (plain_of Q.display) (quoted_bytes text)) }
         ensures plain { IfOk result (λ text. IsTrue (is_plain text) ↔ HasNoMark Q.display self.old self.new) }
+        ensures out_of_memory { IfErr result (λ e. e ≡ out_of_memory → HasEscape Q.display (rest self.old)) }
     {
         let plain = Q::plain(self);
         if self.take_if(b'"') {

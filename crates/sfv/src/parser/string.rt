@@ -1,10 +1,11 @@
 //! Parsing of strings (RFC 9651, section 4.2.5).
 
-ghost use Rattle.std.specs.Prelude.{◌↔◌, false, IfOk, IsTrue};
+ghost use Rattle.std.specs.Prelude.{◌≡◌, ◌↔◌, false, IfOk, IfErr, IsTrue};
+ghost use Rattle.sfv_base.specs.Errors.{out_of_memory};
 ghost use Rattle.sfv_values.specs.BareItems.{read_text};
 ghost use Rattle.sfv_model.specs.Quoted.{string_at};
-ghost use Rattle.sfv.specs.parser.Cursor.{ReadsOrOutOfMemory};
-ghost use Rattle.sfv.specs.parser.Quoted.{HasNoMark};
+ghost use Rattle.sfv.specs.parser.Cursor.{rest, ReadsOrOutOfMemory};
+ghost use Rattle.sfv.specs.parser.Quoted.{HasNoMark, HasEscape};
 ghost use Rattle.sfv.specs.parser.Values.{is_borrowed_string};
 
 use crate::parser::cursor::Cursor;
@@ -21,6 +22,7 @@ impl<'de> Cursor<'de> {
     pub(super) fn string(&mut self) -> Result<StringFromInput<'de>, Error>
         ensures read { ReadsOrOutOfMemory read_text self.old self.new result string_at }
         ensures borrowed { IfOk result (λ text. IsTrue (is_borrowed_string text) ↔ HasNoMark false self.old self.new) }
+        ensures out_of_memory { IfErr result (λ e. e ≡ out_of_memory → HasEscape false (rest self.old)) }
     {
         // SAFETY: the bytes of a string are ASCII.
         match self.quoted_text::<InString>()? {
