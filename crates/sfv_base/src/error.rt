@@ -91,6 +91,7 @@ pub struct OutOfMemory;
 
 impl fmt::Display for OutOfMemory {
     ghost output = { λ _. Some (codes "out of memory") };
+
     ghost styled_output = { λ _ _. Some (codes "out of memory") };
 
     fn fmt<W: fmt::Write>(&self, f: &mut fmt::Formatter<W>) -> fmt::Result {

@@ -125,6 +125,7 @@ impl ErrorKind {
 
 impl fmt::Display for ErrorKind {
     ghost output = { λ kind. Some (message_of kind) };
+
     ghost styled_output = { λ kind _. Some (message_of kind) };
 
     fn fmt<W: fmt::Write>(&self, f: &mut fmt::Formatter<W>) -> fmt::Result {

@@ -27,6 +27,7 @@ impl Version {
 
 impl fmt::Display for Version {
     ghost output = { λ v. Some (version_text v) };
+
     ghost styled_output = { λ v _. Some (version_text v) };
 
     fn fmt<W: fmt::Write>(&self, f: &mut fmt::Formatter<W>) -> fmt::Result {

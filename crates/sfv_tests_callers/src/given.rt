@@ -4,17 +4,19 @@ ghost use Rattle.std.specs.Prelude.{⊤};
 
 use crate::common::has_text;
 use sfv::visitor::{
-    BareItemType, Event, ExpectItem, Ignored, ItemFault, MakeItemVisitor, NoMemoryError, Visitor,
-    item_visitor_with, parameter_visitor_with,
+    BareItemType, DictionaryBuilder, Event, ExpectItem, Ignored, ItemFault, MakeItemVisitor,
+    NoMemoryError, Visitor, item_visitor_with, parameter_visitor_with,
 };
 use sfv::{
-    BareItemFromInput, Date, Decimal, HashSeed, Integer, ParseError, Parser, TokenRef, integer,
-    key_ref, token_ref,
+    BareItemFromInput, Date, Decimal, Dictionary, HashSeed, Integer, ParseError, Parser, TokenRef,
+    integer, key_ref, token_ref,
 };
 use sfv_examples::expecting::{expect, string, token};
+use sfv_leaks::{Repeated, keeps_memory};
 use std::alloc::Global;
 use std::convert::Infallible;
 use std::fmt::Display;
+use std::test::Fail;
 
 #[test]
 fn ignored_fields_have_an_answer(rt: HostRuntime) {
@@ -24,6 +26,80 @@ fn ignored_fields_have_an_answer(rt: HostRuntime) {
     let more = Parser::new(b"a, b=(c;x)");
     let dictionary = more.parse_dictionary_with_visitor(alloc, Ignored::default());
     assert!(rt; item.is_ok() & list.is_ok() & dictionary.is_ok());
+}
+
+/// A field with decoded texts, which the visitor drops.
+#[derive(Drop)]
+struct Dropping {
+    visitor: &'static str,
+    field: &'static str,
+    input: &'static str,
+}
+
+// A visitor, a type of field, and a field.
+const DROPPED: &[(&str, &str, &str)] = &[
+    ("ignored", "item", "\"a\\\"b\";k=:aGk=:"),
+    ("ignored", "list", "(%\"%c3%bc\";k=:aGk=:), \"a\\\"b\""),
+    (
+        "ignored",
+        "dict",
+        "a;a_key_of_some_length=:aGk=:, b=(:aGk=:)",
+    ),
+    ("none", "item", ":aGk=:;k=\"a\\\"b\""),
+    ("none", "list", "(:aGk=:;k=%\"%c3%bc\"), \"a\\\"b\""),
+    ("none", "dict", "a;k=:aGk=:, b=(\"a\\\"b\")"),
+    ("date", "item", ":aGk=:"),
+    ("date", "item", "\"a\\\"b\""),
+    ("integer", "item", "%\"%c3%bc\";k=:aGk=:"),
+    ("misplaced", "dict", ":aGk=:"),
+];
+
+/// Passes the events of the field to the visitor. Returns whether all are accepted.
+fn are_taken<'a, V: Visitor<'a>>(alloc: Global, field: &str, input: &'a [u8], visitor: V) -> bool {
+    let parser = Parser::new(input);
+    match field {
+        "item" => parser.parse_item_with_visitor(alloc, visitor).is_ok(),
+        "list" => parser.parse_list_with_visitor(alloc, visitor).is_ok(),
+        _ => parser.parse_dictionary_with_visitor(alloc, visitor).is_ok(),
+    }
+}
+
+/// Passes a parameter to a builder without a member. Returns `true` if the builder ignores it.
+fn is_misplaced(alloc: Global, bytes: &[u8]) -> Option<bool> {
+    let dictionary = Parser::new(b"").parse::<Dictionary>(alloc).ok()?;
+    let value = BareItemFromInput::from(Vec::from_slice(alloc, bytes).ok()?);
+    let mut builder = DictionaryBuilder::new(dictionary);
+    let is_taken = builder.event(Event::Parameter(key_ref("k"), value)).is_ok();
+    let dictionary = builder.finish().ok()?;
+    Some(is_taken && dictionary.is_empty())
+}
+
+impl Repeated for Dropping {
+    fn repeat(&self, alloc: Global) -> bool {
+        let input = self.input.as_bytes();
+        match self.visitor {
+            "ignored" => are_taken(alloc, self.field, input, Ignored),
+            "none" => are_taken(alloc, self.field, input, None::<Ignored>),
+            "date" => expect::<Date>(alloc, input).is_err(),
+            "integer" => expect::<Integer>(alloc, input).is_err(),
+            _ => is_misplaced(alloc, input).unwrap_or(false),
+        }
+    }
+}
+
+#[test]
+fn dropped_texts_are_released(rt: HostRuntime) -> Result<(), Fail> {
+    let mut holds = true;
+    for &(visitor, field, input) in DROPPED {
+        let dropping = Dropping {
+            visitor,
+            field,
+            input,
+        };
+        holds &= keeps_memory(&rt, &dropping)?;
+    }
+    assert!(rt; holds);
+    Ok(())
 }
 
 #[test]

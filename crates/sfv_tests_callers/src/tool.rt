@@ -367,13 +367,19 @@ impl RandomSource for NoRandomBytes {
     }
 }
 
-/// A source of these bytes.
+/// A source that gives these bytes once, and then fails.
 #[derive(Drop)]
-struct Bytes([u8; 8]);
+struct Bytes {
+    bytes: [u8; 8],
+    is_taken: Cell<bool>,
+}
 
 impl RandomSource for Bytes {
     fn fill_bytes(&self, buf: &mut [u8]) -> io::Result<()> {
-        for (byte, &value) in buf.iter_mut().zip(self.0.iter()) {
+        if self.is_taken.replace(true) {
+            return Err(io::Error::from(ErrorKind::UnexpectedEof));
+        }
+        for (byte, &value) in buf.iter_mut().zip(self.bytes.iter()) {
             *byte = value;
         }
         Ok(())
@@ -492,7 +498,11 @@ fn each_field_takes_random_bytes(rt: HostRuntime) -> Result<(), Fail> {
 
 /// Returns `true` if the seed of these bytes is that of the number.
 fn is_seed_of(bytes: [u8; 8], number: u64) -> bool {
-    match random_seed(&Bytes(bytes)) {
+    let source = Bytes {
+        bytes,
+        is_taken: Cell::new(false),
+    };
+    match random_seed(&source) {
         Ok(seed) => {
             seed.build_hasher().finish() == HashSeed::new(number).build_hasher().finish()
         }

@@ -148,6 +148,13 @@ fn errors_of_a_reading_have_the_place_of_a_syntax_error_alone(rt: HostRuntime) {
 }
 
 #[test]
+fn options_do_not_reach_the_error_of_a_visitor(rt: HostRuntime) {
+    let alloc = rt.alloc();
+    let number: ParseError<u8> = ParseError::Visitor(7);
+    assert!(rt; prints(alloc, &ParseError::Visitor("over"), "over") & prints(alloc, &number, "7"));
+}
+
+#[test]
 fn want_of_memory_becomes_an_error_that_says_so(rt: HostRuntime) {
     let alloc = rt.alloc();
     let text = "out of memory";
@@ -176,7 +183,8 @@ const NAMES: &[(BareItemType, &str)] = &[
 fn kinds_of_items_print_their_name_alone_and_in_faults(rt: HostRuntime) -> Result<(), Fail> {
     let alloc = rt.alloc();
     let mut holds = prints(alloc, &ItemFault::NoItem, "no item")
-        & prints(alloc, &ItemFault::OutOfMemory, "out of memory");
+        & prints(alloc, &ItemFault::OutOfMemory, "out of memory")
+        & prints(alloc, &SerializeError::OutOfMemory, "out of memory");
     for &(expected, name) in NAMES {
         let text = format!(in alloc; "RFC 8941 does not support {name}s")?;
         holds &= prints(alloc, &expected, name);

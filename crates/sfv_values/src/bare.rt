@@ -149,6 +149,7 @@ impl BareItemType {
 
 impl fmt::Display for BareItemType {
     ghost output = { λ kind. Some (kind_text kind) };
+
     ghost styled_output = { λ kind _. Some (kind_text kind) };
 
     fn fmt<W: fmt::Write>(&self, f: &mut fmt::Formatter<W>) -> fmt::Result {

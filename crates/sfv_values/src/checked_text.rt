@@ -177,6 +177,7 @@ impl<C: TextClass> Clone for CheckedText<C> {
 
 impl<C: TextClass> fmt::Display for CheckedText<C> {
     ghost output = { λ t. Some t };
+
     ghost styled_output = { λ t _. Some t };
 
     fn fmt<W: fmt::Write>(&self, f: &mut fmt::Formatter<W>) -> fmt::Result {

@@ -163,6 +163,7 @@ impl<C: TextClass> fmt::Display for CheckedTextRef<'_, C> {
     ghost use Rattle.sfv_values.specs.CheckedTexts.{text_of};
 
     ghost output = { λ t. Some (text_of t) };
+
     ghost styled_output = { λ t _. Some (text_of t) };
 
     fn fmt<W: fmt::Write>(&self, f: &mut fmt::Formatter<W>) -> fmt::Result {
