@@ -55,7 +55,9 @@ const DROPPED: &[(&str, &str, &str)] = &[
 ];
 
 /// Passes the events of the field to the visitor. Returns whether all are accepted.
-fn are_taken<'a, V: Visitor<'a>>(alloc: Global, field: &str, input: &'a [u8], visitor: V) -> bool {
+fn are_taken<'a, V: Visitor<'a>>(alloc: Global, field: &str, input: &'a [u8], visitor: V) -> bool
+    requires { V.is_ready visitor }
+{
     let parser = Parser::new(input);
     match field {
         "item" => parser.parse_item_with_visitor(alloc, visitor).is_ok(),
