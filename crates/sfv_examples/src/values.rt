@@ -1,12 +1,14 @@
 //! Values: the ends of their ranges, their conversions, their clones, and their comparisons.
 
-ghost use Rattle.std.specs.Prelude.{◌≡◌, ◌↔◌, [], pos, neg_ℤ, IfOk, IsTrue};
+ghost use Rattle.std.specs.Prelude.{◌≡◌, ◌↔◌, [], false, pos, neg_ℤ, IfOk, IfErr, IsTrue};
 ghost use Rattle.std.specs.Cmp.Lexicographic.{slice_cmp};
 ghost use Rattle.std.specs.Ordering.{nat_cmp, int_cmp};
 ghost use Rattle.sfv.specs.NumberValues.{integer_of, thousandths_of, seconds_of};
-ghost use Rattle.sfv.specs.BareItems.{bare_value, ref_value, input_value, read_text};
+ghost use Rattle.sfv.specs.BareItems.{bare_value, ref_value, input_value, read_text, is_borrowed_string};
 ghost use Rattle.sfv.specs.CheckedTexts.{text_of};
-ghost use Rattle.sfv.specs.Trees.{item_tree};
+ghost use Rattle.sfv.specs.Maps.{hasher_of};
+ghost use Rattle.sfv.specs.Trees.{item_tree, NeedsNoMemory};
+ghost use Rattle.sfv.specs.Values as values;
 ghost use Rattle.sfv.specs.Values.{integer};
 
 use sfv::{
@@ -94,20 +96,24 @@ pub fn copy_of_read<'a>(item: &BareItemFromInput<'a>) -> Result<BareItemFromInpu
 ///
 /// # Errors
 ///
-/// Returns `AllocError` if memory runs out.
+/// Returns `AllocError` if memory runs out. The clone of a borrowed string requests none.
 pub fn copy_of_string<'a>(text: &StringFromInput<'a>) -> Result<StringFromInput<'a>, AllocError>
-    ensures { IfOk result (λ copy. copy ≡ text.now) }
+    ensures value { IfOk result (λ copy. copy ≡ text.now) }
+    ensures out_of_memory { IfErr result (λ _. is_borrowed_string text.now ≡ false) }
 {
     text.clone()
 }
 
-/// A clone of an item has the same value and parameters.
+/// A clone of an item has the same value and parameters, under the same hash seed.
 ///
 /// # Errors
 ///
-/// Returns `AllocError` if memory runs out.
+/// Returns `AllocError` if memory runs out. The clone of a number, a boolean or an empty text without parameters requests
+/// none.
 pub fn copy_of_item(item: &Item) -> Result<Item, AllocError>
-    ensures { IfOk result (λ copy. item_tree copy ≡ item_tree item.now) }
+    ensures value { IfOk result (λ copy. item_tree copy ≡ item_tree item.now) }
+    ensures seed { IfOk result (λ copy. hasher_of copy.params ≡ hasher_of item.now.params) }
+    ensures out_of_memory { IfErr result (λ _. ¬ NeedsNoMemory (values.item (item_tree item.now))) }
 {
     item.clone()
 }

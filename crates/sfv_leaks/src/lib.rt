@@ -9,9 +9,6 @@ use std::{fs, io};
 /// How often a call is made. If it leaves a block each time, these take up 320,000 bytes, or 78 pages, at least.
 const TIMES: usize = 10_000;
 
-/// How often it is made first, which leaves free blocks for the other calls.
-const FIRST: usize = 1_000;
-
 /// How many pages more a process may have after the calls. The C library requests 33 pages at a time.
 const SPARE: usize = 40;
 
@@ -39,9 +36,20 @@ fn pages(rt: &HostRuntime) -> io::Result<usize> {
 
 /// Returns `true` if the call always succeeds, and loses no memory.
 pub fn keeps_memory<C: Repeated>(rt: &HostRuntime, call: &C) -> io::Result<bool> {
-    let succeeds = repeat(rt.alloc(), call, FIRST);
+    keeps_memory_of(rt, call, TIMES)
+}
+
+/// Returns `true` if the call always succeeds, and loses no memory when it is made so many times. The blocks that it would
+/// lose have to take up more than 73 pages in all.
+pub fn keeps_memory_of<C: Repeated>(
+    rt: &HostRuntime,
+    call: &C,
+    times: usize,
+) -> io::Result<bool> {
+    // The first calls leave free blocks for the others.
+    let succeeds = repeat(rt.alloc(), call, times / 10);
     let before = pages(rt)?;
-    let succeeds = succeeds && repeat(rt.alloc(), call, TIMES);
+    let succeeds = succeeds && repeat(rt.alloc(), call, times);
     let after = pages(rt)?;
     Ok(succeeds && before > 0 && after <= before.saturating_add(SPARE))
 }

@@ -2,7 +2,7 @@
 
 use crate::common::{has_text, is_tight, ladder};
 use sfv_http_fields::content_digest::{ContentDigest, DigestError, read, reread, write};
-use std::alloc::Global;
+use std::alloc::{AllocError, Global};
 use std::test::Fail;
 
 // Both digests of a content (RFC 9530, section 2), after an earlier one and another algorithm.
@@ -74,7 +74,7 @@ fn digests_are_written(rt: HostRuntime) {
 }
 
 /// Returns so many bytes, or none.
-fn bytes(alloc: Global, length: Option<usize>) -> Result<Option<Vec<u8>>, Fail> {
+fn bytes(alloc: Global, length: Option<usize>) -> Result<Option<Vec<u8>>, AllocError> {
     match length {
         Some(length) => Ok(Some(vec![in alloc; 171; length]?)),
         None => Ok(None),
@@ -90,7 +90,11 @@ fn is_same(digest: &Option<Vec<u8>>, again: &Option<Vec<u8>>) -> bool {
 }
 
 /// Returns `true` if digests of these lengths are written, and parse back.
-fn come_back(alloc: Global, sha_256: Option<usize>, sha_512: Option<usize>) -> Result<bool, Fail> {
+pub fn come_back(
+    alloc: Global,
+    sha_256: Option<usize>,
+    sha_512: Option<usize>,
+) -> Result<bool, AllocError> {
     let digest = ContentDigest {
         sha_256: bytes(alloc, sha_256)?,
         sha_512: bytes(alloc, sha_512)?,

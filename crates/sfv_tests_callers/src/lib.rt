@@ -22,6 +22,8 @@ mod readers;
 #[cfg(test)]
 mod reading;
 #[cfg(test)]
+mod released;
+#[cfg(test)]
 mod requests;
 #[cfg(test)]
 mod seeds;

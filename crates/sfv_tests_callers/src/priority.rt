@@ -24,7 +24,7 @@ fn is_written(alloc: Global, priority: Priority, line: &str) -> bool {
 }
 
 /// Returns `true` if the input has this urgency and flag, with and without a tree, and is written as this text.
-fn is_read_and_written(alloc: Global, input: &str, wanted: (u8, bool), line: &str) -> bool {
+pub fn is_read_and_written(alloc: Global, input: &str, wanted: (u8, bool), line: &str) -> bool {
     match read_priority(alloc, input.as_bytes(), Version::Rfc9651) {
         Ok(priority) => {
             (priority.urgency, priority.incremental) == wanted
@@ -53,7 +53,7 @@ fn is_answered(alloc: Global, version: Version, text: &str) -> bool {
 
 /// Returns `true` if the priority is written as this text, which keeps little unused memory. The text parses to the
 /// priority, and the program returns it, under both versions.
-fn is_written_and_read(alloc: Global, urgency: u8, incremental: bool, wanted: &str) -> bool {
+pub fn is_written_and_read(alloc: Global, urgency: u8, incremental: bool, wanted: &str) -> bool {
     if urgency > 7 {
         return false;
     }

@@ -115,7 +115,7 @@ fn members_are_written(rt: HostRuntime) {
 
 /// Returns `true` if the member of this name is written, and parses back to the same name, which borrows the text unless
 /// it has an escape there.
-fn comes_back(alloc: Global, name: &Name<'_>, wanted: &str, status: u16) -> bool {
+pub fn comes_back(alloc: Global, name: &Name<'_>, wanted: &str, status: u16) -> bool {
     if status < 100 || status > 599 {
         return false;
     }

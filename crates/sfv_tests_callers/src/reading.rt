@@ -23,7 +23,7 @@ use sfv_first_field::mobile_hint::{HintError, is_mobile};
 use sfv_http_fields::cache_status::last_hit;
 use sfv_http_fields::content_digest::{DigestError, read};
 use sfv_http_fields::proxy_status::reading::last_proxy;
-use sfv_leaks::{Repeated, keeps_memory};
+use sfv_leaks::{Repeated, keeps_memory_of};
 use sfv_random::Random;
 use std::alloc::Global;
 use std::test::Fail;
@@ -206,6 +206,9 @@ const FIELDS: &[(&str, &str, &str, &str, &str, usize, Fault)] = &[
     ("item", "\"\\\\\";k b", "b", "", "", 1 << 17, Fault::First(ErrorKind::TrailingCharactersAfterParsedValue, 7)),
     ("item", "\"\\\\", "a", "", "\u{7f}\"", 1 << 17, Fault::Last(ErrorKind::InvalidStringCharacter, 2)),
     ("item", "%\"%c3%bc", "a", "", "%zz\"", 1 << 17, Fault::Last(ErrorKind::InvalidEscapeSequence, 3)),
+    ("item", "\"\\\\\"", ";k#=:aGk=:;k=\"\\\\\"", "", " !", 1 << 10, Fault::Last(ErrorKind::TrailingCharactersAfterParsedValue, 1)),
+    ("item", ":aGk=:", ";k#=%\"%c3%bc\"", "", " ", 1 << 10, Fault::None),
+    ("item", "\"\\\\", "a", "", "", 1 << 17, Fault::Last(ErrorKind::UnterminatedString, 0)),
     ("list", "", "a", "", "", 1 << 21, Fault::None),
     ("list", "(\"", "a", "", "\")", 1 << 17, Fault::None),
     ("list", "\"\\\\", "a", "", "\"", 1 << 17, Fault::None),
@@ -221,6 +224,12 @@ const FIELDS: &[(&str, &str, &str, &str, &str, usize, Fault)] = &[
     ("list", "a", "a", "", ",", 1 << 17, Fault::Last(ErrorKind::TrailingComma, 1)),
     ("list", "(a", "a", "", "", 1 << 17, Fault::Last(ErrorKind::UnterminatedInnerList, 0)),
     ("list", "(a", "a", "", ",", 1 << 17, Fault::Last(ErrorKind::ExpectedInnerListDelimiter, 1)),
+    ("list", "()", ", ()", "", "", 1 << 10, Fault::None),
+    ("list", "", "\"\\\\\";k#=:aGk=:;hit=%\"%c3%bc\";fwd=\"\\\\\";ttl=:aGk=:;error=:aGk=:;received-status=\"\\\\\"", ",", "", 1 << 10, Fault::None),
+    ("list", "", "(:aGk=:;k#=\"\\\\\" %\"%c3%bc\" \"\\\\\";k=:aGk=: 5);hit=:aGk=:;k=\"\\\\\"", ", ", "", 1 << 10, Fault::None),
+    ("list", "b", ", %\"%c3%bc\", :aGk=:;a_key_of_25_bytes_in_all_#=\"\\\\\", ExampleCache;hit;key=\"\\\\\"", "", ",", 1 << 10, Fault::Last(ErrorKind::TrailingComma, 1)),
+    ("list", "\"\\\\\", (", "\"\\\\\";k#=:aGk=:", " ", " !", 1 << 10, Fault::Last(ErrorKind::ExpectedStartOfBareItem, 1)),
+    ("list", "1", ", (\"\\\\\" :aGk=:);k#=:aGk=:", "", ";k=!", 1 << 10, Fault::Last(ErrorKind::ExpectedStartOfBareItem, 1)),
     ("dict", "", "a", "", "", 1 << 21, Fault::None),
     ("dict", "sha-256=\"", "a", "", "\"", 1 << 17, Fault::None),
     ("dict", "sha-512=:aGk=:, max-age=\"\\\\", "a", "", "\"", 1 << 17, Fault::None),
@@ -239,6 +248,10 @@ const FIELDS: &[(&str, &str, &str, &str, &str, usize, Fault)] = &[
     ("dict", "a", "a", "", ",", 1 << 17, Fault::Last(ErrorKind::TrailingComma, 1)),
     ("dict", "a", "a", "", "=", 1 << 17, Fault::Last(ErrorKind::ExpectedStartOfBareItem, 0)),
     ("dict", "a=(a", "a", "", "", 1 << 17, Fault::Last(ErrorKind::UnterminatedInnerList, 0)),
+    ("dict", "", "u=:aGk=:, i=\"\\\\\", color=:aGk=:;strong=\"\\\\\", max-age=\"\\\\\";k#=:aGk=:, sha-256=:aGk=:, sha-512=:aGk=:", ",", "", 1 << 10, Fault::None),
+    ("dict", "k0=\"\\\\\";k0=:aGk=:", ", u=%\"%c3%bc\";k#=\"\\\\\", i=(:aGk=:;k=%\"%c3%bc\");k=\"\\\\\", max-age=(1;k=\"\\\\\");k=:aGk=:, color=(1), sha-512=\"\\\\\"", "", "", 1 << 10, Fault::None),
+    ("dict", "sha-512=:aGk=:, sha-256=\"\\\\\", a=(", "\"\\\\\";k#=:aGk=:", " ", " !", 1 << 10, Fault::Last(ErrorKind::ExpectedStartOfBareItem, 1)),
+    ("dict", "b", ", k#=\"\\\\\";a=:aGk=:, sha-512=:aGk=:, sha-512=1", "", ",", 1 << 10, Fault::Last(ErrorKind::TrailingComma, 1)),
 ];
 
 /// Returns `true` if the fields of this type are read: of every length below 2,200, or with each number of parts below
@@ -294,20 +307,32 @@ impl Repeated for Reading<'_> {
     }
 }
 
-/// Returns `true` if no memory is lost by the fields of this type, with two and with more parts or bytes.
-fn are_released(rt: &HostRuntime, wanted: &str) -> Result<bool, Fail> {
+/// Numbers of parts, or of bytes after the first part, under a version.
+const RELEASED: &[(usize, usize, Version)] = &[
+    (0, 0, Version::Rfc9651),
+    (1, 2, Version::Rfc8941),
+    (2, 1, Version::Rfc9651),
+    (9, 33, Version::Rfc9651),
+    (17, 5_000, Version::Rfc9651),
+];
+
+/// Returns `true` if no memory is lost by the fields of this type, with few and with more parts or bytes: by those that
+/// have a byte sequence in each part, or by the others.
+fn are_released(rt: &HostRuntime, wanted: &str, has_bytes: bool) -> Result<bool, Fail> {
     let mut holds = true;
     for &(field, begin, part, separator, end, _, fault) in FIELDS {
-        if field != wanted {
+        if field != wanted || part.contains(':') != has_bytes {
             continue;
         }
-        let more = [12, 100][usize::from(part.len() == 1 && separator.is_empty())];
+        let fills = part.len() == 1 && separator.is_empty();
         let is_newer = begin.contains('@') || begin.contains('%') || part.contains('%');
-        for &(size, version) in &[
-            (2, Version::Rfc8941),
-            (2, Version::Rfc9651),
-            (more, Version::Rfc9651),
-        ] {
+        for &(parts, bytes, version) in RELEASED {
+            let frame = begin.len().saturating_add(end.len());
+            let size = if fills {
+                bytes.saturating_add(frame)
+            } else {
+                parts
+            };
             let text = of_size(rt.alloc(), (begin, part, separator, end), size)?;
             let (input, error) = (text.as_str().as_bytes(), error_at(fault, text.len()));
             let reading = Reading {
@@ -316,8 +341,10 @@ fn are_released(rt: &HostRuntime, wanted: &str) -> Result<bool, Fail> {
                 input,
                 error,
             };
+            // Long fields are read less often.
+            let times = if text.len() <= 400 { 10_000 } else { 200 };
             let is_lacking = is_newer && version == Version::Rfc8941;
-            holds &= is_lacking || keeps_memory(rt, &reading)?;
+            holds &= is_lacking || keeps_memory_of(rt, &reading, times)?;
         }
     }
     Ok(holds)
@@ -325,19 +352,31 @@ fn are_released(rt: &HostRuntime, wanted: &str) -> Result<bool, Fail> {
 
 #[test]
 fn items_are_released(rt: HostRuntime) -> Result<(), Fail> {
-    assert!(rt; are_released(&rt, "item")?);
+    assert!(rt; are_released(&rt, "item", false)? && are_released(&rt, "item", true)?);
     Ok(())
 }
 
 #[test]
 fn lists_are_released(rt: HostRuntime) -> Result<(), Fail> {
-    assert!(rt; are_released(&rt, "list")?);
+    assert!(rt; are_released(&rt, "list", false)?);
+    Ok(())
+}
+
+#[test]
+fn lists_of_bytes_are_released(rt: HostRuntime) -> Result<(), Fail> {
+    assert!(rt; are_released(&rt, "list", true)?);
     Ok(())
 }
 
 #[test]
 fn dictionaries_are_released(rt: HostRuntime) -> Result<(), Fail> {
-    assert!(rt; are_released(&rt, "dict")?);
+    assert!(rt; are_released(&rt, "dict", false)?);
+    Ok(())
+}
+
+#[test]
+fn dictionaries_of_bytes_are_released(rt: HostRuntime) -> Result<(), Fail> {
+    assert!(rt; are_released(&rt, "dict", true)?);
     Ok(())
 }
 

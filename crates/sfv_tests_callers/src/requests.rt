@@ -11,7 +11,7 @@ use std::test::Fail;
 const ROOM: [HeaderSpan; 4] = [EMPTY_HEADER_SPAN; 4];
 
 // Returns `true` if the request has this urgency and flag under both versions.
-fn has_priority(alloc: Global, input: &[u8], wanted: (u8, bool)) -> bool {
+pub fn has_priority(alloc: Global, input: &[u8], wanted: (u8, bool)) -> bool {
     let (mut holds, mut headers) = (true, ROOM);
     for &version in &[Version::Rfc8941, Version::Rfc9651] {
         holds &= match request_priority(alloc, version, input, &mut headers) {
@@ -49,7 +49,7 @@ fn requests_have_their_priority(rt: HostRuntime) {
 
 // Returns `true` if the field of the request has an error of this kind at this index of the joined text, under both
 // versions.
-fn has_fault(alloc: Global, input: &[u8], kind: ErrorKind, index: usize) -> bool {
+pub fn has_fault(alloc: Global, input: &[u8], kind: ErrorKind, index: usize) -> bool {
     let (mut holds, mut headers) = (true, ROOM);
     let fault = RequestFault::Field(Error::at(kind, index));
     for &version in &[Version::Rfc8941, Version::Rfc9651] {
@@ -83,7 +83,7 @@ fn fields_have_their_fault(rt: HostRuntime) {
 }
 
 /// Returns `true` if the field of this name is complete, and its text keeps little unused memory.
-fn is_field(alloc: Global, name: &str, head: &str, lines: usize, expected: &str) -> bool {
+pub fn is_field(alloc: Global, name: &str, head: &str, lines: usize, expected: &str) -> bool {
     let Ok(mut headers) = vec![in alloc; EMPTY_HEADER_SPAN; lines] else {
         return false;
     };

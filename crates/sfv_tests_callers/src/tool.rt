@@ -103,12 +103,12 @@ fn ends(alloc: Global, args: &str, input: &str, wanted: (&str, &str, u8)) -> boo
 }
 
 /// Returns `true` if a run over memory writes this output and no error.
-fn writes(alloc: Global, args: &str, input: &str, output: &str) -> bool {
+pub fn writes(alloc: Global, args: &str, input: &str, output: &str) -> bool {
     ends(alloc, args, input, (output, "", 0))
 }
 
 /// Returns `true` if a run over memory writes this error and no output.
-fn fails(alloc: Global, args: &str, input: &str, error: &str) -> bool {
+pub fn fails(alloc: Global, args: &str, input: &str, error: &str) -> bool {
     ends(alloc, args, input, ("", error, 1))
 }
 
