@@ -73,10 +73,10 @@ fn digests_are_written(rt: HostRuntime) {
     assert!(rt; matches!(write(rt.alloc(), &NONE), Ok(None)));
 }
 
-/// Returns so many bytes, or none.
+/// Returns so many equal bytes, or none.
 fn bytes(alloc: Global, length: Option<usize>) -> Result<Option<Vec<u8>>, AllocError> {
     match length {
-        Some(length) => Ok(Some(vec![in alloc; 171; length]?)),
+        Some(length) => Ok(Some(vec![in alloc; (length % 256) as u8; length]?)),
         None => Ok(None),
     }
 }
@@ -116,6 +116,7 @@ fn digests_of_every_length_come_back(rt: HostRuntime) -> Result<(), Fail> {
     for &length in ladder(alloc, 2_200, 1 << 17)?.iter() {
         holds &= come_back(alloc, Some(length), None)?
             & come_back(alloc, None, Some(length))?
+            & come_back(alloc, Some(length), Some(length))?
             & come_back(alloc, Some(length / 2), Some(length))?;
     }
     assert!(rt; holds);

@@ -51,7 +51,16 @@ const DROPPED: &[(&str, &str, &str)] = &[
     ("date", "item", ":aGk=:"),
     ("date", "item", "\"a\\\"b\""),
     ("integer", "item", "%\"%c3%bc\";k=:aGk=:"),
+    ("boolean", "item", "\"a\\\"b\";k=:aGk=:"),
+    ("token", "item", ":aGk=:;k=:aGk=:"),
     ("misplaced", "dict", ":aGk=:"),
+    ("incomplete", "dict", "a=\"a\\\"b\""),
+    (
+        "incomplete",
+        "dict",
+        "a,b,c,d,e,f,g,h,i,j,k,l,m,n,o,p,q,r;s=:aGk=:",
+    ),
+    ("uncalled", "item", "a text of 26 bytes in a box"),
 ];
 
 /// Passes the events of the field to the visitor. Returns whether all are accepted.
@@ -76,6 +85,37 @@ fn is_misplaced(alloc: Global, bytes: &[u8]) -> Option<bool> {
     Some(is_taken && dictionary.is_empty())
 }
 
+/// Passes a part of a further member to a builder. Returns `true` if the builder leaves this member out.
+fn is_incomplete(alloc: Global, input: &[u8]) -> Option<bool> {
+    let dictionary = Parser::new(input).parse::<Dictionary>(alloc).ok()?;
+    let value = BareItemFromInput::from(Vec::from_slice(alloc, input).ok()?);
+    let count = dictionary.len();
+    let mut builder = DictionaryBuilder::new(dictionary);
+    let is_taken = builder.event(Event::KeyedEntry(key_ref("a-key"))).is_ok()
+        & builder.event(Event::Item).is_ok()
+        & builder.event(Event::BareItem(value)).is_ok();
+    let dictionary = builder.finish().ok()?;
+    Some(is_taken && dictionary.len() == count)
+}
+
+/// Ends a visitor before it calls its function, which owns two texts.
+fn is_uncalled(alloc: Global, text: &str) -> Option<bool> {
+    let first = String::from_str(alloc, text).ok()?;
+    let second = String::from_str(alloc, text).ok()?;
+    let visitor = item_visitor_with(
+        move |item: BareItemFromInput<'_>|
+            ensures { ⊤ }
+        {
+            if first.len() == second.len() {
+                integer_of(item)
+            } else {
+                Err(ItemFault::NoItem)
+            }
+        },
+    );
+    Some(visitor.finish() == Ok(None))
+}
+
 impl Repeated for Dropping {
     fn repeat(&self, alloc: Global) -> bool {
         let input = self.input.as_bytes();
@@ -84,6 +124,10 @@ impl Repeated for Dropping {
             "none" => are_taken(alloc, self.field, input, None::<Ignored>),
             "date" => expect::<Date>(alloc, input).is_err(),
             "integer" => expect::<Integer>(alloc, input).is_err(),
+            "boolean" => expect::<bool>(alloc, input).is_err(),
+            "token" => token(alloc, input).is_err(),
+            "incomplete" => is_incomplete(alloc, input).unwrap_or(false),
+            "uncalled" => is_uncalled(alloc, self.input).unwrap_or(false),
             _ => is_misplaced(alloc, input).unwrap_or(false),
         }
     }

@@ -180,16 +180,19 @@ fn two(alloc: Global) -> ListEntry {
     ListEntry::from(Item::new(alloc, GenericBareItem::Integer(integer(2))))
 }
 
-/// Returns `true` if a member is replaced in its place, another one removed, and an absent one neither.
+/// Returns `true` if a member is replaced in its place, another one removed, and an absent one neither. The dictionary
+/// gets no more capacity.
 fn is_changed(alloc: Global, count: usize) -> Result<bool, Fail> {
     let text = of_size(alloc, ("a=1, b=1", ", k#", "", ""), count)?;
     let mut members = Parser::new(text.as_str().as_bytes()).parse::<Dictionary>(alloc)?;
+    let capacity = members.capacity();
     let is_replaced = replace_member(&mut members, key_ref("b"), two(alloc))
         & !replace_member(&mut members, key_ref("d"), two(alloc));
     let is_removed = remove_member(&mut members, key_ref("a")).is_some()
         & remove_member(&mut members, key_ref("d")).is_none();
+    let is_kept = members.capacity() <= capacity;
     let wanted = of_size(alloc, ("b=2", ", k#", "", ""), count)?;
-    Ok(is_replaced & is_removed & has_text(members.serialize(alloc)?, wanted.as_str()))
+    Ok(is_replaced & is_removed & is_kept & has_text(members.serialize(alloc)?, wanted.as_str()))
 }
 
 #[test]
@@ -214,6 +217,33 @@ fn members_are_visited(rt: HostRuntime) -> Result<(), Fail> {
     }
     assert!(rt; holds);
     Ok(())
+}
+
+/// Returns `true` if `each_key` passes these keys, in their order.
+fn are_passed(alloc: Global, input: &str, keys: &[&str]) -> bool {
+    let (mut place, mut holds) = (0usize, true);
+    let visit = |key: &str| {
+        holds &= keys.get(place) == Some(&key);
+        place = place.saturating_add(1);
+    };
+    let is_visited = each_key(alloc, input.as_bytes(), visit).is_ok();
+    is_visited & holds & (place == keys.len())
+}
+
+#[test]
+fn keys_are_passed_in_their_order(rt: HostRuntime) {
+    let rows: &[(&str, &[&str])] = &[
+        ("", &[]),
+        ("*", &["*"]),
+        ("b=(1 2;y);z", &["b"]),
+        (
+            "a;x, *=1;*, a-b=:aGk=:, z_9.*=\"\\\\\", a=?0, *a",
+            &["a", "*", "a-b", "z_9.*", "a", "*a"],
+        ),
+    ];
+    for &(input, keys) in rows {
+        assert!(rt; are_passed(rt.alloc(), input, keys), "{input}");
+    }
 }
 
 /// Returns `true` if so many members are counted up to this limit, or if there are too many.
@@ -260,7 +290,8 @@ fn dictionaries_and_items_that_are_known_are_written(rt: HostRuntime) {
     let item = write_item_of_no_bytes(&mut text).is_ok();
     let wanted =
         "member1=11;foo, member2=(abc;abc_param=?0 def);bar=\"val\", member3=12.346?1;x=::";
-    assert!(rt; dictionary & item & is_text(&text, wanted));
+    let is_kept = is_tight(text.capacity(), text.len());
+    assert!(rt; dictionary & item & is_kept & is_text(&text, wanted));
 }
 
 /// Returns the calls that write an item without parameters.
@@ -337,6 +368,19 @@ fn are_checked(alloc: Global, first: RefBareItem<'_>, second: RefBareItem<'_>) -
     )
 }
 
+/// Returns `true` if a copy is equal, and has no unused memory for bytes.
+fn is_copied(read: &BareItemFromInput<'_>) -> Option<bool> {
+    if let GenericBareItem::String(text) = read {
+        return Some(copy_of_string(text).ok()? == *text);
+    }
+    let copy = copy_of_read(read).ok()?;
+    let is_exact = match &copy {
+        GenericBareItem::ByteSequence(bytes) => bytes.capacity() == bytes.len(),
+        _ => true,
+    };
+    Some(is_exact & (copy == *read))
+}
+
 /// Returns `true` if each call writes these values, and copies of the first one are equal to it.
 pub fn hold(alloc: Global, first: &str, second: &str, key: KeyRef<'_>) -> Option<bool> {
     let (first, second) = (
@@ -346,17 +390,16 @@ pub fn hold(alloc: Global, first: &str, second: &str, key: KeyRef<'_>) -> Option
     let item = first.parse::<Item>(alloc).ok()?;
     let read = first.parse_item::<BareItemFromInput<'_>>(alloc).ok()?;
     let other = second.parse_item::<BareItem>(alloc).ok()?;
-    let is_copied = match &read {
-        GenericBareItem::String(text) => copy_of_string(text).ok()? == *text,
-        _ => copy_of_read(&read).ok()? == read,
-    };
+    let copy = copy_of_item(&item).ok()?;
+    let is_exact = copy.params.capacity() == copy.params.len();
     let (value, second) = (item.bare_item.as_ref_item(), other.as_ref_item());
     Some(
         are_written(alloc, value, second, key)
             & are_checked(alloc, value, second)?
-            & (copy_of_item(&item).ok()? == item)
+            & (copy == item)
+            & is_exact
             & (copy_of(&item.bare_item).ok()? == item.bare_item)
-            & is_copied
+            & is_copied(&read)?
             & write_parts(&mut String::new(alloc), &item).is_ok(),
     )
 }
