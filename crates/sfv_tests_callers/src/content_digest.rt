@@ -113,7 +113,7 @@ pub fn come_back(
 fn digests_of_every_length_come_back(rt: HostRuntime) -> Result<(), Fail> {
     let alloc = rt.alloc();
     let mut holds = matches!(reread(alloc, &NONE), Ok(None));
-    for &length in ladder(alloc, 2_200, 1 << 17)?.iter() {
+    for &length in ladder(alloc, 2_200, 1 << 21)?.iter() {
         holds &= come_back(alloc, Some(length), None)?
             & come_back(alloc, None, Some(length))?
             & come_back(alloc, Some(length), Some(length))?

@@ -141,7 +141,7 @@ fn members_of_every_name_and_status_come_back(rt: HostRuntime) -> Result<(), Fai
     for status in 100..600 {
         holds &= comes_back(alloc, &Name::Token(token_ref("c")), "c", status);
     }
-    for &length in ladder(alloc, 2_200, 1 << 17)?.iter() {
+    for &length in ladder(alloc, 2_200, 1 << 21)?.iter() {
         for &front in &["", " ", "\"", "\\a"] {
             let text = of_size(alloc, (front, "a", "", ""), length)?;
             let string = StringRef::from_str(text.as_str())?;

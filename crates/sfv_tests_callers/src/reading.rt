@@ -193,37 +193,37 @@ fn error_at(fault: Fault, length: usize) -> Option<Error> {
 #[rattlefmt::skip]
 const FIELDS: &[(&str, &str, &str, &str, &str, usize, Fault)] = &[
     ("item", "a", "b", "", "", 1 << 21, Fault::None),
-    ("item", "\"", "a", "", "\"", 1 << 17, Fault::None),
-    ("item", "\"\\\\", "a", "", "\"", 1 << 17, Fault::None),
-    ("item", "%\"%c3%bc", "a", "", "\"", 1 << 17, Fault::None),
-    ("item", ":aGk=:;a", "b", "", "", 1 << 17, Fault::None),
-    ("item", "?1;a", "b", "", "", 1 << 17, Fault::None),
-    ("item", "@1;a=\"\\\"", "a", "", "\"", 1 << 17, Fault::None),
-    ("item", "-1.5", " ", "", "", 1 << 17, Fault::None),
+    ("item", "\"", "a", "", "\"", 1 << 19, Fault::None),
+    ("item", "\"\\\\", "a", "", "\"", 1 << 19, Fault::None),
+    ("item", "%\"%c3%bc", "a", "", "\"", 1 << 19, Fault::None),
+    ("item", ":aGk=:;a", "b", "", "", 1 << 19, Fault::None),
+    ("item", "?1;a", "b", "", "", 1 << 19, Fault::None),
+    ("item", "@1;a=\"\\\"", "a", "", "\"", 1 << 19, Fault::None),
+    ("item", "-1.5", " ", "", "", 1 << 19, Fault::None),
     ("item", "1", ";k#=\"a\"", "", "", 1 << 10, Fault::None),
-    ("item", "", " ", "", "", 1 << 17, Fault::Last(ErrorKind::ExpectedStartOfBareItem, 0)),
-    ("item", "1 a", "a", "", "", 1 << 17, Fault::First(ErrorKind::TrailingCharactersAfterParsedValue, 2)),
-    ("item", "\"\\\\\";k b", "b", "", "", 1 << 17, Fault::First(ErrorKind::TrailingCharactersAfterParsedValue, 7)),
-    ("item", "\"\\\\", "a", "", "\u{7f}\"", 1 << 17, Fault::Last(ErrorKind::InvalidStringCharacter, 2)),
-    ("item", "%\"%c3%bc", "a", "", "%zz\"", 1 << 17, Fault::Last(ErrorKind::InvalidEscapeSequence, 3)),
+    ("item", "", " ", "", "", 1 << 19, Fault::Last(ErrorKind::ExpectedStartOfBareItem, 0)),
+    ("item", "1 a", "a", "", "", 1 << 19, Fault::First(ErrorKind::TrailingCharactersAfterParsedValue, 2)),
+    ("item", "\"\\\\\";k b", "b", "", "", 1 << 19, Fault::First(ErrorKind::TrailingCharactersAfterParsedValue, 7)),
+    ("item", "\"\\\\", "a", "", "\u{7f}\"", 1 << 19, Fault::Last(ErrorKind::InvalidStringCharacter, 2)),
+    ("item", "%\"%c3%bc", "a", "", "%zz\"", 1 << 19, Fault::Last(ErrorKind::InvalidEscapeSequence, 3)),
     ("item", "\"\\\\\"", ";k#=:aGk=:;k=\"\\\\\"", "", " !", 1 << 10, Fault::Last(ErrorKind::TrailingCharactersAfterParsedValue, 1)),
     ("item", ":aGk=:", ";k#=%\"%c3%bc\"", "", " ", 1 << 10, Fault::None),
-    ("item", "\"\\\\", "a", "", "", 1 << 17, Fault::Last(ErrorKind::UnterminatedString, 0)),
+    ("item", "\"\\\\", "a", "", "", 1 << 19, Fault::Last(ErrorKind::UnterminatedString, 0)),
     ("list", "", "a", "", "", 1 << 21, Fault::None),
-    ("list", "(\"", "a", "", "\")", 1 << 17, Fault::None),
-    ("list", "\"\\\\", "a", "", "\"", 1 << 17, Fault::None),
-    ("list", ":aGk=:;a", "b", "", "", 1 << 17, Fault::None),
-    ("list", "?1, %\"", "a", "", "\"", 1 << 17, Fault::None),
-    ("list", "a", " ", "", "", 1 << 17, Fault::None),
+    ("list", "(\"", "a", "", "\")", 1 << 19, Fault::None),
+    ("list", "\"\\\\", "a", "", "\"", 1 << 19, Fault::None),
+    ("list", ":aGk=:;a", "b", "", "", 1 << 19, Fault::None),
+    ("list", "?1, %\"", "a", "", "\"", 1 << 19, Fault::None),
+    ("list", "a", " ", "", "", 1 << 19, Fault::None),
     ("list", "", "a", ",", "", 1 << 17, Fault::None),
     ("list", "", "(1.5;a :aGk=:)", ", ", "", 1 << 10, Fault::None),
     ("list", "(", "1;a=\"\\\\\"", " ", ")", 1 << 10, Fault::None),
     ("list", "a", ";k#=?0", "", "", 1 << 10, Fault::None),
-    ("list", "!", "a", "", "", 1 << 17, Fault::First(ErrorKind::ExpectedStartOfBareItem, 0)),
-    ("list", "a b", "a", "", "", 1 << 17, Fault::First(ErrorKind::TrailingCharactersAfterMember, 2)),
-    ("list", "a", "a", "", ",", 1 << 17, Fault::Last(ErrorKind::TrailingComma, 1)),
-    ("list", "(a", "a", "", "", 1 << 17, Fault::Last(ErrorKind::UnterminatedInnerList, 0)),
-    ("list", "(a", "a", "", ",", 1 << 17, Fault::Last(ErrorKind::ExpectedInnerListDelimiter, 1)),
+    ("list", "!", "a", "", "", 1 << 19, Fault::First(ErrorKind::ExpectedStartOfBareItem, 0)),
+    ("list", "a b", "a", "", "", 1 << 19, Fault::First(ErrorKind::TrailingCharactersAfterMember, 2)),
+    ("list", "a", "a", "", ",", 1 << 19, Fault::Last(ErrorKind::TrailingComma, 1)),
+    ("list", "(a", "a", "", "", 1 << 19, Fault::Last(ErrorKind::UnterminatedInnerList, 0)),
+    ("list", "(a", "a", "", ",", 1 << 19, Fault::Last(ErrorKind::ExpectedInnerListDelimiter, 1)),
     ("list", "()", ", ()", "", "", 1 << 10, Fault::None),
     ("list", "", "\"\\\\\";k#=:aGk=:;hit=%\"%c3%bc\";fwd=\"\\\\\";ttl=:aGk=:;error=:aGk=:;received-status=\"\\\\\"", ",", "", 1 << 10, Fault::None),
     ("list", "", "(:aGk=:;k#=\"\\\\\" %\"%c3%bc\" \"\\\\\";k=:aGk=: 5);hit=:aGk=:;k=\"\\\\\"", ", ", "", 1 << 10, Fault::None),
@@ -231,23 +231,23 @@ const FIELDS: &[(&str, &str, &str, &str, &str, usize, Fault)] = &[
     ("list", "\"\\\\\", (", "\"\\\\\";k#=:aGk=:", " ", " !", 1 << 10, Fault::Last(ErrorKind::ExpectedStartOfBareItem, 1)),
     ("list", "1", ", (\"\\\\\" :aGk=:);k#=:aGk=:", "", ";k=!", 1 << 10, Fault::Last(ErrorKind::ExpectedStartOfBareItem, 1)),
     ("dict", "", "a", "", "", 1 << 21, Fault::None),
-    ("dict", "sha-256=\"", "a", "", "\"", 1 << 17, Fault::None),
-    ("dict", "sha-512=:aGk=:, max-age=\"\\\\", "a", "", "\"", 1 << 17, Fault::None),
-    ("dict", "color=red, color=(@1);a", "b", "", "", 1 << 17, Fault::None),
-    ("dict", "u=1;a=%\"%c3%bc", "a", "", "\"", 1 << 17, Fault::None),
+    ("dict", "sha-256=\"", "a", "", "\"", 1 << 19, Fault::None),
+    ("dict", "sha-512=:aGk=:, max-age=\"\\\\", "a", "", "\"", 1 << 19, Fault::None),
+    ("dict", "color=red, color=(@1);a", "b", "", "", 1 << 19, Fault::None),
+    ("dict", "u=1;a=%\"%c3%bc", "a", "", "\"", 1 << 19, Fault::None),
     ("dict", "u=:", "aGkh", "", ":", 1 << 17, Fault::None),
     ("dict", "s=:", "aGkh", "", ":", 1 << 17, Fault::None),
-    ("dict", "a", " ", "", "", 1 << 17, Fault::None),
+    ("dict", "a", " ", "", "", 1 << 19, Fault::None),
     ("dict", "", "k#=1", ", ", "", 1 << 17, Fault::None),
     ("dict", "", "k#=%\"%c3%bc\"", ",", "", 1 << 10, Fault::None),
     ("dict", "k0=(", "a", " ", ");k0", 1 << 10, Fault::None),
     ("dict", "", "k#=(\"\\\\\" %\"%c3%bc\";a=:aGk=:)", ", ", "", 1 << 10, Fault::None),
     ("dict", "u", ";k#=:aGk=:", "", "", 1 << 10, Fault::None),
-    ("dict", "A", "a", "", "", 1 << 17, Fault::First(ErrorKind::ExpectedStartOfKey, 0)),
-    ("dict", "a b", "a", "", "", 1 << 17, Fault::First(ErrorKind::TrailingCharactersAfterMember, 2)),
-    ("dict", "a", "a", "", ",", 1 << 17, Fault::Last(ErrorKind::TrailingComma, 1)),
-    ("dict", "a", "a", "", "=", 1 << 17, Fault::Last(ErrorKind::ExpectedStartOfBareItem, 0)),
-    ("dict", "a=(a", "a", "", "", 1 << 17, Fault::Last(ErrorKind::UnterminatedInnerList, 0)),
+    ("dict", "A", "a", "", "", 1 << 19, Fault::First(ErrorKind::ExpectedStartOfKey, 0)),
+    ("dict", "a b", "a", "", "", 1 << 19, Fault::First(ErrorKind::TrailingCharactersAfterMember, 2)),
+    ("dict", "a", "a", "", ",", 1 << 19, Fault::Last(ErrorKind::TrailingComma, 1)),
+    ("dict", "a", "a", "", "=", 1 << 19, Fault::Last(ErrorKind::ExpectedStartOfBareItem, 0)),
+    ("dict", "a=(a", "a", "", "", 1 << 19, Fault::Last(ErrorKind::UnterminatedInnerList, 0)),
     ("dict", "", "u=:aGk=:, i=\"\\\\\", color=:aGk=:;strong=\"\\\\\", max-age=\"\\\\\";k#=:aGk=:, sha-256=:aGk=:, sha-512=:aGk=:", ",", "", 1 << 10, Fault::None),
     ("dict", "k0=\"\\\\\";k0=:aGk=:", ", u=%\"%c3%bc\";k#=\"\\\\\", i=(:aGk=:;k=%\"%c3%bc\");k=\"\\\\\", max-age=(1;k=\"\\\\\");k=:aGk=:, color=(1), sha-512=\"\\\\\"", "", "", 1 << 10, Fault::None),
     ("dict", "sha-512=:aGk=:, sha-256=\"\\\\\", a=(", "\"\\\\\";k#=:aGk=:", " ", " !", 1 << 10, Fault::Last(ErrorKind::ExpectedStartOfBareItem, 1)),
@@ -255,14 +255,19 @@ const FIELDS: &[(&str, &str, &str, &str, &str, usize, Fault)] = &[
 ];
 
 /// Returns `true` if the fields of this type are read: of every length below 2,200, or with each number of parts below
-/// 300, and larger ones. RFC 8941 has no dates and no display strings.
-fn are_read_at_each_size(alloc: Global, wanted: &str) -> Result<bool, Fail> {
+/// 300, or below 60 if a part is long, and larger ones. These are the fields with a byte sequence in each part, or the
+/// others. RFC 8941 has no dates and no display strings.
+fn are_read_at_each_size(alloc: Global, wanted: &str, has_bytes: bool) -> Result<bool, Fail> {
     let mut holds = true;
     for &(field, begin, part, separator, end, most, fault) in FIELDS {
-        if field != wanted {
+        if field != wanted || part.contains(':') != has_bytes {
             continue;
         }
-        let dense = [300, 2_200][usize::from(part.len() == 1 && separator.is_empty())];
+        let dense = match part.len() {
+            1 if separator.is_empty() => 2_200,
+            0..=40 => 300,
+            _ => 60,
+        };
         let is_newer = begin.contains('@') || begin.contains('%') || part.contains('%');
         for &size in ladder(alloc, dense, most)?.iter() {
             let text = of_size(alloc, (begin, part, separator, end), size)?;
@@ -276,19 +281,33 @@ fn are_read_at_each_size(alloc: Global, wanted: &str) -> Result<bool, Fail> {
 
 #[test]
 fn items_of_each_size_are_read(rt: HostRuntime) -> Result<(), Fail> {
-    assert!(rt; are_read_at_each_size(rt.alloc(), "item")?);
+    let alloc = rt.alloc();
+    assert!(rt; are_read_at_each_size(alloc, "item", false)?);
+    assert!(rt; are_read_at_each_size(alloc, "item", true)?);
     Ok(())
 }
 
 #[test]
 fn lists_of_each_size_are_read(rt: HostRuntime) -> Result<(), Fail> {
-    assert!(rt; are_read_at_each_size(rt.alloc(), "list")?);
+    assert!(rt; are_read_at_each_size(rt.alloc(), "list", false)?);
+    Ok(())
+}
+
+#[test]
+fn lists_of_bytes_of_each_size_are_read(rt: HostRuntime) -> Result<(), Fail> {
+    assert!(rt; are_read_at_each_size(rt.alloc(), "list", true)?);
     Ok(())
 }
 
 #[test]
 fn dictionaries_of_each_size_are_read(rt: HostRuntime) -> Result<(), Fail> {
-    assert!(rt; are_read_at_each_size(rt.alloc(), "dict")?);
+    assert!(rt; are_read_at_each_size(rt.alloc(), "dict", false)?);
+    Ok(())
+}
+
+#[test]
+fn dictionaries_of_bytes_of_each_size_are_read(rt: HostRuntime) -> Result<(), Fail> {
+    assert!(rt; are_read_at_each_size(rt.alloc(), "dict", true)?);
     Ok(())
 }
 

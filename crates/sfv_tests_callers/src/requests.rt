@@ -126,7 +126,7 @@ fn lines_of_every_number_and_length_are_joined(rt: HostRuntime) -> Result<(), Fa
     for &lines in ladder(alloc, 300, 1 << 12)?.iter() {
         holds &= are_joined(alloc, "a", "u=1", lines)?;
     }
-    for &length in ladder(alloc, 2_200, 1 << 17)?.iter() {
+    for &length in ladder(alloc, 2_200, 1 << 21)?.iter() {
         let text = of_size(alloc, ("", "a", "", ""), length)?;
         holds &= are_joined(alloc, "a", text.as_str(), 1)?
             && are_joined(alloc, "a", text.as_str(), 3)?
@@ -140,7 +140,7 @@ fn lines_of_every_number_and_length_are_joined(rt: HostRuntime) -> Result<(), Fa
 fn priorities_of_every_length_are_read(rt: HostRuntime) -> Result<(), Fail> {
     let alloc = rt.alloc();
     let mut holds = true;
-    for &length in ladder(alloc, 2_200, 1 << 17)?.iter() {
+    for &length in ladder(alloc, 2_200, 1 << 21)?.iter() {
         let line = of_size(
             alloc,
             ("priority: u=1, a", "a", "", "\r\nPriority: i"),

@@ -493,7 +493,7 @@ pub fn is_written(alloc: Global, text: &str) -> Option<bool> {
 #[test]
 fn texts_of_every_length_are_written(rt: HostRuntime) -> Result<(), Fail> {
     let (alloc, mut holds) = (rt.alloc(), true);
-    for &length in ladder(alloc, 2_200, 1 << 17)?.iter() {
+    for &length in ladder(alloc, 2_200, 1 << 21)?.iter() {
         let mut text = of_size(alloc, ("a", "b", "", ""), length)?;
         holds &= is_written(alloc, text.as_str()) == Some(true);
         // The calls write after a text of this length.
