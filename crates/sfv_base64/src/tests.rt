@@ -80,6 +80,17 @@ fn bytes_are_written_as_base64_encodes_them(rt: HostRuntime) -> Result<(), Fail>
     Ok(())
 }
 
+#[test]
+fn long_byte_sequences_are_written_as_base64_encodes_them(rt: HostRuntime) -> Result<(), Fail> {
+    let mut holds = true;
+    for &len in &[4_097usize, 65_537, 100_001, 1_000_000] {
+        let bytes = vec![in rt.alloc(); 0xfb; len]?;
+        holds &= is_written_alike(rt.alloc(), bytes.as_slice());
+    }
+    assert!(rt; holds);
+    Ok(())
+}
+
 // Each symbol at each place of a block, with no padding, too little, enough and too much.
 #[test]
 fn symbols_are_parsed_as_base64_decodes_them(rt: HostRuntime) -> Result<(), Fail> {

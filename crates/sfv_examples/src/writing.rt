@@ -35,12 +35,19 @@ pub fn write_item(
 }
 
 /// Appends an item with a parameter of the same value. A `RefBareItem` is `Copy`.
+///
+/// # Errors
+///
+/// Returns the errors of `write_item`, and leaves the same text.
 pub fn write_twice(
     text: &mut String,
     value: RefBareItem<'_>,
     key: KeyRef<'_>,
 ) -> Result<(), SerializeError>
-    ensures { OnOk result (Adds text.old text.new (item_text (one_item value.entry key.entry value.entry))) }
+    ensures written { OnOk result (Adds text.old text.new (item_text (one_item value.entry key.entry value.entry))) }
+    ensures out_of_memory { OnErr result (AddsAtMost text.old text.new (bare_text (ref_value value.entry))) }
+    ensures room { OnErr result (LacksRoom text.old (item_text (one_item value.entry key.entry value.entry))) }
+    ensures failed { IfErr result (λ error. error ≡ errors.OutOfMemory) }
 {
     write_item(text, value, key, value)
 }
