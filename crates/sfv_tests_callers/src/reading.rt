@@ -254,9 +254,9 @@ const FIELDS: &[(&str, &str, &str, &str, &str, usize, Fault)] = &[
     ("dict", "b", ", k#=\"\\\\\";a=:aGk=:, sha-512=:aGk=:, sha-512=1", "", ",", 1 << 10, Fault::Last(ErrorKind::TrailingComma, 1)),
 ];
 
-/// Returns `true` if the fields of this type are read: of every length below 2,200, or with each number of parts below
-/// 300, or below 60 if a part is long, and larger ones. These are the fields with a byte sequence in each part, or the
-/// others. RFC 8941 has no dates and no display strings.
+/// Returns `true` if the fields of this type are read at each size. These are those with a byte sequence in each part, or
+/// the others. The sizes are all lengths below 2,200, or all numbers of parts below 300 (60 for long parts), and larger
+/// ones. RFC 8941 has no dates and no display strings.
 fn are_read_at_each_size(alloc: Global, wanted: &str, has_bytes: bool) -> Result<bool, Fail> {
     let mut holds = true;
     for &(field, begin, part, separator, end, most, fault) in FIELDS {
@@ -335,8 +335,8 @@ const RELEASED: &[(usize, usize, Version)] = &[
     (17, 5_000, Version::Rfc9651),
 ];
 
-/// Returns `true` if no memory is lost by the fields of this type, with few and with more parts or bytes: by those that
-/// have a byte sequence in each part, or by the others.
+/// Returns `true` if no memory is lost by the fields of this type, with few and with more parts or bytes. These are the
+/// fields that have a byte sequence in each part, or the others.
 fn are_released(rt: &HostRuntime, wanted: &str, has_bytes: bool) -> Result<bool, Fail> {
     let mut holds = true;
     for &(field, begin, part, separator, end, _, fault) in FIELDS {
