@@ -249,7 +249,7 @@ const FIELDS: &[(&str, &str, &str, &str, &str, usize, Fault)] = &[
     ("dict", "a", "a", "", "=", 1 << 19, Fault::Last(ErrorKind::ExpectedStartOfBareItem, 0)),
     ("dict", "a=(a", "a", "", "", 1 << 19, Fault::Last(ErrorKind::UnterminatedInnerList, 0)),
     ("dict", "", "u=:aGk=:, i=\"\\\\\", color=:aGk=:;strong=\"\\\\\", max-age=\"\\\\\";k#=:aGk=:, sha-256=:aGk=:, sha-512=:aGk=:", ",", "", 1 << 10, Fault::None),
-    ("dict", "k0=\"\\\\\";k0=:aGk=:", ", u=%\"%c3%bc\";k#=\"\\\\\", i=(:aGk=:;k=:QUJDREVGR0hJSktMTU5PUFFSU1RVVldYWVphYmNkZWZnaGlqa2xtbm9w:);k=\"\\\\\", max-age=(1;k=\"\\\\\");k=%\"%c3%bc\", color=(1), sha-512=\"\\\\\"", "", "", 1 << 10, Fault::None),
+    ("dict", "k0=\"\\\\\";k0=:aGk=:, sha-256=:aGk=:", ", u=%\"%c3%bc\";k#=\"\\\\\", i=(:aGk=:;k=:QUJDREVGR0hJSktMTU5PUFFSU1RVVldYWVphYmNkZWZnaGlqa2xtbm9w:);k=\"\\\\\", max-age=(1;k=\"\\\\\");k=%\"%c3%bc\", color=(1), sha-512=\"\\\\\"", "", "", 1 << 10, Fault::None),
     ("dict", "sha-512=:aGk=:, sha-256=\"\\\\\", a=(", "\"\\\\\";k#=:aGk=:", " ", " !", 1 << 10, Fault::Last(ErrorKind::ExpectedStartOfBareItem, 1)),
     ("dict", "b", ", k#=\"\\\\\";a=:aGk=:, sha-512=:aGk=:, sha-512=1", "", ",", 1 << 10, Fault::Last(ErrorKind::TrailingComma, 1)),
 ];
