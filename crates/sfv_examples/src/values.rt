@@ -108,8 +108,8 @@ pub fn copy_of_string<'a>(text: &StringFromInput<'a>) -> Result<StringFromInput<
 ///
 /// # Errors
 ///
-/// Returns `AllocError` if memory runs out. The clone of a number, a boolean or an empty text without parameters requests
-/// none.
+/// Returns `AllocError` if memory runs out. The clone of a number, a date, a boolean or an empty text without parameters
+/// requests none.
 pub fn copy_of_item(item: &Item) -> Result<Item, AllocError>
     ensures value { IfOk result (λ copy. item_tree copy ≡ item_tree item.now) }
     ensures seed { IfOk result (λ copy. hasher_of copy.params ≡ hasher_of item.now.params) }

@@ -39,8 +39,8 @@ pub fn keeps_memory<C: Repeated>(rt: &HostRuntime, call: &C) -> io::Result<bool>
     keeps_memory_of(rt, call, TIMES)
 }
 
-/// Returns `true` if the call always succeeds, and loses no memory when it is made so many times. The blocks that it would
-/// lose have to take up more than 73 pages in all.
+/// Returns `true` if the call always succeeds, and loses no memory when it is made so many times. A loss of less than 73
+/// pages in all may go unnoticed.
 pub fn keeps_memory_of<C: Repeated>(rt: &HostRuntime, call: &C, times: usize) -> io::Result<bool> {
     // The first calls leave free blocks for the others.
     let succeeds = repeat(rt.alloc(), call, times / 10);

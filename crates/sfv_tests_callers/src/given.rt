@@ -60,7 +60,7 @@ const DROPPED: &[(&str, &str, &str)] = &[
         "dict",
         "a,b,c,d,e,f,g,h,i,j,k,l,m,n,o,p,q,r;s=:aGk=:",
     ),
-    ("uncalled", "item", "a text of 26 bytes in a box"),
+    ("uncalled", "item", "a text that the function owns"),
 ];
 
 /// Passes the events of the field to the visitor. Returns whether all are accepted.

@@ -328,10 +328,13 @@ impl Repeated for Reading<'_> {
 
 /// Numbers of parts, or of bytes after the first part, under a version.
 const RELEASED: &[(usize, usize, Version)] = &[
+    (0, 0, Version::Rfc8941),
     (0, 0, Version::Rfc9651),
-    (1, 2, Version::Rfc8941),
-    (2, 1, Version::Rfc9651),
+    (1, 1, Version::Rfc9651),
+    (2, 2, Version::Rfc8941),
+    (2, 2, Version::Rfc9651),
     (9, 33, Version::Rfc9651),
+    (12, 100, Version::Rfc9651),
     (17, 5_000, Version::Rfc9651),
 ];
 

@@ -176,7 +176,7 @@ fn members_are_found_by_borrowed_keys(rt: HostRuntime) -> Result<(), Fail> {
 }
 
 /// Returns the item 2 as a member.
-fn two(alloc: Global) -> ListEntry {
+pub fn two(alloc: Global) -> ListEntry {
     ListEntry::from(Item::new(alloc, GenericBareItem::Integer(integer(2))))
 }
 
@@ -295,7 +295,7 @@ fn dictionaries_and_items_that_are_known_are_written(rt: HostRuntime) {
 }
 
 /// Returns the calls that write an item without parameters.
-pub fn calls<'a>(alloc: Global, value: RefBareItem<'a>) -> MemberCalls<'a> {
+fn calls<'a>(alloc: Global, value: RefBareItem<'a>) -> MemberCalls<'a> {
     MemberCalls::Item(ItemCalls {
         value,
         params: Vec::new(alloc),
@@ -440,7 +440,7 @@ fn numbers_are_converted(rt: HostRuntime) {
 }
 
 /// Returns `true` if each call performs the calls, and reads so many members.
-pub fn are_performed(alloc: Global, calls: &[MemberCalls<'_>], count: usize) -> bool {
+fn are_performed(alloc: Global, calls: &[MemberCalls<'_>], count: usize) -> bool {
     has_length(performed_and_read(alloc, calls), count)
         & has_length(
             performed_and_read_for(alloc, Version::Rfc8941, calls),
@@ -452,15 +452,20 @@ pub fn are_performed(alloc: Global, calls: &[MemberCalls<'_>], count: usize) -> 
         )
 }
 
+/// Returns `true` if so many calls that write a word are performed.
+pub fn are_repeated(alloc: Global, count: usize) -> bool {
+    let (mut all, mut holds) = (Vec::new(alloc), true);
+    for _ in 0..count {
+        holds &= all.push(calls(alloc, word())).is_ok();
+    }
+    holds && are_performed(alloc, &all[..], count)
+}
+
 #[test]
 fn scripts_of_every_number_are_performed(rt: HostRuntime) -> Result<(), Fail> {
     let (alloc, mut holds) = (rt.alloc(), true);
     for &count in ladder(alloc, 300, 1 << 14)?.iter() {
-        let mut all = Vec::new(alloc);
-        for _ in 0..count {
-            holds &= all.push(calls(alloc, word())).is_ok();
-        }
-        holds &= are_performed(alloc, &all[..], count);
+        holds &= are_repeated(alloc, count);
     }
     assert!(rt; holds);
     Ok(())
