@@ -15,6 +15,7 @@ use Rattle.sfv_spec.specs.Grammar.{Spaces, Comma, IsBareText, IsKeyText, IsMembe
 use Rattle.sfv_spec.specs.Grammar.{IsDictionaryMemberText, IsFieldText, IsEnded, IsAccepted, BeginsWithLongest}
 use Rattle.sfv_spec.specs.Grammar.{BeginsWithComplete, HasField}
 use Rattle.sfv_spec.specs.Reach.{IsReach}
+use Rattle.sfv_spec.specs.Statements.{IsParsedAs}
 use Rattle.sfv_spec.specs.Events.{TreeEvent, entry, keyed_entry, begins_item, begins_inner_list, bare_item}
 use Rattle.sfv_spec.specs.Events.{parameters_end, inner_list_end, item_events, events}
 use Rattle.sfv_spec.specs.Visiting.{BeginsEventsAfter}
@@ -27,7 +28,12 @@ use Rattle.sfv_base.specs.declared.error.ParseError.TheVariants as parse_errors
 use Rattle.sfv_base.specs.Errors.{error_of, out_of_memory}
 use Rattle.sfv_values.specs.BareItems.{input_value, is_borrowed_string, is_borrowed_text}
 use Rattle.sfv_values.specs.declared.bare.GenericBareItem.TheVariants as bare
+use Rattle.indexmap.specs.IndexMap.{IndexMap}
+use Rattle.sfv_tree.specs.Seeds.{ItemHasSeed, ListHasSeed, DictionaryHasSeed}
+use Rattle.sfv_tree.specs.Trees.{item_tree, list_tree, dictionary_tree}
 use Rattle.sfv_tree.specs.declared.hash_seed.HashSeed.{HashSeed}
+use Rattle.sfv_tree.specs.declared.parsed.Item.{Item}
+use Rattle.sfv_tree.specs.declared.parsed.ListEntry.{ListEntry}
 use Rattle.sfv_tree.specs.declared.visitor.Event.{Event}
 use Rattle.sfv_tree.specs.declared.visitor.Event.TheVariants as event
 use Rattle.sfv_tree.specs.declared.visitor.Visitor.{Ghosts as Visitor}
@@ -57,6 +63,15 @@ pub record IsSyntaxError (version : Version) (kind : FieldKind) (t : List ℕ) (
   pub rejected : ¬ IsAccepted version kind t
   pub within : index ≤ length t
   pub located : IsFaultAt version kind t fault index
+
+-- the text parses to a value whose maps all hash under this seed
+abbrev pub IsBuiltUnder : HashSeed → Version → FieldKind → List ℕ → Type 0
+IsBuiltUnder seed version item_field t =
+    (i : Item) × ItemHasSeed seed i × IsParsedAs version item_field t (item_tree i)
+IsBuiltUnder seed version list_field t =
+    (members : List ListEntry) × ListHasSeed seed members × IsParsedAs version list_field t (list_tree members)
+IsBuiltUnder seed version dictionary_field t = (d : IndexMap (List ℕ) ListEntry HashSeed)
+    × DictionaryHasSeed seed d × IsParsedAs version dictionary_field t (dictionary_tree d.entries)
 
 -- out of memory, or a syntax error of the text
 abbrev pub IsParseError : Version → FieldKind → List ℕ → Error → Type 0

@@ -7,5 +7,5 @@ pub use sfv_tree::item_visitor::{ItemVisitorWith, MemoryErrors, NoMemoryError, i
 pub use sfv_tree::make::{MakeDictionaryVisitor, MakeItemVisitor, MakeListVisitor};
 pub use sfv_tree::parameter_visitor::{ParameterVisitorWith, parameter_visitor_with};
 pub use sfv_tree::visitor::{
-    BareItemType, DictionaryBuilder, Event, ItemBuilder, ItemFault, ListBuilder, Visitor,
+    DictionaryBuilder, Event, ItemBuilder, ItemFault, ListBuilder, Visitor,
 };

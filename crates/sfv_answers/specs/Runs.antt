@@ -1,5 +1,5 @@
 -- The requests of the program, and the results of a run.
-use Rattle.std.specs.Prelude.{◌≡◌, ⊤, ℕ, List, [], ◌∷◌, ◌⊎◌, Option, IfSome, codes}
+use Rattle.std.specs.Prelude.{◌≡◌, ⊤, ℕ, List, [], ◌∷◌, ◌++◌, ◌⊎◌, Option, IfSome, codes}
 use Rattle.std.specs.Int.{from_le_bytes, w64}
 use Rattle.std.specs.Io.KnownBytes.{Keeps, Appends}
 use Rattle.sfv.specs.Types.{Version, item_field, list_field, dictionary_field}
@@ -8,9 +8,13 @@ use Rattle.sfv.specs.Types.{FieldKind}
 use Rattle.sfv_answers.specs.declared.run.Request.{Request}
 use Rattle.sfv_answers.specs.declared.run.Request.TheVariants as request
 use Rattle.sfv.specs.HashSeeds.{seed_of}
+use Rattle.sfv.specs.Parsers.{IsBuiltUnder}
 use Rattle.sfv.specs.Types.{HashSeed}
 use Rattle.sfv_answers.specs.declared.answer.ToolFault.{ToolFault}
+use Rattle.sfv_answers.specs.declared.run.Failure.{Failure}
+use Rattle.sfv_answers.specs.declared.run.Failure.TheVariants as failures
 use Rattle.sfv_answers.specs.Answers.{IsAnswerTo, IsFaultFor, IsPriorityAnswer, IsPriorityFault}
+use Rattle.sfv_answers.specs.Answers.{without_newline, tool_fault_text}
 
 -- the argument for a field type
 abbrev pub field_word : FieldKind → List ℕ
@@ -60,19 +64,47 @@ NamesFieldType (request.Priority version) = ⊥
 abbrev pub seed_of_bytes : List ℕ → HashSeed
 seed_of_bytes bytes = seed_of (from_le_bytes w64 bytes)
 
--- A successful run: the output is appended, and nothing is written to the errors.
-pub record IsAnswered (request : Request) (input output output' errors errors' : Option (List ℕ)) : Type 0 where
-  pub answer : IfSome input (λ bytes. (text : List ℕ)
-      × IsAnswerFor request bytes text
-      × Appends output output' text)
-  pub quiet : Keeps errors errors'
+-- a successful run: the result for the input is appended to the output
+abbrev pub IsAnswered : Request → List ℕ → Option (List ℕ) → Option (List ℕ) → Type 0
+IsAnswered request input output output' =
+    (text : List ℕ) × IsAnswerFor request input text × Appends output output' text
 
--- A failed run: the output is unchanged, unless there was an output to write, which may have been written in part.
-abbrev pub IsFailed : Request → Option (List ℕ) → Option (List ℕ) → Option (List ℕ) → Type 0
-IsFailed request input output output' =
-    Keeps output output'
-    ⊎ IfSome input (λ bytes. (text : List ℕ)
-    × IsAnswerFor request bytes text)
+-- each map of the parsed field hashes under this seed; the Priority field has no map
+abbrev pub IsBuiltFor : HashSeed → Request → List ℕ → Type 0
+IsBuiltFor seed (request.Field field reading writing) input =
+    IsBuiltUnder seed reading field (without_newline input)
+IsBuiltFor seed (request.Priority version) input = ⊤
+
+-- The command has this error for the input, and the output is unchanged. Or it has a result, which may be written in
+-- part.
+abbrev pub IsFailed : Request → List ℕ → Option (List ℕ) → Option (List ℕ) → Failure → Type 0
+IsFailed request input output output' (failures.Fault fault) =
+    IsFaultOf request input fault × Keeps output output'
+IsFailed request input output output' failures.UnwrittenOutput = (text : List ℕ) × IsAnswerFor request input text
+IsFailed request input output output' failure = ⊥
+
+-- the failure of a read
+abbrev pub IsReadFailure : Failure → Type 0
+IsReadFailure failure = (failure ≡ failures.OutOfMemory) ⊎ (failure ≡ failures.UnreadableInput)
+
+-- the input was not read to its end, and the output is unchanged
+abbrev pub IsUnread : Failure → Option (List ℕ) → Option (List ℕ) → Type 0
+IsUnread failure output output' = IsReadFailure failure × Keeps output output'
+
+-- the message of a failure
+abbrev pub failure_text : Failure → List ℕ
+failure_text failures.WrongArguments =
+    codes "usage: sfv_tool item|list|dict 8941|9651 [8941|9651] | priority 8941|9651"
+failure_text failures.NoSeed = codes "error: no random seed"
+failure_text failures.OutOfMemory = codes "error: out of memory"
+failure_text failures.UnreadableInput = codes "error: cannot read input"
+failure_text (failures.Fault fault) = codes "error: " ++ tool_fault_text fault
+failure_text failures.UnwrittenOutput = codes "error: cannot write output"
+
+-- the exit status of a failure: 2 for wrong arguments, otherwise 1
+abbrev pub failure_status : Failure → ℕ
+failure_status failures.WrongArguments = 2
+failure_status failure = 1
 
 -- the arguments name a request, and this holds of it
 abbrev pub Requests : List (List ℕ) → (Request → Type 0) → Type 0

@@ -1,9 +1,9 @@
 //! The results of the program `sfv_tool` for an input.
 
-ghost use Rattle.std.specs.Prelude.{◌≡◌, ◌++◌, Some, IfOk, IfErr, codes, string_bytes};
+ghost use Rattle.std.specs.Prelude.{◌≡◌, ◌++◌, Some, IfOk, IfErr, OnOk, codes, string_bytes};
 ghost use Rattle.sfv_answers.specs.Answers.{without_newline, text_or_empty, tool_fault_text, IsAnswer, IsToolFault};
 ghost use Rattle.sfv_answers.specs.Answers.{IsAnswerTo, IsFaultFor, IsPriorityAnswer, IsPriorityFault};
-ghost use Rattle.sfv.specs.Parsers.{IsParseError};
+ghost use Rattle.sfv.specs.Parsers.{IsParseError, IsBuiltUnder};
 ghost use Rattle.sfv.specs.Statements.{IsParsedAs};
 ghost use Rattle.sfv.specs.Types.serialize_errors as serialize_errors;
 ghost use Rattle.sfv_answers.specs.declared.answer.ToolFault.TheVariants as faults;
@@ -116,7 +116,7 @@ fn answer_as<T: FieldType>(
     ensures accepted { IfOk result (λ text.
         IsAnswer reading writing T.kind input.now (string_bytes text)) }
     ensures failed { IfErr result (IsToolFault reading writing T.kind input.now) }
-    ensures seed { IfOk result (λ _. (value : _) × T.has_seed seed value
+    ensures seed { OnOk result ((value : _) × T.has_seed seed value
         × IsParsedAs reading T.kind input.now (T.tree value)) }
 {
     let value = parse_as::<T>(alloc, seed, reading, input)?;
@@ -127,8 +127,8 @@ fn answer_as<T: FieldType>(
 /// Parses the input as a field of this type under the version `reading`. Returns its canonical text under the version
 /// `writing`, and a newline.
 ///
-/// One final newline of the input is ignored. An empty list or dictionary returns only the newline. Maps are built
-/// under `seed`.
+/// One final newline of the input is ignored. An empty list or dictionary returns only the newline. Each map of the
+/// parsed value hashes under `seed`.
 ///
 /// # Errors
 ///
@@ -143,6 +143,7 @@ pub fn answer(
 ) -> Result<String, ToolFault>
     ensures accepted { IfOk result (λ text. IsAnswerTo field reading writing input.now (string_bytes text)) }
     ensures failed { IfErr result (IsFaultFor field reading writing input.now) }
+    ensures seed { OnOk result (IsBuiltUnder seed reading field (without_newline input.now)) }
 {
     let input = without_newline(input);
     match field {

@@ -1,17 +1,20 @@
 //! A run of the program `sfv_tool`.
 
-ghost use Rattle.std.specs.Prelude.{◌≡◌, ◌≢◌, ◌≤◌, ◌↔◌, IfSome, IfNone, IfOk, IfErr, OnOk, OnErr, IsTrue, map, codes};
-ghost use Rattle.std.specs.Prelude.{string_bytes};
+ghost use Rattle.std.specs.Prelude.{◌≡◌, ◌≢◌, ◌↔◌, ◌⊎◌, ◌++◌, Some, Err, IfSome, IfNone, IfOk, IfErr, OnOk, OnErr, IsOk};
+ghost use Rattle.std.specs.Prelude.{IsTrue, map, codes, string_bytes};
 ghost use Rattle.std.specs.Io.KnownBytes.{Appends};
-ghost use Rattle.sfv_answers.specs.Runs.{Names, NamesNothing, Requests, IsAnswered, IsFailed, field_word, version_word};
 ghost use Rattle.std.specs.IoError.{error_kind};
 ghost use Rattle.std.specs.declared.io.ErrorKind.TheVariants as kinds;
+ghost use Rattle.sfv_answers.specs.declared.run.Failure.TheVariants as failures;
+ghost use Rattle.sfv_answers.specs.Runs.{Names, NamesNothing, Requests, IsAnswered, IsFailed, IsUnread, IsReadFailure};
 ghost use Rattle.sfv_answers.specs.Runs.{IsAnswerFor, IsFaultOf, NamesPriority, NamesNoField, NamesNoPriority};
-ghost use Rattle.sfv_answers.specs.Runs.{priority_word, seed_of_bytes, NamesFieldType};
+ghost use Rattle.sfv_answers.specs.Runs.{field_word, version_word, priority_word, seed_of_bytes, NamesFieldType};
+ghost use Rattle.sfv_answers.specs.Runs.{failure_text, failure_status, IsBuiltFor};
 
 use crate::answer::{ToolFault, answer, answer_priority};
 use sfv::{FieldKind, HashSeed, Version};
 use std::alloc::Global;
+use std::fmt;
 use std::io;
 use std::io::{ErrorKind, Read, Write};
 use std::random::RandomSource;
@@ -24,6 +27,74 @@ pub const FAILED: u8 = 1;
 
 /// The exit status for wrong arguments.
 pub const WRONG_ARGUMENTS: u8 = 2;
+
+/// The reason why a run has no result. It prints the message for standard error.
+#[derive(Clone, Copy, Debug, PartialEq, Eq)]
+pub enum Failure {
+    /// The arguments name no command.
+    WrongArguments,
+    /// There are no random bytes for the hash seed.
+    NoSeed,
+    /// Memory ran out while the input was read.
+    OutOfMemory,
+    /// The input cannot be read.
+    UnreadableInput,
+    /// The command has this error for the input.
+    Fault(ToolFault),
+    /// The output cannot be written.
+    UnwrittenOutput,
+}
+
+impl Failure {
+    /// Returns the exit status: `WRONG_ARGUMENTS` for wrong arguments, otherwise `FAILED`.
+    pub fn status(self) -> u8
+        ensures { result ≡ failure_status self }
+    {
+        match self {
+            Failure::WrongArguments => WRONG_ARGUMENTS,
+            _ => FAILED,
+        }
+    }
+
+    /// Writes the message and a newline.
+    ///
+    /// # Errors
+    ///
+    /// Returns the error of the writer. A part of the message may then be written.
+    pub fn print<E: Write>(self, errors: &mut E) -> io::Result<()>
+        ensures { OnOk result (Appends (E.contents errors.old) (E.contents errors.new)
+            (failure_text self ++ codes "\n")) }
+    {
+        writeln!(errors, "{self}")
+    }
+}
+
+impl fmt::Display for Failure {
+    ghost output = { λ failure. Some (failure_text failure) };
+
+    fn fmt<W: fmt::Write>(&self, f: &mut fmt::Formatter<W>) -> fmt::Result {
+        match self {
+            Failure::WrongArguments => f.write_str(
+                "usage: sfv_tool item|list|dict 8941|9651 [8941|9651] | priority 8941|9651",
+            ),
+            Failure::NoSeed => f.write_str("error: no random seed"),
+            Failure::OutOfMemory => f.write_str("error: out of memory"),
+            Failure::UnreadableInput => f.write_str("error: cannot read input"),
+            Failure::Fault(fault) => write!(f, "error: {fault}"),
+            Failure::UnwrittenOutput => f.write_str("error: cannot write output"),
+        }
+    }
+}
+
+impl std::error::Error for Failure {}
+
+impl From<ToolFault> for Failure {
+    ghost from_gives = { λ fault failure. failure ≡ failures.Fault fault };
+
+    fn from(fault: ToolFault) -> Failure {
+        Failure::Fault(fault)
+    }
+}
 
 /// The command that the arguments name.
 #[derive(Clone, Copy)]
@@ -126,6 +197,7 @@ fn answer_to(
 ) -> Result<String, ToolFault>
     ensures accepted { IfOk result (λ text. IsAnswerFor request input.now (string_bytes text)) }
     ensures failed { IfErr result (IsFaultOf request input.now) }
+    ensures seed { OnOk result (IsBuiltFor seed request input.now) }
 {
     match request {
         Request::Field {
@@ -138,6 +210,10 @@ fn answer_to(
 }
 
 /// Writes the whole text, and flushes it.
+///
+/// # Errors
+///
+/// Returns the error of the writer. A part of the text may then be written.
 fn print<W: Write>(text: &str, output: &mut W) -> io::Result<()>
     ensures { OnOk result (Appends (W.contents output.old) (W.contents output.new) text.now) }
 {
@@ -145,89 +221,98 @@ fn print<W: Write>(text: &str, output: &mut W) -> io::Result<()>
     output.flush()
 }
 
-/// Returns the message for a failed read of the input.
-fn read_message(error: &io::Error) -> &'static str
-    ensures memory { error_kind error.now ≡ kinds.OutOfMemory → result.now ≡ codes "error: out of memory\n" }
-    ensures other { error_kind error.now ≢ kinds.OutOfMemory → result.now ≡ codes "error: cannot read input\n" }
+/// Returns the failure of a read of the input.
+fn unreadable(error: &io::Error) -> Failure
+    ensures memory { error_kind error.now ≡ kinds.OutOfMemory → result ≡ failures.OutOfMemory }
+    ensures other { error_kind error.now ≢ kinds.OutOfMemory → result ≡ failures.UnreadableInput }
 {
     if error.kind() == ErrorKind::OutOfMemory {
-        "error: out of memory\n"
+        Failure::OutOfMemory
     } else {
-        "error: cannot read input\n"
+        Failure::UnreadableInput
     }
 }
 
-/// Reads all of `input`, and writes the result to `output`, or an error to `errors`. Returns the exit status.
-fn convert<R: Read, W: Write, E: Write>(
+/// Reads all of `input`.
+fn read_all<R: Read>(alloc: Global, input: &mut R) -> Result<Vec<u8>, Failure>
+    ensures read { IfOk result (λ bytes. IfSome (R.remaining input.old) (λ all. bytes.items ≡ all)) }
+    ensures failed { IfErr result IsReadFailure }
+{
+    let mut bytes = Vec::new(alloc);
+    match input.read_to_end(&mut bytes) {
+        Ok(_) => Ok(bytes),
+        Err(error) => Err(unreadable(&error)),
+    }
+}
+
+/// Writes the result of a command for the input. Each map of a field hashes under `seed`.
+fn write_answer<W: Write>(
+    alloc: Global,
+    seed: HashSeed,
+    request: Request,
+    input: &[u8],
+    output: &mut W,
+) -> Result<(), Failure>
+    ensures done { OnOk result (IsAnswered request input.now (W.contents output.old) (W.contents output.new)) }
+    ensures failed { IfErr result (IsFailed request input.now (W.contents output.old) (W.contents output.new)) }
+    ensures seed { OnOk result (IsBuiltFor seed request input.now) }
+{
+    let text = answer_to(alloc, seed, request, input)?;
+    if print(text.as_str(), output).is_err() {
+        return Err(Failure::UnwrittenOutput);
+    }
+    Ok(())
+}
+
+/// Reads all of `input`, and writes the result to `output`. Each map of a field hashes under `seed`.
+fn convert<R: Read, W: Write>(
     alloc: Global,
     seed: HashSeed,
     request: Request,
     input: &mut R,
     output: &mut W,
-    errors: &mut E,
-) -> u8
-    ensures done { result ≡ DONE → IsAnswered request (R.remaining input.old) (W.contents output.old)
-        (W.contents output.new) (E.contents errors.old) (E.contents errors.new) }
-    ensures failed { result ≡ FAILED → IsFailed request (R.remaining input.old) (W.contents output.old)
-        (W.contents output.new) }
-    ensures status { result ≤ FAILED }
+) -> Result<(), Failure>
+    ensures done { OnOk result (IfSome (R.remaining input.old) (λ bytes.
+        IsAnswered request bytes (W.contents output.old) (W.contents output.new))) }
+    ensures failed { IfErr result (λ failure. IsUnread failure (W.contents output.old) (W.contents output.new)
+        ⊎ IfSome (R.remaining input.old) (λ bytes.
+        IsFailed request bytes (W.contents output.old) (W.contents output.new) failure)) }
+    ensures seed { OnOk result (IfSome (R.remaining input.old) (IsBuiltFor seed request)) }
 {
-    let mut bytes = Vec::new(alloc);
-    if let Err(error) = input.read_to_end(&mut bytes) {
-        let _ = errors.write_all(read_message(&error).as_bytes());
-        return FAILED;
-    }
-    match answer_to(alloc, seed, request, bytes.as_slice()) {
-        Ok(text) => {
-            if print(text.as_str(), output).is_err() {
-                let _ = errors.write_all(b"error: cannot write output\n");
-                return FAILED;
-            }
-            DONE
-        }
-        Err(error) => {
-            let _ = writeln!(errors, "error: {error}");
-            FAILED
-        }
-    }
+    let bytes = read_all(alloc, input)?;
+    write_answer(alloc, seed, request, bytes.as_slice(), output)
 }
 
-/// Writes the usage to `errors`. Returns the exit status.
-fn print_usage<E: Write>(errors: &mut E) -> u8
-    ensures { result ≡ WRONG_ARGUMENTS }
-{
-    let _ = errors.write_all(
-        b"usage: sfv_tool item|list|dict 8941|9651 [8941|9651] | priority 8941|9651\n",
-    );
-    WRONG_ARGUMENTS
-}
-
-/// Checks the arguments, reads all of `input`, and writes the result to `output`, or an error to `errors`. Maps are
-/// built under `seed`.
+/// Checks the arguments, reads all of `input`, and writes the result to `output`. Each map of a field hashes under
+/// `seed`.
 ///
-/// Returns the exit status: `DONE`, `FAILED` after an error, or `WRONG_ARGUMENTS`. A failed write to `errors` does not
-/// change the status.
-pub fn run<R: Read, W: Write, E: Write>(
+/// # Errors
+///
+/// Returns `WrongArguments`, and reads and writes nothing, or another failure except `NoSeed`. The output is then
+/// unchanged, except that a part of it may be written before `UnwrittenOutput`.
+pub fn run<R: Read, W: Write>(
     alloc: Global,
     seed: HashSeed,
     args: &[String],
     input: &mut R,
     output: &mut W,
-    errors: &mut E,
-) -> u8
-    ensures done { result ≡ DONE → Requests (map string_bytes args.now) (λ request.
-        IsAnswered request (R.remaining input.old) (W.contents output.old) (W.contents output.new)
-        (E.contents errors.old) (E.contents errors.new)) }
-    ensures failed { result ≡ FAILED → Requests (map string_bytes args.now) (λ request.
-        IsFailed request (R.remaining input.old) (W.contents output.old) (W.contents output.new)) }
-    ensures usage { (result ≡ WRONG_ARGUMENTS) ↔ NamesNothing (map string_bytes args.now) }
-    ensures unread { result ≡ WRONG_ARGUMENTS → (input.new ≡ input.old) × (output.new ≡ output.old) }
-    ensures status { result ≤ WRONG_ARGUMENTS }
+) -> Result<(), Failure>
+    ensures done { OnOk result (Requests (map string_bytes args.now) (λ request. IfSome (R.remaining input.old) (λ bytes.
+        IsAnswered request bytes (W.contents output.old) (W.contents output.new)))) }
+    ensures failed { IfErr result (λ failure. Requests (map string_bytes args.now) (λ request.
+        IfSome (R.remaining input.old) (λ bytes.
+        IsFailed request bytes (W.contents output.old) (W.contents output.new) failure))
+        ⊎ IsUnread failure (W.contents output.old) (W.contents output.new)
+        ⊎ (failure ≡ failures.WrongArguments)) }
+    ensures seed { OnOk result (Requests (map string_bytes args.now)
+        (λ request. IfSome (R.remaining input.old) (IsBuiltFor seed request))) }
+    ensures usage { (result ≡ Err failures.WrongArguments) ↔ NamesNothing (map string_bytes args.now) }
+    ensures unread { result ≡ Err failures.WrongArguments → (input.new ≡ input.old) × (output.new ≡ output.old) }
 {
     let Some(request) = requested(args) else {
-        return print_usage(errors);
+        return Err(Failure::WrongArguments);
     };
-    convert(alloc, seed, request, input, output, errors)
+    convert(alloc, seed, request, input, output)
 }
 
 /// Returns the hash seed of these bytes, as a little-endian number.
@@ -259,34 +344,52 @@ fn seed_for<S: RandomSource>(random: &S, request: Request) -> io::Result<HashSee
     }
 }
 
-/// Does the same as `run`. The maps of a field are built under a random seed. The Priority field and wrong arguments
-/// take no random bytes.
+/// Does the same as `run`. Each map of a field hashes under a random seed. The Priority field and wrong arguments take
+/// no random bytes.
 ///
-/// Returns the exit status of `run`, or `FAILED` if there are no random bytes for a field. `input` and `output` are then
+/// # Errors
+///
+/// Returns the failures of `run`, or `NoSeed` if there are no random bytes for a field. `input` and `output` are then
 /// unchanged.
-pub fn run_with_random_seed<S: RandomSource, R: Read, W: Write, E: Write>(
+pub fn run_with_random_seed<S: RandomSource, R: Read, W: Write>(
     alloc: Global,
     random: &S,
     args: &[String],
     input: &mut R,
     output: &mut W,
-    errors: &mut E,
-) -> u8
-    ensures done { result ≡ DONE → Requests (map string_bytes args.now) (λ request.
-        IsAnswered request (R.remaining input.old) (W.contents output.old) (W.contents output.new)
-        (E.contents errors.old) (E.contents errors.new)) }
-    ensures failed { result ≡ FAILED → Requests (map string_bytes args.now) (λ request.
-        IsFailed request (R.remaining input.old) (W.contents output.old) (W.contents output.new)) }
-    ensures usage { (result ≡ WRONG_ARGUMENTS) ↔ NamesNothing (map string_bytes args.now) }
-    ensures unread { result ≡ WRONG_ARGUMENTS → (input.new ≡ input.old) × (output.new ≡ output.old) }
-    ensures status { result ≤ WRONG_ARGUMENTS }
+) -> Result<(), Failure>
+    ensures done { OnOk result (Requests (map string_bytes args.now) (λ request. IfSome (R.remaining input.old) (λ bytes.
+        IsAnswered request bytes (W.contents output.old) (W.contents output.new)))) }
+    ensures failed { IfErr result (λ failure. Requests (map string_bytes args.now) (λ request.
+        IfSome (R.remaining input.old) (λ bytes.
+        IsFailed request bytes (W.contents output.old) (W.contents output.new) failure))
+        ⊎ IsUnread failure (W.contents output.old) (W.contents output.new)
+        ⊎ (failure ≡ failures.WrongArguments)
+        ⊎ (failure ≡ failures.NoSeed)) }
+    ensures no_seed { result ≡ Err failures.NoSeed → Requests (map string_bytes args.now) NamesFieldType }
+    ensures usage { (result ≡ Err failures.WrongArguments) ↔ NamesNothing (map string_bytes args.now) }
+    ensures unread { result ≡ Err failures.WrongArguments → (input.new ≡ input.old) × (output.new ≡ output.old) }
+    ensures unseeded { result ≡ Err failures.NoSeed → (input.new ≡ input.old) × (output.new ≡ output.old) }
 {
     let Some(request) = requested(args) else {
-        return print_usage(errors);
+        return Err(Failure::WrongArguments);
     };
     let Ok(seed) = seed_for(random, request) else {
-        let _ = errors.write_all(b"error: no random seed\n");
-        return FAILED;
+        return Err(Failure::NoSeed);
     };
-    convert(alloc, seed, request, input, output, errors)
+    convert(alloc, seed, request, input, output)
+}
+
+/// Writes the message of a failure to `errors`. Returns the exit status, which a failed write does not change.
+pub fn report<E: Write>(outcome: Result<(), Failure>, errors: &mut E) -> u8
+    ensures done { IsOk outcome → (result ≡ DONE) × (errors.new ≡ errors.old) }
+    ensures failed { IfErr outcome (λ failure. result ≡ failure_status failure) }
+{
+    match outcome {
+        Ok(()) => DONE,
+        Err(failure) => {
+            let _ = failure.print(errors);
+            failure.status()
+        }
+    }
 }

@@ -60,7 +60,7 @@ impl Decimal {
         ensures { thousandths_of result ≡ in_thousandths v }
     {
         Decimal {
-            thousandths: Integer::from_validated_i64(v * 1000),
+            thousandths: Integer::constant(v * 1000),
         }
     }
 

@@ -39,20 +39,12 @@ impl Integer {
     /// Zero.
     pub const ZERO: Integer = Integer { value: 0 };
 
-    // Wraps a number without a check.
-    pub(crate) fn from_validated_i64(v: i64) -> Integer
-        requires { IsInRange v }
-        ensures { integer_of result ≡ v }
-    {
-        Integer { value: v }
-    }
-
     /// Returns the integer of a number from -999999999999999 to 999999999999999. The caller proves the range.
     pub fn constant(v: i64) -> Integer
         requires { IsInRange v }
         ensures { integer_of result ≡ v }
     {
-        Integer::from_validated_i64(v)
+        Integer { value: v }
     }
 
     /// Returns the number.
@@ -69,7 +61,7 @@ impl Integer {
     {
         match i64::try_from(v) {
             Ok(value) if Integer::MIN.value <= value && value <= Integer::MAX.value => {
-                Ok(Integer::from_validated_i64(value))
+                Ok(Integer::constant(value))
             }
             _ => Err(Error::OUT_OF_RANGE),
         }

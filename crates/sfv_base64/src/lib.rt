@@ -2,7 +2,7 @@
 //! bytes that `base64` decodes.
 #![tactic(auto)]
 
-ghost use Rattle.std.specs.Prelude.{◌≡◌, ◌++◌, IfErr, IfOk, codes};
+ghost use Rattle.std.specs.Prelude.{◌≡◌, ◌≢◌, ◌++◌, [], IfErr, IfOk, codes};
 ghost use Rattle.std.specs.String.{string_bytes};
 ghost use Rattle.sfv_spec.specs.Values.{byte_sequence};
 ghost use Rattle.sfv_spec.specs.Base64.{IsBase64Text};
@@ -29,16 +29,21 @@ pub fn parsed_as_decoded()
     ensures { ParsedAsDecoded }
 {}
 
-/// Returns the text that `base64` encodes for these bytes. The library writes this text between colons.
+/// Returns the text that `base64` encodes for these bytes. The library writes this text between colons. The text of no
+/// bytes needs no memory.
 ///
 /// # Errors
 ///
 /// Returns `AllocError` if memory runs out.
 #[tactic(auto, using(crate::proofs::Encoded::between_colons))]
 pub fn encode(alloc: Global, bytes: &[u8]) -> Result<String, AllocError>
-    ensures { IfOk result (λ text. bare_text (byte_sequence bytes.now)
+    ensures text { IfOk result (λ text. bare_text (byte_sequence bytes.now)
         ≡ codes ":" ++ string_bytes text ++ codes ":") }
+    ensures out_of_memory { IfErr result (λ _. bytes.now ≢ []) }
 {
+    if bytes.is_empty() {
+        return Ok(String::new(alloc));
+    }
     STANDARD.encode(alloc, bytes)
 }
 

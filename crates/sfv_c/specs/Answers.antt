@@ -1,10 +1,10 @@
 -- The results of the C calls.
-use Rattle.std.specs.Prelude.{◌≡◌, ◌<◌, ℕ, List, length, drop, ◌++◌, Option, Some, None, Result, Ok, Err, MatchOption}
+use Rattle.std.specs.Prelude.{◌≡◌, ◌<◌, ◌≤◌, ℕ, List, length, drop, ◌++◌, Option, Some, None, Result, Ok, Err, MatchOption}
 use Rattle.sfv.specs.Values.{RawField, HasMember, bare_values}
-use Rattle.sfv.specs.Types.{FieldKind, Version, Error, ErrorKind}
+use Rattle.sfv.specs.Types.{FieldKind, Version, Error, ErrorKind, HashSeed}
 use Rattle.sfv.specs.Grammar.{IsAccepted}
 use Rattle.sfv.specs.Statements.{IsParsedAs, IsSerializedAs}
-use Rattle.sfv.specs.Parsers.{IsParseError}
+use Rattle.sfv.specs.Parsers.{IsParseError, IsBuiltUnder}
 use Rattle.sfv.specs.Memory.{HoldsMark, NeedsMemory}
 use Rattle.sfv.specs.Messages.{message_of}
 use Rattle.sfv.specs.Errors.{kind_of, index_of, out_of_memory}
@@ -97,6 +97,10 @@ pub record IsCanonical (reading writing : Version) (kind : FieldKind) (input old
   pub outcome : Result Written CallFault
   pub is_outcome : IsOutcome reading writing kind input old new outcome
   pub in_numbers : a ≡ outcome_answer outcome
+
+-- if the status is that of a parsed field, the maps of its value hash under this seed
+abbrev pub IsBuiltIfWritten : HashSeed → Version → FieldKind → List ℕ → Answer → Type 0
+IsBuiltIfWritten seed version kind input a = a.status ≤ 2 → IsBuiltUnder seed version kind input
 
 -- the result of parsing without writing: accepted, or the error
 abbrev pub check_answer : Option Error → Answer

@@ -13,7 +13,7 @@ use Rattle.sfv.specs.Classes.{is_key}
 use Rattle.sfv.specs.Events.{TreeEvent, entry, keyed_entry, begins_item, begins_inner_list, bare_item, parameter}
 use Rattle.sfv.specs.Events.{parameters_end, inner_list_end}
 use Rattle.sfv.specs.Canonical.{bare_text, value_text}
-use Rattle.sfv.specs.Written.{separator_before}
+use Rattle.sfv.specs.Written.{separator_before, LacksRoom}
 use Rattle.sfv.specs.Versions.{NamesFirstUnfit}
 use Rattle.sfv.specs.BareItems.{ref_value}
 use Rattle.sfv.specs.StringText.{StringRef}
@@ -153,6 +153,11 @@ pub record Appends (x : Piece) (before now : Output) : Type 0 where
   pub version : now.version ≡ before.version
   pub state : MatchOption before.error (IsAppended before.version x before.text now.text now.error)
       (λ e. now.error ≡ Some e)
+
+-- memory runs out only if the capacity is too small for the piece
+abbrev pub LacksForPiece : Piece → Output → Output → Type 0
+LacksForPiece x before now =
+    before.error ≡ None → now.error ≡ Some errors.OutOfMemory → LacksRoom before.text x.text
 
 -- The rows from one index up to another have events that lead from place `p` to `q`, and what they add is appended.
 pub record Writes (rows : List Row) (p q : ParseState) (start at : ℕ) (before now : Output) : Type 0 where

@@ -1,8 +1,9 @@
 //! Canonical texts of parsed fields.
 
-ghost use Rattle.std.specs.Prelude.{◌≡◌, IfOk, IfErr};
+ghost use Rattle.std.specs.Prelude.{◌≡◌, IfOk, IfErr, OnOk};
 ghost use Rattle.sfv.specs.Parsers.{input_of, version_of};
-ghost use Rattle.sfv_c.specs.Answers.{IsPut, IsFault, IsCanonical};
+ghost use Rattle.sfv.specs.Statements.{IsParsedAs};
+ghost use Rattle.sfv_c.specs.Answers.{IsPut, IsFault, IsCanonical, IsBuiltIfWritten};
 
 use crate::answer::{Answer, CallFault, Written, put_text};
 use sfv::{Dictionary, FieldKind, FieldType, Item, List, Parser, Version};
@@ -20,6 +21,8 @@ fn put_field<T: FieldType>(
     ensures failed { IfErr result (IsFault (version_of parser.entry) writing T.kind
         (input_of parser.entry)) }
     ensures kept { IfErr result (λ _. out.new ≡ out.old) }
+    ensures seed { OnOk result ((value : _) × T.has_seed parser.entry.seed value
+        × IsParsedAs (version_of parser.entry) T.kind (input_of parser.entry) (T.tree value)) }
 {
     let value = parser.parse::<T>(alloc)?;
     let text = value.serialize_for(alloc, writing)?;
@@ -34,8 +37,9 @@ pub(crate) fn canonical(
     writing: Version,
     out: &mut [u8],
 ) -> Answer
-    ensures { IsCanonical (version_of parser.entry) writing field
+    ensures canonical { IsCanonical (version_of parser.entry) writing field
         (input_of parser.entry) out.old out.new result }
+    ensures seed { IsBuiltIfWritten parser.entry.seed (version_of parser.entry) field (input_of parser.entry) result }
 {
     let outcome = match field {
         FieldKind::Item => put_field::<Item>(alloc, parser, writing, out),

@@ -5,7 +5,8 @@
 
 ghost use Rattle.std.specs.Prelude.{◌≡◌, None, length};
 ghost use Rattle.sfv_c.specs.Numbers.{named_field, named_version, Names, NamesThree};
-ghost use Rattle.sfv_c.specs.Answers.{bad_argument, IsCanonical, IsCheck, IsMessage};
+ghost use Rattle.sfv.specs.HashSeeds.{seed_of};
+ghost use Rattle.sfv_c.specs.Answers.{bad_argument, IsBuiltIfWritten, IsCanonical, IsCheck, IsMessage};
 ghost use Rattle.sfv_c.specs.Events.{left_alone, PutsEvents};
 ghost use Rattle.sfv_c.specs.Writing.{IsWrite};
 
@@ -54,6 +55,7 @@ pub extern "C" fn sfv_c_canonical(
 ) -> Answer
     ensures named { NamesThree field reading writing
         (λ k r w. IsCanonical r w k input.now out.old out.new result) }
+    ensures seed { NamesThree field reading writing (λ k r w. IsBuiltIfWritten (seed_of seed) r k input.now result) }
     ensures no_field { named_field field ≡ None → (result ≡ bad_argument) × (out.new ≡ out.old) }
     ensures no_reading { named_version reading ≡ None → (result ≡ bad_argument) × (out.new ≡ out.old) }
     ensures no_writing { named_version writing ≡ None → (result ≡ bad_argument) × (out.new ≡ out.old) }

@@ -4,8 +4,9 @@ ghost use Rattle.std.specs.Prelude.{◌≡◌, [], None, string_bytes};
 ghost use Rattle.std.specs.Result.{result_err};
 ghost use Rattle.sfv.specs.BareItems.{ref_value};
 ghost use Rattle.sfv.specs.CheckedTexts.{text_of};
-ghost use Rattle.sfv.specs.Written.{separator_before};
-ghost use Rattle.sfv_c.specs.RowEvents.{IsAppended, Appends, text_only, item_piece};
+ghost use Rattle.sfv.specs.Versions.{OnOutOfMemory};
+ghost use Rattle.sfv.specs.Written.{LacksRoom, separator_before};
+ghost use Rattle.sfv_c.specs.RowEvents.{IsAppended, Appends, LacksForPiece, text_only, item_piece};
 
 use sfv::{KeyRef, RefBareItem, SerializeError, Version};
 use sfv_writer::item::{serialize_bare_item, serialize_key, serialize_value};
@@ -29,7 +30,8 @@ fn check_and_append_item(
     value: RefBareItem<'_>,
     text: &mut String,
 ) -> Result<(), SerializeError>
-    ensures { IsAppended version (item_piece keyed (ref_value value.entry)) text.old text.new (result_err result) }
+    ensures appended { IsAppended version (item_piece keyed (ref_value value.entry)) text.old text.new (result_err result) }
+    ensures room { OnOutOfMemory result (LacksRoom text.old (item_piece keyed (ref_value value.entry)).text) }
 {
     check_bare_item(version, value)?;
     if keyed {
@@ -60,7 +62,8 @@ impl Output {
     /// Appends a text.
     #[inline(always)]
     pub(crate) fn append_text(&mut self, text: &str)
-        ensures { Appends (text_only text.now) self.old self.new }
+        ensures appended { Appends (text_only text.now) self.old self.new }
+        ensures room { LacksForPiece (text_only text.now) self.old self.new }
     {
         if self.error.is_none() && self.text.push_str(text).is_err() {
             self.error = Some(SerializeError::OutOfMemory);
@@ -70,7 +73,8 @@ impl Output {
     /// Appends the separator, unless `is_first` is true.
     #[inline(always)]
     pub(crate) fn append_separator(&mut self, is_first: bool, separator: &str)
-        ensures { Appends (text_only (separator_before is_first separator.now)) self.old self.new }
+        ensures appended { Appends (text_only (separator_before is_first separator.now)) self.old self.new }
+        ensures room { LacksForPiece (text_only (separator_before is_first separator.now)) self.old self.new }
     {
         if self.error.is_none()
             && serialize_separator(is_first, separator, &mut self.text).is_err()
@@ -82,7 +86,8 @@ impl Output {
     /// Appends a key.
     #[inline(always)]
     pub(crate) fn append_key(&mut self, key: KeyRef<'_>)
-        ensures { Appends (text_only (text_of key.entry)) self.old self.new }
+        ensures appended { Appends (text_only (text_of key.entry)) self.old self.new }
+        ensures room { LacksForPiece (text_only (text_of key.entry)) self.old self.new }
     {
         if self.error.is_none() && serialize_key(key, &mut self.text).is_err() {
             self.error = Some(SerializeError::OutOfMemory);
@@ -92,7 +97,8 @@ impl Output {
     /// Appends a bare item, or the value of a key.
     #[inline(always)]
     pub(crate) fn append_item(&mut self, keyed: bool, value: RefBareItem<'_>)
-        ensures { Appends (item_piece keyed (ref_value value.entry)) self.old self.new }
+        ensures appended { Appends (item_piece keyed (ref_value value.entry)) self.old self.new }
+        ensures room { LacksForPiece (item_piece keyed (ref_value value.entry)) self.old self.new }
     {
         if self.error.is_none() {
             if let Err(error) = check_and_append_item(self.version, keyed, value, &mut self.text) {

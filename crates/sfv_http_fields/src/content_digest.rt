@@ -4,7 +4,7 @@
 //! The contracts of `read`, `write` and `reread` follow from the library's clauses by `proofs/Digests.antt`. `read`
 //! uses a `DictionaryReader`, and moves the bytes into the result.
 
-ghost use Rattle.std.specs.Prelude.{◌≡◌, ◌≢◌, ◌↔◌, None, IfOk, IfErr, IfSome, OnOk, OnErr, string_bytes};
+ghost use Rattle.std.specs.Prelude.{◌≡◌, ◌≢◌, ◌↔◌, [], None, IfOk, IfErr, IfSome, OnOk, OnErr, string_bytes};
 ghost use Rattle.sfv.specs.Types.{dictionary_field};
 ghost use Rattle.sfv.specs.Written.{IsSerialized};
 ghost use Rattle.sfv.specs.Errors.{out_of_memory};
@@ -58,11 +58,13 @@ impl From<OutOfMemory> for DigestError {
     }
 }
 
-// Returns the member for a digest, without parameters.
+// Returns the member for a digest, without parameters. An empty digest needs no memory.
 fn member_of(alloc: Global, digest: &[u8]) -> Result<ListEntry, OutOfMemory>
-    ensures { IfOk result (λ member. member_tree member ≡ bytes_member digest.now) }
+    ensures member { IfOk result (λ member. member_tree member ≡ bytes_member digest.now) }
+    ensures out_of_memory { IfErr result (λ _. digest.now ≢ []) }
 {
-    let copy = digest.to_vec(alloc)?;
+    let mut copy = Vec::with_capacity(alloc, digest.len())?;
+    copy.extend_from_slice(digest)?;
     Ok(ListEntry::from(Item::new(alloc, BareItem::from(copy))))
 }
 

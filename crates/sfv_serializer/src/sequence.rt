@@ -4,6 +4,8 @@
 ghost use Rattle.std.specs.Prelude.{◌≡◌, ◌∷◌, ◌↔◌, [], true, false, not, IsTrue, IsNone, IfSome, IfOk, IfErr, OnOk};
 ghost use Rattle.std.specs.Prelude.{OnErr, string_bytes, string_capacity};
 ghost use Rattle.std.specs.Borrow.{sem};
+ghost use Rattle.std.specs.Io.BufRead.{Rests};
+ghost use Rattle.sfv_serializer.specs.Texts.{text_row};
 ghost use Rattle.std.specs.Iterator.{IsFinite};
 ghost use Rattle.std.proofs.Common.{◌∙◌, refl};
 ghost use Rattle.sfv_spec.specs.Values.{IsBareValue};
@@ -30,6 +32,19 @@ use sfv_writer::output::{Fragment, append};
 use sfv_writer::serialize_error::SerializeError;
 use sfv_writer::version_check::check_bare_item;
 use std::string::String as StdString;
+
+/// Returns the whole text, or `None` if there is no member. Does not modify the text.
+// `finish` is this call. Its own clauses cannot state `kept`, because they cannot name a text that a struct borrows.
+fn whole_text(text: &mut StdString, is_empty: bool) -> Option<&str>
+    ensures* kept { sem 𝓛 (Rests text_row text.entry (λ last. last ≡ text.old)) }
+    ensures none { IsNone result ↔ IsTrue is_empty }
+    ensures text { IfSome result (λ whole. whole.now ≡ string_bytes text.old) }
+{
+    if is_empty {
+        return None;
+    }
+    Some(text.as_str())
+}
 
 /// A serializer that appends parts of kind `K` to `W`. Use it by the names `ListSerializer`, `DictSerializer` and
 /// `InnerListSerializer`.
@@ -78,8 +93,8 @@ impl<'a, K: TopLevel> SequenceSerializer<&'a mut StdString, K> {
     /// Finishes the field and returns the whole text of the buffer, or `None` if there is no member. Do not send a
     /// field without members (RFC 9651, section 4.1).
     ///
-    /// Does not modify the text, but no clause states this (`docs/DECISIONS.md`). If a proof needs the text
-    /// afterwards, call `has_member` and drop the serializer.
+    /// Does not modify the text (`docs/DECISIONS.md`). If a proof needs the text afterwards, call `has_member` and drop
+    /// the serializer.
     pub fn finish(self) -> Option<&'a str>
         ensures none { IsNone result ↔ IsTrue (is_empty_so_far self.entry) }
         ensures text { IfSome result (λ text. text.now ≡ string_bytes (sequence_sink self.entry).now) }
@@ -90,10 +105,7 @@ impl<'a, K: TopLevel> SequenceSerializer<&'a mut StdString, K> {
             version: _,
             kind: _,
         } = self;
-        if is_first {
-            return None;
-        }
-        Some(sink.as_str())
+        whole_text(sink, is_first)
     }
 }
 

@@ -4,12 +4,12 @@ ghost use Rattle.std.specs.Prelude.{⊤};
 
 use crate::common::has_text;
 use sfv::visitor::{
-    BareItemType, DictionaryBuilder, Event, ExpectItem, Ignored, ItemFault, MakeItemVisitor,
-    NoMemoryError, Visitor, item_visitor_with, parameter_visitor_with,
+    DictionaryBuilder, Event, ExpectItem, Ignored, ItemFault, MakeItemVisitor, NoMemoryError,
+    Visitor, item_visitor_with, parameter_visitor_with,
 };
 use sfv::{
-    BareItemFromInput, Date, Decimal, Dictionary, HashSeed, Integer, ParseError, Parser, TokenRef,
-    integer, key_ref, token_ref,
+    BareItemFromInput, BareItemType, Date, Decimal, Dictionary, HashSeed, Integer, ParseError,
+    Parser, TokenRef, integer, key_ref, token_ref,
 };
 use sfv_examples::expecting::{expect, string, token};
 use sfv_leaks::{Repeated, keeps_memory};

@@ -35,17 +35,17 @@ fn time_of(
     let alloc = rt.alloc();
     let mut least = Duration::MAX;
     for _ in 0..runs {
-        let (mut output, mut errors) = (Vec::new(alloc), Vec::new(alloc));
+        let mut output = Vec::new(alloc);
         let mut input = text.as_bytes();
         let start = Instant::now(rt)?;
-        let status = if is_seed_given {
+        let outcome = if is_seed_given {
             let seed = random_seed(&random)?;
-            run(alloc, seed, args, &mut input, &mut output, &mut errors)
+            run(alloc, seed, args, &mut input, &mut output)
         } else {
-            run_with_random_seed(alloc, &random, args, &mut input, &mut output, &mut errors)
+            run_with_random_seed(alloc, &random, args, &mut input, &mut output)
         };
         let time = start.elapsed(rt)?;
-        if status != 0 {
+        if outcome.is_err() {
             return Err(io::Error::from(io::ErrorKind::InvalidData));
         }
         least = least.min(time);

@@ -3,7 +3,7 @@
 use crate::common::{ladder, of_size};
 use sfv::{FieldKind, HashSeed, Version};
 use sfv_answers::answer::{answer, answer_priority};
-use sfv_answers::run::{random_seed, run, run_with_random_seed};
+use sfv_answers::run::{random_seed, report, run, run_with_random_seed};
 use sfv_random::Random;
 use std::alloc::Global;
 use std::cell::Cell;
@@ -89,7 +89,8 @@ fn status_of<R: Read, W: Write, E: Write>(
 ) -> Option<u8> {
     let args = arguments(alloc, args)?;
     let seed = HashSeed::new(1);
-    Some(run(alloc, seed, args.as_slice(), input, output, errors))
+    let outcome = run(alloc, seed, args.as_slice(), input, output);
+    Some(report(outcome, errors))
 }
 
 /// Returns `true` if a run over memory writes exactly these texts, and has this status.
@@ -418,14 +419,8 @@ fn ends_under<S: RandomSource>(
     };
     let (mut output, mut errors) = (Vec::new(alloc), Vec::new(alloc));
     let mut input = text.as_bytes();
-    let status = run_with_random_seed(
-        alloc,
-        random,
-        args.as_slice(),
-        &mut input,
-        &mut output,
-        &mut errors,
-    );
+    let outcome = run_with_random_seed(alloc, random, args.as_slice(), &mut input, &mut output);
+    let status = report(outcome, &mut errors);
     output.as_slice() == wanted.0.as_bytes()
         && errors.as_slice() == wanted.1.as_bytes()
         && status == wanted.2
@@ -548,14 +543,8 @@ fn is_told(alloc: Global, args: &str, input: &[u8], wanted: Result<String, Strin
     };
     let (mut left, mut errors) = (input, Vec::new(alloc));
     let seed = HashSeed::new(1);
-    let status = run(
-        alloc,
-        seed,
-        args.as_slice(),
-        &mut left,
-        &mut output,
-        &mut errors,
-    );
+    let outcome = run(alloc, seed, args.as_slice(), &mut left, &mut output);
+    let status = report(outcome, &mut errors);
     match wanted {
         Ok(text) => {
             status == 0

@@ -2,11 +2,11 @@
 
 use crate::common::{has_text, is_text, is_tight, ladder, of_size};
 use sfv::script::{ItemCalls, MemberCalls};
-use sfv::visitor::BareItemType;
 use sfv::{
-    BareItem, BareItemFromInput, DictSerializer, Dictionary, FieldType, GenericBareItem, Integer,
-    Item, KeyRef, List, ListEntry, ListSerializer, ParseError, Parser, RefBareItem, SerializeError,
-    TokenRef, Version, find_entry, find_param, integer, key_ref, token_ref,
+    BareItem, BareItemFromInput, BareItemType, DictSerializer, Dictionary, FieldType,
+    GenericBareItem, Integer, Item, KeyRef, List, ListEntry, ListSerializer, ParseError, Parser,
+    RefBareItem, SerializeError, TokenRef, Version, find_entry, find_param, integer, key_ref,
+    token_ref,
 };
 use sfv_examples::expecting::string;
 use sfv_examples::lookups::{has_member, member, param, remove_member, replace_member};

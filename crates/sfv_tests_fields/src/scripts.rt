@@ -5,8 +5,7 @@ use sfv::script::{
     ItemCalls, MemberCalls, ParamCall, run_dict, run_dict_for, run_item, run_item_for, run_list,
     run_list_for,
 };
-use sfv::visitor::BareItemType;
-use sfv::{KeyRef, SerializeError, Version, key_ref};
+use sfv::{BareItemType, KeyRef, SerializeError, Version, key_ref};
 use std::alloc::Global;
 
 const DATE: SerializeError = SerializeError::Unsupported(BareItemType::Date);

@@ -1,9 +1,8 @@
 //! Serialization for a version.
 
 use crate::common::{has_text, is_text, value};
-use sfv::visitor::BareItemType;
 use sfv::{
-    Dictionary, Error, FieldType, Item, ItemSerializer, List, ListSerializer, Parser,
+    BareItemType, Dictionary, Error, FieldType, Item, ItemSerializer, List, ListSerializer, Parser,
     SerializeError, Version,
 };
 use std::alloc::Global;

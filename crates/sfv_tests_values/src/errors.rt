@@ -1,8 +1,8 @@
 //! Errors: their kinds, indexes and texts.
 
 use crate::common::{is_shown, is_text, near_power, prints};
-use sfv::visitor::{BareItemType, ItemFault};
-use sfv::{Error, ErrorKind, OutOfMemory, ParseError, SerializeError};
+use sfv::visitor::ItemFault;
+use sfv::{BareItemType, Error, ErrorKind, OutOfMemory, ParseError, SerializeError};
 use std::alloc::{AllocError, AllocFailed, Global};
 use std::test::Fail;
 

@@ -2,7 +2,7 @@
 //! members without their default value.
 #![tactic(auto)]
 
-use sfv_answers::run::run_with_random_seed;
+use sfv_answers::run::{report, run_with_random_seed};
 use std::alloc::AllocGlobal;
 use std::env::Env;
 use std::io::{ErrorKind, Write};
@@ -28,13 +28,12 @@ fn main(rt: HostRuntime) -> ExitCode {
         // An argument is not UTF-8, so the arguments are wrong. No arguments are wrong too.
         Err(_) => Vec::new(rt.alloc()),
     };
-    let status = run_with_random_seed(
+    let outcome = run_with_random_seed(
         rt.alloc(),
         &rt,
         args.as_slice(),
         &mut rt.stdin(),
         &mut rt.stdout(),
-        &mut rt.stderr(),
     );
-    ExitCode::from(status)
+    ExitCode::from(report(outcome, &mut rt.stderr()))
 }

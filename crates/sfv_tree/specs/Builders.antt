@@ -133,7 +133,8 @@ list_step (ms, Some p) e = settle ms (member_step p e)
 list_step (ms, None) entry = (ms, Some begun)
 list_step s e = s
 
--- the event allocates here: within the member, or because the member ends and goes into the list
+-- The event allocates here: within the member, or because the member ends and goes into the list. So a list requests
+-- memory at text to copy, at a parameter, and at the end of the parameters of an item, an inner item or an inner list.
 abbrev pub list_takes_memory : List RawMember × Option MemberState → TreeEvent → Bool
 list_takes_memory (ms, Some p) e = takes_memory p e || ends p e
 list_takes_memory s e = false
@@ -166,7 +167,9 @@ dictionary_step (ms, Some (key, p)) e = settle_pair ms key (member_step p e)
 dictionary_step (ms, None) (keyed_entry key) = (ms, Some (key, begun))
 dictionary_step s e = s
 
--- the event allocates here: a key is copied; within the member; or because the member ends and has a new key
+-- The event allocates here: a key is copied; within the member; or because the member ends and has a new key. So a
+-- dictionary requests memory at a key, at text to copy, at a parameter, at the end of the parameters of an inner item,
+-- and, for a new key, at the end of the parameters of a member.
 abbrev pub dictionary_takes_memory : DictionaryState → TreeEvent → Bool
 dictionary_takes_memory (ms, Some (key, p)) e = takes_memory p e || (ends p e && is_none (lookup (bytes_eq key) ms))
 dictionary_takes_memory (ms, None) (keyed_entry key) = true

@@ -61,7 +61,7 @@ impl Item {
     }
 }
 
-// Inserts a clone of a parameter.
+// Inserts a clone of a parameter. Its key is copied first, so any parameter may run out of memory.
 fn insert_clone(params: &mut Parameters, key: &Key, value: &BareItem) -> Result<(), AllocError>
     ensures entries { OnOk result (pairs_tree params.new.entries
         ≡ insert_entry bytes_eq (pairs_tree params.old.entries) key.now (bare_value value.now)) }

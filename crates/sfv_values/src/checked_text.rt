@@ -92,7 +92,7 @@ impl<C: TextClass> CheckedText<C> {
     pub(crate) fn lend(&self) -> CheckedTextRef<'_, C>
         ensures { text_of result ≡ self.now }
     {
-        CheckedTextRef::from_validated_str(self.as_str())
+        CheckedTextRef::constant(self.as_str())
     }
 }
 

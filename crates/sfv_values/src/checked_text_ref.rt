@@ -63,26 +63,18 @@ impl<C: TextClass> Hash for CheckedTextRef<'_, C> {
 }
 
 impl<'a, C: TextClass> CheckedTextRef<'a, C> {
-    ghost use Rattle.std.specs.Prelude.{◌≡◌, IfOk};
+    ghost use Rattle.std.specs.Prelude.{◌≡◌, ◌≢◌, [], IfOk, OnErr};
     ghost use Rattle.sfv_values.specs.CheckedTexts.{text_of, GivesTextRef};
-
-    /// Wraps a text of the class, without a check.
-    pub(crate) fn from_validated_str(text: &'a str) -> CheckedTextRef<'a, C>
-        requires { IsTrue (C.is_valid text.now) }
-        ensures { text_of result ≡ text.now }
-    {
-        CheckedTextRef {
-            text,
-            class: PhantomData,
-        }
-    }
 
     /// Wraps a text of the class, without a check: the caller proves that it is of the class.
     pub fn constant(v: &'a str) -> CheckedTextRef<'a, C>
         requires { IsTrue (C.is_valid v.now) }
         ensures { text_of result ≡ v.now }
     {
-        CheckedTextRef::from_validated_str(v)
+        CheckedTextRef {
+            text: v,
+            class: PhantomData,
+        }
     }
 
     /// Checks and wraps a text.
@@ -96,7 +88,7 @@ impl<'a, C: TextClass> CheckedTextRef<'a, C> {
         ensures { GivesTextRef v.now result }
     {
         C::check(v.as_bytes())?;
-        Ok(CheckedTextRef::from_validated_str(v))
+        Ok(CheckedTextRef::constant(v))
     }
 
     /// Checks and wraps bytes.
@@ -110,7 +102,7 @@ impl<'a, C: TextClass> CheckedTextRef<'a, C> {
         C::check(v)?;
         // SAFETY: texts of every class are ASCII.
         let text = unsafe { std::str::from_utf8_unchecked(v) };
-        Ok(CheckedTextRef::from_validated_str(text))
+        Ok(CheckedTextRef::constant(text))
     }
 
     /// Returns the text.
@@ -121,16 +113,19 @@ impl<'a, C: TextClass> CheckedTextRef<'a, C> {
         self.text
     }
 
-    /// Returns an owned copy of the text, allocated from `alloc`.
+    /// Returns an owned copy of the text, allocated from `alloc`. The copy of an empty text needs no memory.
     ///
     /// # Errors
     ///
     /// Returns `OutOfMemory` if memory runs out.
     pub fn to_owned(&self, alloc: Global) -> Result<CheckedText<C>, OutOfMemory>
-        ensures { IfOk result (λ t. t ≡ text_of self.now) }
+        ensures text { IfOk result (λ t. t ≡ text_of self.now) }
+        ensures out_of_memory { OnErr result (text_of self.now ≢ []) }
     {
-        let text = StdString::from_str(alloc, self.as_str())?;
-        Ok(CheckedText::from_validated_string(text))
+        let text = self.as_str();
+        let mut copy = StdString::with_capacity(alloc, text.len())?;
+        copy.push_str(text)?;
+        Ok(CheckedText::from_validated_string(copy))
     }
 }
 

@@ -61,8 +61,8 @@ OnOutOfMemory result P = MatchResult result (λ _. ⊤) (λ e. e ≡ errors.OutO
 abbrev pub OnUnsupported : {T : Type 0} → Result T SerializeError → Type 0 → Type 0
 OnUnsupported result P = MatchResult result (λ _. ⊤) (λ e. (kind : BareItemType) → e ≡ errors.Unsupported kind → P)
 
--- The error of a call that checks each element of an iterator before it allocates. The iterator yielded at least one
--- element, and the error is for the elements so far. The iterator is not called again.
+-- The error of a call that checks each element of an iterator before it allocates. The error is for the elements that
+-- the iterator yields first, at least one.
 abbrev pub FailsAmong : {S A : Type 0} → (S → Option A → S → Type 0) → S → (List A → List BareValue) → Version
     → SerializeError → Type 0
 FailsAmong {S} {A} steps from values version error =
@@ -133,8 +133,8 @@ module _ {A S : Type 0} (kind : PartKind A) (version : Version) (gives : S → O
   AppendsAll separator old is_first new none = TakesAll (λ taken. (none ≡ is_first_after is_first taken)
       × (string_bytes new ≡ string_bytes old ++ parts_text kind separator is_first taken))
 
-  -- The iterator gives at least one part, and is not called after that. The error is for these parts: the version lacks
-  -- one of their values; or it has all, memory runs out, and the capacity of `old` doesn't hold their text.
+  -- The error is for the parts that the iterator gives first, at least one: the version lacks one of their values; or it
+  -- has all, memory runs out, and the capacity of `old` doesn't hold their text.
   pub record StopsEarly {Z : Type 0} (separator : List ℕ) (old : String Z) (is_first : Bool) (error : SerializeError)
       : Type 0 where
     pub taken : List A

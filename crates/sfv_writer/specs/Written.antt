@@ -55,7 +55,8 @@ IsReadBack version kind raw = IsParsedAs version kind (canonical kind raw) (orde
 abbrev pub separator_before : Bool → List ℕ → List ℕ
 separator_before is_first separator = if is_first then [] else separator
 
--- If the old text begins with a UTF-8 text of this length, the new text is that one.
+-- If the old text begins with a UTF-8 text of this length, the new text is that one. It says nothing if `len` exceeds
+-- the old text.
 pub record IsTruncatedTo (len : ℕ) (old new : List ℕ) : Type 0 where
   pub back : (before : List ℕ) → IsUtf8 before → len ≡ length before → Extends before old → new ≡ before
 

@@ -21,8 +21,8 @@ use std::alloc::Allocator;
 use std::string::String as StdString;
 
 /// An item of an inner list, or a member of a list or a dictionary.
-// The functions that append an element are inlined into the loop of each caller, except for inner lists. A member that
-// is a token then takes 65 instructions instead of 90.
+// The functions that append an element are inlined into the loop of each caller, except for inner lists. A member then
+// takes no call.
 pub trait Element: Copy {
     ghost part: { PartKind Self };
 

@@ -88,8 +88,7 @@ fn serialize_bool<A: Allocator>(value: bool, output: &mut StdString<A>) -> Resul
 ///
 /// Returns `OutOfMemory` if memory runs out. `output` is then unchanged.
 // Only a token is written inline: its bytes are copied. The other kinds are calls, so an item does not pay for
-// registers and stack that only they need. An inner list of 10,000 tokens takes 1.0 times the instructions of the Rust
-// crate, instead of 1.7.
+// registers and stack that only they need.
 #[inline(always)]
 pub fn serialize_bare_item<A: Allocator>(
     value: RefBareItem<'_>,

@@ -22,8 +22,7 @@ pub fn truncate_to<A: Allocator>(len: usize, output: &mut StdString<A>)
 
 /// A fragment that is appended at once.
 // Everything that appends a fragment is inlined, from the serializer's call to the text, except the kinds of bare item
-// that `serialize_bare_item` calls. The fragment is then never built in memory, and a member takes 40 instructions
-// less.
+// that `serialize_bare_item` calls. The fragment is then never built in memory.
 pub trait Fragment: Drop {
     ghost text: { Self → List ℕ };
 

@@ -70,9 +70,9 @@ fn serialize_pieces<Q: Escaping, A: Allocator>(
 {
     let mut rest = bytes;
     while let Some((byte, after)) = rest.split_first() {
-        // Between neighbouring escapes the run is empty. To split off empty runs takes three times as long.
+        // Between neighbouring escapes the run is empty. To split off empty runs would be slower.
         if Q::is_plain(*byte) {
-            // With `split_whole`, a long string with an escape after each byte would take 1.19 of the instructions.
+            // With `split_whole`, a long string with an escape after each byte would be slower.
             let (run, after) = Q::split_plain(rest);
             // SAFETY: plain bytes are ASCII.
             output.push_str(unsafe { std::str::from_utf8_unchecked(run) })?;

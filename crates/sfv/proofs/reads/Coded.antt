@@ -92,6 +92,7 @@ group_decoded cs a b c d four first second third fourth = rw (first, second, thi
 pub record IsDecodedUpTo (before symbols rest bytes : List ℕ) : Type 0 where
   pub each : list_all is_symbol rest ≡ true
   pub whole : length rest % 4 ≡ 0
+  pub within : length rest ≤ length symbols
   pub all : bytes ++ decoded_symbols rest ≡ before ++ decoded_symbols symbols
 
 -- some symbols more are decoded
@@ -104,6 +105,7 @@ more_decoded before symbols rest bytes part after new n so_far fits groups front
     record {
       each = rw back ((all_parts n rest so_far.each).1);
       whole = rw back (omega (arith, length-drop n rest, so_far.whole, groups));
+      within = rw back (omega (arith, length-drop n rest, so_far.within));
       all = rw (is, front, back, append_assoc, ← parts) so_far.all;
     }
 

@@ -49,6 +49,7 @@ impl<'de> Cursor<'de> {
         }
     }
 
+    /// Parses a boolean as a bare item.
     #[inline(never)]
     fn boolean_item(&mut self) -> Result<BareItemFromInput<'de>, Error>
         requires { NextIs (byte question_mark) true (rest self.old) }
@@ -60,6 +61,7 @@ impl<'de> Cursor<'de> {
         Ok(GenericBareItem::Boolean(self.boolean()?))
     }
 
+    /// Parses a string as a bare item.
     #[inline(never)]
     #[tactic(auto, using(crate::proofs::trees::Needs::quote_next))]
     fn string_item(&mut self) -> Result<BareItemFromInput<'de>, Error>
@@ -73,6 +75,7 @@ impl<'de> Cursor<'de> {
         Ok(GenericBareItem::String(self.string()?))
     }
 
+    /// Parses a byte sequence as a bare item.
     #[inline(never)]
     fn byte_sequence_item(&mut self) -> Result<BareItemFromInput<'de>, Error>
         requires { NextIs (byte colon) true (rest self.old) }
@@ -116,6 +119,7 @@ impl<'de> Cursor<'de> {
         }
     }
 
+    /// Parses an integer or a decimal as a bare item.
     #[inline(always)]
     fn number_item(&mut self) -> Result<BareItemFromInput<'de>, Error>
         requires { NextIs is_number_start true (rest self.old) }

@@ -4,7 +4,7 @@
 //! The last two or three symbols are decoded apart from the whole groups of four symbols, because padding may be missing
 //! and their spare bits need not be zero.
 
-ghost use Rattle.std.specs.Prelude.{◌≡◌, ◌<◌, ◌%◌, ◌++◌, length, IfOk, IfErr, IsOk, OnOk};
+ghost use Rattle.std.specs.Prelude.{◌≡◌, ◌≢◌, ◌<◌, ◌%◌, ◌++◌, [], length, IfOk, IfErr, IsOk, OnOk, OnErr};
 ghost use Rattle.sfv_spec.specs.Texts.{RunOf};
 ghost use Rattle.sfv_spec.proofs.Marks.{is_symbol};
 ghost use Rattle.sfv_base.specs.Errors.{out_of_memory};
@@ -35,11 +35,12 @@ fn group_bytes(group: &[u8; 4]) -> [u8; 3]
     ]
 }
 
-/// Appends the bytes of whole groups of four symbols.
+/// Appends the bytes of whole groups of four symbols. Without a symbol, no memory is requested.
 fn append_groups(symbols: &[u8], bytes: &mut Vec<u8>) -> Result<(), AllocError>
     requires symbols { RunOf is_symbol symbols.now }
     requires whole { length symbols.now % 4 ≡ 0 }
-    ensures { OnOk result (bytes.new.items ≡ bytes.old.items ++ decoded_symbols symbols.now) }
+    ensures bytes { OnOk result (bytes.new.items ≡ bytes.old.items ++ decoded_symbols symbols.now) }
+    ensures out_of_memory { OnErr result (symbols.now ≢ []) }
 {
     let mut rest = symbols;
     while let Some((block, after)) = rest.split_first_chunk::<16>() {
@@ -58,7 +59,8 @@ fn append_groups(symbols: &[u8], bytes: &mut Vec<u8>) -> Result<(), AllocError>
 fn append_last(symbols: &[u8], bytes: &mut Vec<u8>) -> Result<(), AllocError>
     requires symbols { RunOf is_symbol symbols.now }
     requires few { length symbols.now < 4 }
-    ensures { OnOk result (bytes.new.items ≡ bytes.old.items ++ decoded_symbols symbols.now) }
+    ensures bytes { OnOk result (bytes.new.items ≡ bytes.old.items ++ decoded_symbols symbols.now) }
+    ensures out_of_memory { OnErr result (symbols.now ≢ []) }
 {
     let count = symbols.len();
     if count < 2 {
@@ -72,10 +74,11 @@ fn append_last(symbols: &[u8], bytes: &mut Vec<u8>) -> Result<(), AllocError>
     Ok(())
 }
 
-/// Decodes symbols, and ignores the spare bits of the last one.
+/// Decodes symbols, and ignores the spare bits of the last one. Without a symbol, no memory is requested.
 fn decode_symbols(alloc: Global, symbols: &[u8]) -> Result<Vec<u8>, AllocError>
     requires { RunOf is_symbol symbols.now }
-    ensures { IfOk result (λ bytes. bytes.items ≡ decoded_symbols symbols.now) }
+    ensures bytes { IfOk result (λ bytes. bytes.items ≡ decoded_symbols symbols.now) }
+    ensures out_of_memory { OnErr result (symbols.now ≢ []) }
 {
     let len = symbols.len() / 4 * 3 + symbols.len() % 4 * 3 / 4;
     let mut bytes = Vec::with_capacity(alloc, len)?;

@@ -13,8 +13,8 @@ use crate::parser::cursor::Cursor;
 use sfv_base::error::{Error, ErrorKind};
 use std::alloc::Global;
 
-// The test costs an accepted item about 20 instructions, and an accepted list or dictionary about 50. Without it, a
-// rejected list takes 286 instructions, and a rejected dictionary 235.
+// The test costs an accepted field little. Without it, a list or dictionary that is rejected at its first byte pays for
+// the setup of a parse.
 
 impl Cursor<'_> {
     /// Fails if the next byte begins no bare item.

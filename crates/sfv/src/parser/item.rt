@@ -40,7 +40,7 @@ impl<'de> Cursor<'de> {
     }
 
     /// Parses a parameter, or returns `None` if the next byte is not a semicolon.
-    // Inlined into the loops: as a call it takes 95 more instructions.
+    // Inlined into the loops: the result of a call goes through memory.
     #[inline(always)]
     #[tactic(auto, using(crate::proofs::reads::Steps::parameter_steps))]
     pub(super) fn parameter(&mut self) -> Result<Option<ReadParameter<'de>>, Error>

@@ -21,6 +21,7 @@ impl<'de> Cursor<'de> {
         self.peek().is_some_and(is_allowed_start_key_char)
     }
 
+    /// Parses a key.
     #[inline(always)]
     #[tactic(auto, using(crate::proofs::reads::Steps::key_steps))]
     pub(crate) fn key(&mut self) -> Result<KeyRef<'de>, Error>

@@ -21,6 +21,7 @@ impl<'de> Cursor<'de> {
         self.peek().is_some_and(is_allowed_start_token_char)
     }
 
+    /// Parses a token. The error is that of a bare item.
     #[tactic(auto, using(crate::proofs::reads::Steps::token_steps))]
     pub(crate) fn token(&mut self) -> Result<TokenRef<'de>, Error>
         ensures { Reads (λ t. token (text_of t)) self.old self.new result token_at }

@@ -12,7 +12,7 @@ impl From<i8> for Integer {
     ghost from_gives = { λ v n. integer_of n ≡ v };
 
     fn from(v: i8) -> Integer {
-        Integer::from_validated_i64(i64::from(v))
+        Integer::constant(i64::from(v))
     }
 }
 
@@ -30,7 +30,7 @@ impl From<i16> for Integer {
     ghost from_gives = { λ v n. integer_of n ≡ v };
 
     fn from(v: i16) -> Integer {
-        Integer::from_validated_i64(i64::from(v))
+        Integer::constant(i64::from(v))
     }
 }
 
@@ -48,7 +48,7 @@ impl From<i32> for Integer {
     ghost from_gives = { λ v n. integer_of n ≡ v };
 
     fn from(v: i32) -> Integer {
-        Integer::from_validated_i64(i64::from(v))
+        Integer::constant(i64::from(v))
     }
 }
 
@@ -122,7 +122,7 @@ impl From<u8> for Integer {
     ghost from_gives = { λ v n. integer_of n ≡ pos v };
 
     fn from(v: u8) -> Integer {
-        Integer::from_validated_i64(i64::from(v))
+        Integer::constant(i64::from(v))
     }
 }
 
@@ -140,7 +140,7 @@ impl From<u16> for Integer {
     ghost from_gives = { λ v n. integer_of n ≡ pos v };
 
     fn from(v: u16) -> Integer {
-        Integer::from_validated_i64(i64::from(v))
+        Integer::constant(i64::from(v))
     }
 }
 
@@ -158,7 +158,7 @@ impl From<u32> for Integer {
     ghost from_gives = { λ v n. integer_of n ≡ pos v };
 
     fn from(v: u32) -> Integer {
-        Integer::from_validated_i64(i64::from(v))
+        Integer::constant(i64::from(v))
     }
 }
 

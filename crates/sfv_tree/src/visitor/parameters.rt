@@ -12,7 +12,8 @@ use sfv_values::bare::BareItemFromInput;
 use sfv_values::key_ref::KeyRef;
 use std::alloc::Global;
 
-// Inserts a parameter. An existing key keeps its place and takes the new value; a new key goes last.
+// Inserts a parameter. An existing key keeps its place and takes the new value; a new key goes last. The key is copied
+// first, so any parameter may run out of memory.
 #[inline(never)]
 pub(crate) fn insert_parameter(
     alloc: Global,

@@ -18,7 +18,7 @@ pub returns-in_err-at : goal.returns-in_err-at
 returns-in_err-at c = at_exit c.from_residual.result _ _ _ c.from_residual.ensures.1
     (stops_on (writes_on c.loop-row.invariant (writes_row (keyed_entry (text_of c.in-Some-keyed_entry_in.key))
     c.in-Some.ensures.1 c.in-Some-keyed_entry_in.ensures.0 c.in-Some-keyed_entry_in.ensures.1 refl
-    (appends_both c.append_separator.ensures c.append_key.ensures))) (c.in_err-at.ensures (dictionary_members false)))
+    (appends_both c.append_separator.ensures.appended c.append_key.ensures.appended))) (c.in_err-at.ensures (dictionary_members false)))
 
 pub loop-row-smaller : goal.loop-row-smaller
 loop-row-smaller c = omega (arith, c.in-Some.ensures.0, (c.in_ok-at.ensures ended).count)
@@ -26,7 +26,7 @@ loop-row-smaller c = omega (arith, c.in-Some.ensures.0, (c.in_ok-at.ensures ende
 pub loop-row-preserved : goal.loop-row-preserved
 loop-row-preserved c = writes_on (writes_on c.loop-row.invariant
     (writes_row (keyed_entry (text_of c.in-Some-keyed_entry_in.key)) c.in-Some.ensures.1 c.in-Some-keyed_entry_in.ensures.0 c.in-Some-keyed_entry_in.ensures.1 refl
-    (appends_both c.append_separator.ensures c.append_key.ensures))) (c.in_ok-at.ensures (dictionary_members false))
+    (appends_both c.append_separator.ensures.appended c.append_key.ensures.appended))) (c.in_ok-at.ensures (dictionary_members false))
 
 pub returns : goal.returns
 returns c = record {

@@ -15,14 +15,14 @@ returns-then-not-is_plain c = stops_at c.loop-row.invariant (stuck_at (list_memb
 pub returns-in_err-at : goal.returns-in_err-at
 returns-in_err-at c = at_exit c.from_residual.result _ _ _ c.from_residual.ensures.1
     (stops_on (writes_on c.loop-row.invariant (writes_row entry c.in-Some.ensures.1 tt
-    (c.if-not-is_plain.ensures.0 refl) refl c.append_separator.ensures)) (c.in_err-at.ensures (list_members false)))
+    (c.if-not-is_plain.ensures.0 refl) refl c.append_separator.ensures.appended)) (c.in_err-at.ensures (list_members false)))
 
 pub loop-row-smaller : goal.loop-row-smaller
 loop-row-smaller c = omega (arith, c.in-Some.ensures.0, (c.in_ok-at.ensures ended).count)
 
 pub loop-row-preserved : goal.loop-row-preserved
 loop-row-preserved c = writes_on (writes_on c.loop-row.invariant (writes_row entry c.in-Some.ensures.1 tt
-    (c.if-not-is_plain.ensures.0 refl) refl c.append_separator.ensures)) (c.in_ok-at.ensures (list_members false))
+    (c.if-not-is_plain.ensures.0 refl) refl c.append_separator.ensures.appended)) (c.in_ok-at.ensures (list_members false))
 
 pub returns : goal.returns
 returns c = record {

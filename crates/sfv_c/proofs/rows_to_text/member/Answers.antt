@@ -27,5 +27,5 @@ returns c p =
     ] in
     answers_on p c.items.new.output c.items.result
     (writes_row begins_inner_list c.in-Some.ensures.1 tt (c.if-not-is_plain.ensures.0 refl) refl
-    (subst (λ t. Appends (text_only t) c.args.output.now c.append_text.new.self) opening c.append_text.ensures))
+    (subst (λ t. Appends (text_only t) c.args.output.now c.append_text.new.self) opening c.append_text.ensures.appended))
     (c.items.ensures p)

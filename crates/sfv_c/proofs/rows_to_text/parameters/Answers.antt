@@ -23,7 +23,7 @@ loop-row-preserved c p =
     let h = c.in-Some-parameter_in.ensures in
     writes_on (c.loop-row.invariant p) (writes_row (parameter (text_of c.in-Some-parameter_in.parameter.key)
     (ref_value c.in-Some-parameter_in.parameter.value)) c.in-Some.ensures.1 (h.0, h.1) h.2 refl
-    (appends_both (appends_both c.append_text.ensures c.append_key.ensures) c.append_item.ensures))
+    (appends_both (appends_both c.append_text.ensures.appended c.append_key.ensures.appended) c.append_item.ensures.appended))
 
 pub returns : goal.returns
 returns c p = stops_at (c.loop-row.invariant p) (stuck_end (parameters p) c.in_default.ensures refl)

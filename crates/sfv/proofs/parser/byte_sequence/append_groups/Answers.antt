@@ -16,7 +16,7 @@ loop-group-preserved c =
     c.in-Some-split_first_chunk.after.now c.extend_from_slice-in-Some-split_first_chunk.new.self.items 4 c.loop-group.invariant (omega (arith, split.2)) (omega arith)
     split.0 split.1 (c.in_ok-extend_from_slice-2.ensures.items ∙ rw c.group_bytes.ensures refl)
 
-pub returns : goal.returns
-returns c =
+pub returns-clause-bytes : goal.returns-clause-bytes
+returns-clause-bytes c =
     all_decoded c.args.bytes.now.items c.args.symbols.now c.loop-group.rest.now c.loop-group.bytes.items
     c.loop-group.invariant c.in_default-split_first_chunk.ensures.cases

@@ -61,6 +61,6 @@ returns-clause-read c =
     let runs = runs_of input start n _ p c.symbol_run-count.ensures c.padding_after.ensures c.padding_run.ensures in
     let open_end = simp take_rest at c.if-end-content.false in
     let colon = simp take_rest at c.if-content-end-ne58.false in
-    let value = simp take_rest at c.in_ok-bytes.ensures in
+    let value = simp take_rest at c.in_ok-bytes.ensures.bytes in
     let next : start + (n + p) + 1 ≡ start + (n + p + 1) = omega arith in
     (rw (value, ← next) (bytes_read input start n p runs open_end colon c.if-count-eq1.false).0, refl)
