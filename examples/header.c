@@ -137,7 +137,7 @@ static void check_find(void) {
     CHECK(a.status == SFV_OK && a.length == strlen(field) && memcmp(out, field, a.length) == 0);
 }
 
-/* Looks up keys in a copy of the rows, after which no row follows. */
+/* Looks up keys in a copy of the rows, after which no row follows, also if its end is cut off. */
 static void check_ends(void) {
     sfv_answer a = parse(SFV_DICTIONARY, "a;x, b=(c;y);z", ROWS, room, sizeof room);
     sfv_row *copy = malloc(a.rows * sizeof *copy);
@@ -150,6 +150,14 @@ static void check_ends(void) {
     m = sfv_member(copy, a.rows, "b");
     p = sfv_parameter(m, "z");
     CHECK(m == copy + 6 && p == copy + a.rows - 2 && !sfv_parameter(m, "c") && !sfv_parameter(m, "y"));
+    for (size_t i = a.rows; i > 0; i--) {
+        copy = realloc(copy, i * sizeof *copy);
+        if (!copy) exit(2);
+        m = sfv_member(copy, i, "b");
+        CHECK_ROW(!m || (size_t)(m - copy) < i);
+        m = sfv_member(copy, i, "a");
+        CHECK_ROW(!m || (size_t)(m - copy) < i);
+    }
     free(copy);
     a = parse(SFV_DICTIONARY, "c=()", ROWS, room, sizeof room);
     CHECK(sfv_member(rows, a.rows, "c") == rows + 1 && !sfv_parameter(rows + 1, "c"));
@@ -416,6 +424,21 @@ static void check_texts(void) {
     }
 }
 
+/* The kinds that no syntax error has. */
+static void check_other_kinds(void) {
+    static const struct { sfv_error_kind kind; const char *text; } KINDS[] = {
+        {SFV_ERR_NONE, "no such field"},        {SFV_ERR_OUT_OF_MEMORY, "out of memory"},
+        {SFV_ERR_OUT_OF_RANGE, "out of range"}, {SFV_ERR_EMPTY, "cannot be empty"},
+        {SFV_ERR_INVALID_CHARACTER, "invalid character"},
+    };
+    for (size_t i = 0; i < COUNT(KINDS); i++) {
+        char text[SFV_TEXT_SIZE];
+        sfv_answer a = {SFV_REJECTED, 0, 0, 0, 0};
+        a.kind = (uint32_t)KINDS[i].kind;
+        CHECK_ROW(strcmp(sfv_error_text(a, text), KINDS[i].text) == 0);
+    }
+}
+
 /* One error has one text. */
 static void check_unsupported(void) {
     char text[SFV_TEXT_SIZE], other[SFV_TEXT_SIZE];
@@ -467,6 +490,7 @@ int main(void) {
     check_bad_lines();
     check_kinds();
     check_texts();
+    check_other_kinds();
     check_unsupported();
     check_rows_for();
     check_numbers();

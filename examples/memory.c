@@ -50,8 +50,9 @@ void rattle_dealloc(void *block) {
     free((head *)block - 1);
 }
 
-enum call { CHECK, CANONICAL, PARSE, WRITE, CALLS };
-enum { CHECKED = 256, ROWS = 1 << 15, LONG_FIELD = 1 << 16 };
+/* LENGTH is sfv_write without a buffer. */
+enum call { CHECK, CANONICAL, PARSE, WRITE, LENGTH, CALLS };
+enum { CHECKED = 256, ROWS = 1 << 16, LONG_FIELD = 1 << 16 };
 
 static const line *current;
 static int errors;
@@ -78,7 +79,7 @@ static sfv_answer make(enum call call, unsigned long number) {
     case CHECK: return sfv_check(l->type, l->version, l->input, l->length);
     case CANONICAL: return sfv_canonical(l->type, l->version, l->version, l->input, l->length, out, sizeof out);
     case PARSE: return sfv_parse(l->type, l->version, l->input, l->length, rows, ROWS, out, sizeof out);
-    default: return sfv_write(l->type, l->version, parsed_rows, parsed.rows, out, sizeof out);
+    default: return sfv_write(l->type, l->version, parsed_rows, parsed.rows, out, call == WRITE ? sizeof out : 0);
     }
 }
 
@@ -109,9 +110,9 @@ static size_t longest_value(void) {
 static size_t limit_of(enum call call) {
     switch (call) {
     case CHECK: return has_byte('\\') || has_byte('%') || has_byte(':') ? 3 * current->length : 0;
-    case PARSE: return has_byte('\\') || has_byte('%') || has_byte(':') ? 3 * longest_value() : 0;
+    case PARSE: return has_byte('\\') || has_byte('%') || has_byte(':') ? 8 + 3 * longest_value() : 0;
     case CANONICAL: return 2048 + 260 * current->length;
-    default: return 8 * parsed.rows + 3 * make(WRITE, 0).length;
+    default: return 128 + 8 * parsed.rows + 3 * make(LENGTH, 0).length;
     }
 }
 
@@ -186,7 +187,7 @@ static void try_long_fields(void) {
 
 /* sfv_write and sfv_canonical need some of their requests, and sfv_check and sfv_parse all. */
 static void check_spared(enum call call) {
-    int can_spare = call == CANONICAL || call == WRITE;
+    int can_spare = call != CHECK && call != PARSE;
     if (spared[call] < made[call] && (spared[call] > 0) == can_spare) return;
     printf("call %d can do without %lu of %lu requests\n", (int)call, spared[call], made[call]);
     errors++;

@@ -1,7 +1,6 @@
-/* Usage: seed [getrandom|AT_RANDOM|neither]
- * With an argument, prints the seed that seed.c takes from this source. Without one, runs itself in many processes for each
- * source, and checks their seeds. It also checks that sfv_canonical hashes under the seed. Prints each check that fails, and
- * `ok` if none does. */
+/* Usage: seed [getrandom|AT_RANDOM|both|neither]
+ * With an argument, prints the seed that seed.c takes if there are these sources. Without one, runs itself in many processes
+ * for each source, and checks their seeds. Prints each check that fails, and `ok` if none does. */
 #define _GNU_SOURCE
 #include <inttypes.h>
 #include <stdio.h>
@@ -10,8 +9,7 @@
 #include <sys/auxv.h>
 #include <sys/random.h>
 
-#define sfv_c_canonical recorded_canonical
-#include "sfv.h"
+uint64_t sfv_seed(void);
 
 static int errors;
 
@@ -19,45 +17,36 @@ static void expect(int holds, const char *name) {
     if (!holds) printf("%s\n", name), errors++;
 }
 
-/* The sources of seed.c. While the first call of sfv_seed asks for a random number, `early` is the seed of a second call. */
-static const char *source = "getrandom";
+/* The source. While the first call of sfv_seed asks for a random number, `early` is the seed of a second call. */
+static const char *source = "";
 static uint64_t early;
 static int asked;
 
+static int has(const char *name) { return strcmp(source, name) == 0 || strcmp(source, "both") == 0; }
+
 static ssize_t take_random(void *to, size_t length, unsigned flags) {
     if (asked++ == 0) early = sfv_seed();
-    return strcmp(source, "getrandom") == 0 ? getrandom(to, length, flags) : -1;
+    return has("getrandom") ? getrandom(to, length, flags) : -1;
 }
 
-static unsigned long take_auxval(unsigned long type) { return strcmp(source, "neither") == 0 ? 0 : getauxval(type); }
+static unsigned long take_auxval(unsigned long type) { return has("AT_RANDOM") ? getauxval(type) : 0; }
+
+/* Returns 1 if the seed has the kernel's random bytes. */
+static int is_at_random(uint64_t seed) {
+    uint64_t bytes;
+    memcpy(&bytes, (const void *)getauxval(AT_RANDOM), sizeof bytes);
+    return seed == (bytes | 1);
+}
 
 #define getrandom take_random
 #define getauxval take_auxval
 #include "../include/seed.c"
 
-/* The seed under which sfv_canonical hashes. */
-static uint64_t recorded;
-
-sfv_answer recorded_canonical(uint32_t type, uint32_t reading, uint32_t writing, uint64_t seed, const uint8_t *input,
-                              size_t input_length, uint8_t *to, size_t to_length) {
-    recorded = seed;
-    expect(type == SFV_LIST && reading == SFV_RFC8941 && writing == SFV_RFC9651, "numbers");
-    expect(*input == 'a' && input_length == 1 && *to == 'b' && to_length == 2, "buffers");
-    return sfv_make_answer(SFV_OK, 0, 0);
-}
-
-static void check_canonical(void) {
-    char out[] = "b";
-    sfv_canonical_with_seed(SFV_LIST, SFV_RFC8941, SFV_RFC9651, 7, "a", 1, out, 2);
-    expect(recorded == 7, "another seed than the argument");
-    sfv_canonical(SFV_LIST, SFV_RFC8941, SFV_RFC9651, "a", 1, out, 2);
-    expect(recorded == sfv_seed(), "another seed than sfv_seed");
-}
-
 /* Prints the seed. */
 static int print_seed(void) {
     uint64_t seed = sfv_seed();
-    expect(seed == early && seed == sfv_seed(), "two calls with different seeds");
+    expect(seed == early && seed == sfv_seed() && asked == 2, "another seed");
+    expect(is_at_random(seed) == (strcmp(source, "AT_RANDOM") == 0), "another source");
     printf("%" PRIx64 "\n", seed);
     return errors != 0;
 }
@@ -93,8 +82,8 @@ int main(int count, char **arguments) {
     }
     check_random(arguments[0], "getrandom");
     check_random(arguments[0], "AT_RANDOM");
+    check_random(arguments[0], "both");
     expect(seed_of(arguments[0], "neither") == 1, "neither");
-    check_canonical();
     if (errors == 0) puts("ok");
     return errors != 0;
 }

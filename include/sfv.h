@@ -114,9 +114,9 @@ typedef enum sfv_error_kind {
  *     SFV_TOO_SMALL       the same members: the needed sizes
  *     SFV_REJECTED        `kind`, an sfv_error_kind, and `index`, at most `input_length`
  *     SFV_OUT_OF_MEMORY   `kind`, which is SFV_ERR_OUT_OF_MEMORY
- *     SFV_BAD_ARGUMENT    sfv_write, sfv_lines: `index`, the first bad row or line; 0 for another bad argument
+ *     SFV_BAD_ARGUMENT    sfv_write, sfv_lines: `index`, of the first bad row or line, or 0 for another argument
  *     SFV_UNSUPPORTED     `kind`, the sfv_value_kind of the first value that the version lacks
- *     SFV_WRONG_ROW       `index`, the first wrong row, or `rows_length` if a row is missing */
+ *     SFV_WRONG_ROW       `index`, of the first wrong row, or `rows_length` */
 typedef struct sfv_answer {
     uint32_t status; /* an sfv_status */
     uint32_t kind;
@@ -213,7 +213,10 @@ SFV_INLINE int sfv_is_buffer(const void *data, size_t length, size_t size) {
     return (data != NULL || length == 0) && length <= (size_t)-1 / 2 / size;
 }
 
-SFV_INLINE int sfv_are_bytes(sfv_bytes bytes) { return bytes.data != NULL && sfv_is_buffer(bytes.data, bytes.length, 1); }
+/* Returns 1 if no pointer of the row is NULL, and no length is above PTRDIFF_MAX. */
+SFV_INLINE int sfv_has_bytes(const sfv_row *row) {
+    return row->key.data != NULL && row->bytes.data != NULL && (row->key.length | row->bytes.length) <= (size_t)-1 / 2;
+}
 
 /* Checks that the input is a field.
  *
@@ -233,7 +236,7 @@ SFV_INLINE sfv_answer sfv_check(sfv_type type, sfv_version version, const void *
  * Returns SFV_OK with the number of rows and the used length of `room`. Returns SFV_TOO_SMALL with the needed sizes;
  * SFV_ROWS_FOR(input_length) rows and `input_length` bytes suffice. Otherwise returns SFV_REJECTED, SFV_OUT_OF_MEMORY
  * or SFV_BAD_ARGUMENT. Unless the status is SFV_OK, `rows` and `room` can contain anything. Allocates only if the input
- * contains a backslash, a percent sign or a colon: up to 3 bytes per byte of the longest decoded value. */
+ * contains a backslash, a percent sign or a colon: up to 8 bytes, and 3 per byte of the longest decoded value. */
 SFV_INLINE sfv_answer sfv_parse(sfv_type type, sfv_version version, const void *input, size_t input_length, sfv_row *rows,
                                 size_t rows_length, void *room, size_t room_length) {
     static uint8_t no_room;
@@ -253,7 +256,7 @@ SFV_INLINE int sfv_is(sfv_bytes bytes, const char *text) {
 }
 
 /* Returns the value of the last member with this key, or NULL: its SFV_BARE_ITEM or SFV_BEGIN_INNER. The rows are a
- * whole dictionary. */
+ * whole dictionary. If they are not, the result is one of them or NULL. */
 SFV_INLINE const sfv_row *sfv_member(const sfv_row *rows, size_t rows_length, const char *key) {
     const sfv_row *found = NULL;
     size_t i;
@@ -324,9 +327,9 @@ SFV_INLINE sfv_row sfv_parameter_row(const char *key, sfv_row value) {
  * Returns SFV_OK or SFV_TOO_SMALL with the length of the text, or SFV_NOTHING. Returns SFV_WRONG_ROW with the index
  * of the first row that no field of this type has there; if a row is missing, the index is `rows_length`. Returns
  * SFV_UNSUPPORTED, only for SFV_RFC8941, with the kind of the first value that it lacks. Returns SFV_BAD_ARGUMENT with the
- * index of the first row with NULL, also if its length is 0, or with a length above PTRDIFF_MAX. Returns
+ * index of the first row with NULL, also for the length 0, or with a length above PTRDIFF_MAX. Returns
  * SFV_OUT_OF_MEMORY, only if the first two rows begin a field. Unless the status is SFV_OK, `out` is unchanged. Allocates
- * up to 8 bytes per row and 3 per byte of text. */
+ * up to 128 bytes, 8 per row and 3 per byte of text. */
 SFV_INLINE sfv_answer sfv_write(sfv_type type, sfv_version version, const sfv_row *rows, size_t rows_length, void *out,
                                 size_t out_length) {
     uint8_t nothing = 0;
@@ -335,7 +338,7 @@ SFV_INLINE sfv_answer sfv_write(sfv_type type, sfv_version version, const sfv_ro
     if (!sfv_is_buffer(rows, rows_length, sizeof *rows) || !sfv_is_buffer(out, out_length, 1))
         return sfv_make_answer(SFV_BAD_ARGUMENT, 0, 0);
     for (i = 0; i < rows_length; i++)
-        if (!sfv_are_bytes(rows[i].key) || !sfv_are_bytes(rows[i].bytes)) return sfv_make_answer(SFV_BAD_ARGUMENT, i, 0);
+        if (!sfv_has_bytes(&rows[i])) return sfv_make_answer(SFV_BAD_ARGUMENT, i, 0);
     return sfv_c_write_spans((uint32_t)type, (uint32_t)version, rows ? rows : &no_row, rows_length,
                              out ? (uint8_t *)out : &nothing, out_length);
 }
