@@ -10,7 +10,7 @@
  *     sfv_error_text   returns the text of an error
  *
  * Pointers. The library keeps no pointer after a call, and returns no memory to free. An input can contain any bytes and
- * needs no NUL. A buffer that a call writes must not overlap another argument, or bytes that another argument points to.
+ * needs no NUL. A buffer that a call writes must not overlap another argument, nor the bytes of a row or line.
  * A pointer can be NULL if its length is 0, except in a row. For NULL with a length above 0, and for a length of more than
  * PTRDIFF_MAX bytes, a call that returns an sfv_answer returns SFV_BAD_ARGUMENT. A text without a length ends with a NUL,
  * and is not NULL.
