@@ -197,8 +197,9 @@ static void damage(sfv_row *rows, size_t count, const char *input, size_t length
 /* An accepted field: its rows, its canonical text, and damaged rows. */
 static int try_accepted(sfv_type type, sfv_version version, const char *input, sfv_answer counted) {
     sfv_row *rows = last(rows_end, counted.rows * sizeof *rows);
-    char *room = last(room_end, counted.length), *text = last(again_room_end, 2 * FIELD);
-    sfv_answer a = sfv_parse(type, version, input, field_length, rows, counted.rows, room, counted.length), b;
+    size_t spare = below(2) * below(FIELD);
+    char *room = last(room_end, counted.length + spare), *text = last(again_room_end, 2 * FIELD);
+    sfv_answer a = sfv_parse(type, version, input, field_length, rows, counted.rows, room, counted.length + spare), b;
     char canonical[2 * FIELD];
     expect(a.status == SFV_OK && a.rows == counted.rows && a.length == counted.length, "rows");
     if (a.status != SFV_OK) return 0;

@@ -68,6 +68,18 @@ static void check_write(sfv_row *rows, size_t count) {
     release(out), release(text), release(again);
 }
 
+/* With more room than is needed, each pointer of a row is within the input or within the used part of the room, or it is
+ * the empty text. */
+static void check_places(size_t count, size_t length) {
+    const line *l = current;
+    unsigned char *block = guarded(count * sizeof(sfv_row)), *room = guarded(length + 8);
+    sfv_row *rows = (sfv_row *)(void *)block;
+    sfv_answer a = sfv_parse(l->type, l->version, l->input, l->length, rows, count, room, length + 8);
+    expect(a.status == SFV_OK && a.rows == count && a.length == length, "more room");
+    for (size_t i = 0; i < count; i++) expect(is_parsed_row(&rows[i], l->input, l->length, room, a.length), "a place");
+    release(block), release(room);
+}
+
 /* Buffers of the needed sizes suffice. A row or a byte less is too small. */
 static void check_parse(size_t count, size_t length) {
     const line *l = current;
@@ -104,6 +116,7 @@ static void check_accepted(sfv_answer checked, sfv_answer counted) {
     expect(counted.rows + 1 == current->calls, "calls");
     expect(counted.rows <= SFV_ROWS_FOR(current->length) && counted.length <= current->length, "enough");
     check_parse(counted.rows, counted.length);
+    check_places(counted.rows, counted.length);
 }
 
 /* Returns the result in the form of the lines. */

@@ -14,7 +14,8 @@ static int is_inside(sfv_bytes bytes, const void *buffer, size_t length) {
     return start >= first && bytes.length <= length && start - first <= length - bytes.length;
 }
 
-/* Returns 1 if the row is one that sfv_parse writes for this input and this room. */
+/* Returns 1 if the row is one that sfv_parse writes for this input and this used part of the room: its key and bytes are
+ * within them, or empty. */
 static int is_parsed_row(const sfv_row *row, const void *input, size_t input_length, const void *room, size_t room_length) {
     int has_key = row->tag == SFV_KEYED_ENTRY || row->tag == SFV_PARAMETER;
     int has_value = row->tag == SFV_BARE_ITEM || row->tag == SFV_PARAMETER;

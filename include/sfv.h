@@ -10,12 +10,14 @@
  *     sfv_error_text   returns the text of an error
  *
  * Pointers. The library keeps no pointer after a call, and returns no memory to free. An input can contain any bytes and
- * needs no NUL. A buffer that a call writes must not overlap another argument. A pointer can be NULL if its length is 0.
- * NULL with a length above 0, or a length of more than PTRDIFF_MAX bytes, is SFV_BAD_ARGUMENT.
+ * needs no NUL. A buffer that a call writes must not overlap another argument, nor the bytes of a row or line.
+ * A pointer can be NULL if its length is 0, except in a row. For NULL with a length above 0, and for a length of more than
+ * PTRDIFF_MAX bytes, a call that returns an sfv_answer returns SFV_BAD_ARGUMENT. A text without a length ends with a NUL,
+ * and is not NULL.
  *
- * Memory. The library calls malloc, realloc and free, and frees all its memory before it returns. If an allocation fails,
- * the status is SFV_OUT_OF_MEMORY. No call recurses. A call uses less than 4.5 KB of stack, or 6 KB if the dynamic linker
- * binds functions lazily. These sizes are measured.
+ * Memory. The library calls malloc, realloc and free, and frees all its memory before it returns. If an allocation fails
+ * that a call needs, the status is SFV_OUT_OF_MEMORY. sfv_write and sfv_canonical request some memory that they can do
+ * without. No call recurses. A call uses less than 4.5 KB of stack, or 6 KB if the dynamic linker binds functions lazily.
  *
  * Threads. Any number of calls can run at once. The only state is the seed of sfv_canonical. Do not call from a signal
  * handler, or after fork in a process with threads.
@@ -24,8 +26,8 @@
  * x86-64-v2 processors (SSE4.2, POPCNT).
  *
  * Proved for all arguments: the answers of the exported calls, the contents of rows, and the texts. Only tested: the
- * functions of this header, and that SFV_ROWS_FOR rows and `input_length` bytes of room suffice. Nothing checks the
- * caller.
+ * functions of this header, that SFV_ROWS_FOR rows and `input_length` bytes of room suffice, where rows point, and what a
+ * call allocates. Only measured: the sizes of the stack. Nothing checks the caller.
  */
 #ifndef SFV_H
 #define SFV_H
@@ -62,12 +64,12 @@ typedef enum sfv_version { SFV_RFC8941 = 8941, SFV_RFC9651 = 9651 } sfv_version;
 typedef enum sfv_status {
     SFV_OK = 0,
     SFV_NOTHING = 1,       /* a list or dictionary without members has no text: do not send the field */
-    SFV_TOO_SMALL = 2,     /* a buffer is too small: `length` and `rows` are the needed sizes */
-    SFV_REJECTED = 3,      /* the input is no such field: `kind` is an sfv_error_kind, `index` an index of the input */
-    SFV_OUT_OF_MEMORY = 4, /* an allocation failed */
+    SFV_TOO_SMALL = 2,     /* a buffer is too small */
+    SFV_REJECTED = 3,      /* the input is no such field */
+    SFV_OUT_OF_MEMORY = 4, /* an allocation failed that the call needs */
     SFV_BAD_ARGUMENT = 5,  /* a number names no type or version; or a pointer or length is wrong */
-    SFV_UNSUPPORTED = 6,   /* the version lacks a value: `kind` is the sfv_value_kind of the first such value */
-    SFV_WRONG_ROW = 7      /* no field of this type has these rows: `index` is the first wrong row */
+    SFV_UNSUPPORTED = 6,   /* the version lacks a value */
+    SFV_WRONG_ROW = 7      /* no field of this type has these rows */
 } sfv_status;
 
 /* The kinds of error. No call returns the kinds 2, 3 and 4. */
@@ -105,13 +107,22 @@ typedef enum sfv_error_kind {
     SFV_ERR_EXPECTED_START_OF_KEY = 30
 } sfv_error_kind;
 
-/* The result of a call. Each member that the status does not use is 0. */
+/* The result of a call. The table names the members that a status uses. Each other member is 0.
+ *
+ *     SFV_OK              sfv_parse: `length`, the used bytes of room, and `rows`, the number of rows
+ *                         sfv_write, sfv_canonical, sfv_lines: `length`, the bytes of the text
+ *     SFV_TOO_SMALL       the same members: the needed sizes
+ *     SFV_REJECTED        `kind`, an sfv_error_kind, and `index`, at most `input_length`
+ *     SFV_OUT_OF_MEMORY   `kind`, which is SFV_ERR_OUT_OF_MEMORY
+ *     SFV_BAD_ARGUMENT    sfv_write, sfv_lines: `index`, of the first bad row or line, or 0 for another argument
+ *     SFV_UNSUPPORTED     `kind`, the sfv_value_kind of the first value that the version lacks
+ *     SFV_WRONG_ROW       `index`, of the first wrong row, or `rows_length` */
 typedef struct sfv_answer {
     uint32_t status; /* an sfv_status */
-    uint32_t kind;   /* the kind of the error or of the value */
-    size_t index;    /* the index of the syntax error, at most `input_length`, or of the row */
-    size_t length;   /* the number of bytes, written or needed */
-    size_t rows;     /* the number of rows, written or needed */
+    uint32_t kind;
+    size_t index;
+    size_t length;
+    size_t rows;
 } sfv_answer;
 
 /* Bytes without a NUL at their end. A string or byte sequence can contain NUL. */
@@ -167,7 +178,7 @@ typedef char sfv_check_layout[sizeof(size_t) == 8 && sizeof(sfv_answer) == 32 &&
 #define SFV_MAX_ROWS ((size_t)-1 / sizeof(sfv_row))
 #define SFV_ROWS_FOR(n) ((size_t)(n) > SFV_MAX_ROWS / 2 - 1 ? SFV_MAX_ROWS : (size_t)(n) * 2 + 2)
 
-/* The longest text of sfv_error_text, with its NUL. */
+/* Each text of sfv_error_text fits, with its NUL. */
 #define SFV_TEXT_SIZE 64
 
 /* The exported functions, for other languages. They accept no NULL. */
@@ -181,7 +192,8 @@ sfv_answer sfv_c_write_spans(uint32_t type, uint32_t version, const sfv_row *row
                              size_t out_length);
 sfv_answer sfv_c_message(uint32_t kind, uint8_t *out, size_t out_length);
 
-/* Returns the random number that its first call chooses. */
+/* Returns the number that its first call chooses. Its lowest bit is 1. The other 63 bits are random: from getrandom(2), or
+ * from the kernel's AT_RANDOM if getrandom fails. Without either the number is 1. A forked child keeps the number. */
 uint64_t sfv_seed(void);
 
 /* Returns the SFV_ABI of the library that the program runs with. */
@@ -201,6 +213,11 @@ SFV_INLINE int sfv_is_buffer(const void *data, size_t length, size_t size) {
     return (data != NULL || length == 0) && length <= (size_t)-1 / 2 / size;
 }
 
+/* Returns 1 if no pointer of the row is NULL, and no length is above PTRDIFF_MAX. */
+SFV_INLINE int sfv_has_bytes(const sfv_row *row) {
+    return row->key.data != NULL && row->bytes.data != NULL && (row->key.length | row->bytes.length) <= (size_t)-1 / 2;
+}
+
 /* Checks that the input is a field.
  *
  * Returns SFV_OK, SFV_REJECTED, SFV_OUT_OF_MEMORY or SFV_BAD_ARGUMENT. Allocates only if the input contains a
@@ -213,13 +230,13 @@ SFV_INLINE sfv_answer sfv_check(sfv_type type, sfv_version version, const void *
 
 /* Parses a field into rows.
  *
- * Rows point into `input`. Byte sequences and texts with an escape are decoded into `room`, and their rows point
- * there. So rows are valid as long as both. A repeated key has a row each time; the last counts.
+ * Rows point into `input`. Byte sequences and texts with an escape are decoded into the used part of `room`, and their
+ * rows point there. So rows are valid as long as both. A repeated key has a row each time; the last counts.
  *
  * Returns SFV_OK with the number of rows and the used length of `room`. Returns SFV_TOO_SMALL with the needed sizes;
  * SFV_ROWS_FOR(input_length) rows and `input_length` bytes suffice. Otherwise returns SFV_REJECTED, SFV_OUT_OF_MEMORY
  * or SFV_BAD_ARGUMENT. Unless the status is SFV_OK, `rows` and `room` can contain anything. Allocates only if the input
- * contains a backslash, a percent sign or a colon: up to 3 bytes per byte of the longest decoded value. */
+ * contains a backslash, a percent sign or a colon: up to 8 bytes, and 3 per byte of the longest decoded value. */
 SFV_INLINE sfv_answer sfv_parse(sfv_type type, sfv_version version, const void *input, size_t input_length, sfv_row *rows,
                                 size_t rows_length, void *room, size_t room_length) {
     static uint8_t no_room;
@@ -235,11 +252,11 @@ SFV_INLINE sfv_answer sfv_parse(sfv_type type, sfv_version version, const void *
 /* Returns 1 if the bytes are this text, otherwise 0. */
 SFV_INLINE int sfv_is(sfv_bytes bytes, const char *text) {
     size_t length = strlen(text);
-    return bytes.length == length && memcmp(bytes.data, text, length) == 0;
+    return bytes.length == length && (length == 0 || memcmp(bytes.data, text, length) == 0);
 }
 
 /* Returns the value of the last member with this key, or NULL: its SFV_BARE_ITEM or SFV_BEGIN_INNER. The rows are a
- * whole dictionary. */
+ * whole dictionary. If they are not, the result is one of them or NULL. */
 SFV_INLINE const sfv_row *sfv_member(const sfv_row *rows, size_t rows_length, const char *key) {
     const sfv_row *found = NULL;
     size_t i;
@@ -288,11 +305,11 @@ SFV_INLINE sfv_row sfv_number_row(sfv_value_kind kind, int64_t number) {
     return row;
 }
 
-/* Returns an SFV_BARE_ITEM with bytes, which the row points to. */
+/* Returns an SFV_BARE_ITEM with bytes, which the row points to. NULL with the length 0 is the empty text. */
 SFV_INLINE sfv_row sfv_bytes_row(sfv_value_kind kind, const void *data, size_t length) {
     sfv_row row = sfv_tag_row(SFV_BARE_ITEM);
     row.kind = (uint32_t)kind;
-    if (data != NULL) row.bytes.data = (const char *)data;
+    if (data != NULL || length > 0) row.bytes.data = (const char *)data;
     row.bytes.length = length;
     return row;
 }
@@ -309,9 +326,10 @@ SFV_INLINE sfv_row sfv_parameter_row(const char *key, sfv_row value) {
  *
  * Returns SFV_OK or SFV_TOO_SMALL with the length of the text, or SFV_NOTHING. Returns SFV_WRONG_ROW with the index
  * of the first row that no field of this type has there; if a row is missing, the index is `rows_length`. Returns
- * SFV_UNSUPPORTED, only for SFV_RFC8941, with the kind of the first value that it lacks. Returns SFV_BAD_ARGUMENT for a
- * row with a NULL pointer, with its index. Returns SFV_OUT_OF_MEMORY, only if the first two rows begin a field. Unless
- * the status is SFV_OK, `out` is unchanged. Allocates up to 8 bytes per row and 3 per byte of text. */
+ * SFV_UNSUPPORTED, only for SFV_RFC8941, with the kind of the first value that it lacks. Returns SFV_BAD_ARGUMENT with the
+ * index of the first row with NULL, also for the length 0, or with a length above PTRDIFF_MAX. Returns
+ * SFV_OUT_OF_MEMORY, only if the first two rows begin a field. Unless the status is SFV_OK, `out` is unchanged. Allocates
+ * up to 128 bytes, 8 per row and 3 per byte of text. */
 SFV_INLINE sfv_answer sfv_write(sfv_type type, sfv_version version, const sfv_row *rows, size_t rows_length, void *out,
                                 size_t out_length) {
     uint8_t nothing = 0;
@@ -320,7 +338,7 @@ SFV_INLINE sfv_answer sfv_write(sfv_type type, sfv_version version, const sfv_ro
     if (!sfv_is_buffer(rows, rows_length, sizeof *rows) || !sfv_is_buffer(out, out_length, 1))
         return sfv_make_answer(SFV_BAD_ARGUMENT, 0, 0);
     for (i = 0; i < rows_length; i++)
-        if (rows[i].key.data == NULL || rows[i].bytes.data == NULL) return sfv_make_answer(SFV_BAD_ARGUMENT, i, 0);
+        if (!sfv_has_bytes(&rows[i])) return sfv_make_answer(SFV_BAD_ARGUMENT, i, 0);
     return sfv_c_write_spans((uint32_t)type, (uint32_t)version, rows ? rows : &no_row, rows_length,
                              out ? (uint8_t *)out : &nothing, out_length);
 }
@@ -394,7 +412,9 @@ SFV_INLINE const char *sfv_error_text(sfv_answer a, char text[SFV_TEXT_SIZE]) {
         break;
     case SFV_OUT_OF_MEMORY: known = "out of memory"; break;
     case SFV_BAD_ARGUMENT: known = "bad argument"; break;
-    case SFV_UNSUPPORTED: known = a.kind == SFV_DATE ? "RFC 8941 has no dates" : "RFC 8941 has no display strings"; break;
+    case SFV_UNSUPPORTED:
+        known = a.kind == SFV_DATE ? "RFC 8941 does not support dates" : "RFC 8941 does not support display strings";
+        break;
     case SFV_WRONG_ROW: known = "no field has these rows"; break;
     default: break;
     }

@@ -17,7 +17,7 @@ fn print_canonical(kind: u32, writing: u32, field: &str) {
         OK => println!("{}", String::from_utf8_lossy(&out[..answer.length])),
         NOTHING => println!("(no members)"),
         REJECTED => point(field, answer),
-        UNSUPPORTED => println!("(RFC 8941 has no {})", if answer.kind == 7 { "dates" } else { "display strings" }),
+        UNSUPPORTED => println!("(RFC 8941 does not support {})", if answer.kind == 7 { "dates" } else { "display strings" }),
         status => println!("status {status}"),
     }
 }
