@@ -3,7 +3,7 @@
 //! These functions build what `ItemBuilder`, `ListBuilder` and `DictionaryBuilder` build from events. A list requests room
 //! for an element when the element is complete.
 
-ghost use Rattle.std.specs.Prelude.{◌≡◌, ◌≢◌, ◌<◌, ◌≤◌, ◌++◌, ◌∷◌, [], Bool, true, false, ⊤, None, Ok, OnOk, OnErr, IfOk};
+ghost use Rattle.std.specs.Prelude.{◌≡◌, ◌<◌, ◌≤◌, ◌++◌, ◌∷◌, [], Bool, true, false, ⊤, None, Ok, OnOk, OnErr, IfOk};
 ghost use Rattle.std.specs.Prelude.{IfErr, IsTrue, All, map, flat_map, length, vec_capacity, bytes_eq};
 ghost use Rattle.indexmap.specs.IndexMap.{get, hasher_of, insert_entry, spare};
 ghost use Rattle.sfv_spec.specs.Values.{RawField, inner_list};
@@ -93,7 +93,7 @@ fn own(item: BareItemFromInput<'_>, alloc: Global) -> Result<BareItem, ParseErro
 #[inline(always)]
 fn own_key(key: KeyRef<'_>, alloc: Global) -> Result<Key, ParseError<OutOfMemory>>
     ensures value { IfOk result (λ owned. owned ≡ text_of key.entry) }
-    ensures failed { IfErr result (IsOfVisitor (λ _. text_of key.entry ≢ [])) }
+    ensures failed { IfErr result (IsOfVisitor (λ _. ⊤)) }
 {
     key.to_owned(alloc).map_err(ParseError::Visitor)
 }
