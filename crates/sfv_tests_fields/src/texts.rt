@@ -104,10 +104,12 @@ fn push_value(all: &mut String, kind: &str, content: &str) -> Result<bool, Fail>
     Ok(is_expected(alloc, kind, text.as_str(), value) == Some(true))
 }
 
-/// Returns `true` if values of this kind, with random texts, are read, copied and written in each place of a field.
-fn values_hold(alloc: Global, kind: &str) -> Result<bool, Fail> {
+/// Returns `true` if values of this kind, with random texts before `end`, are read, copied and written in each place of a
+/// field.
+fn values_hold(alloc: Global, kind: &str, end: &str) -> Result<bool, Fail> {
     let mut all = true;
     for (row, content) in Random::new(1).texts(alloc, kind)?.iter().enumerate() {
+        let content = format!(in alloc; "{content}{end}")?;
         let mut text = String::new(alloc);
         all &= push_value(&mut text, kind, content.as_str())?;
         all &= are_held(alloc, VALUES, version_for(row, kind), text.as_str())?;
@@ -117,25 +119,38 @@ fn values_hold(alloc: Global, kind: &str) -> Result<bool, Fail> {
 
 #[test]
 fn random_tokens_are_read_and_written(rt: HostRuntime) -> Result<(), Fail> {
-    assert!(rt; values_hold(rt.alloc(), "token")?);
+    assert!(rt; values_hold(rt.alloc(), "token", "")?);
     Ok(())
 }
 
 #[test]
 fn random_strings_are_read_and_written(rt: HostRuntime) -> Result<(), Fail> {
-    assert!(rt; values_hold(rt.alloc(), "string")?);
+    assert!(rt; values_hold(rt.alloc(), "string", "")?);
+    Ok(())
+}
+
+// Each text has an escape after it.
+#[test]
+fn random_strings_with_escapes_are_read_and_written(rt: HostRuntime) -> Result<(), Fail> {
+    assert!(rt; values_hold(rt.alloc(), "string", "\"")?);
     Ok(())
 }
 
 #[test]
 fn random_display_strings_are_read_and_written(rt: HostRuntime) -> Result<(), Fail> {
-    assert!(rt; values_hold(rt.alloc(), "display")?);
+    assert!(rt; values_hold(rt.alloc(), "display", "")?);
+    Ok(())
+}
+
+#[test]
+fn random_display_strings_with_escapes_are_read_and_written(rt: HostRuntime) -> Result<(), Fail> {
+    assert!(rt; values_hold(rt.alloc(), "display", "\"")?);
     Ok(())
 }
 
 #[test]
 fn random_byte_sequences_are_read_and_written(rt: HostRuntime) -> Result<(), Fail> {
-    assert!(rt; values_hold(rt.alloc(), "bytes")?);
+    assert!(rt; values_hold(rt.alloc(), "bytes", "")?);
     Ok(())
 }
 
