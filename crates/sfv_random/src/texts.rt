@@ -145,7 +145,7 @@ impl Random {
             self.push_text(texts, letters, (len, 'a'), len)?;
         }
         for &power in POWERS {
-            for len in power - 1..=power + 1 {
+            for len in power.saturating_sub(1)..=power.saturating_add(1) {
                 self.push_text(texts, letters, (len, 'a'), len)?;
             }
         }
