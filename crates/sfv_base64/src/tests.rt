@@ -2,6 +2,8 @@
 
 use crate::{decode, encode};
 use sfv::{BareItem, FieldType, Item, Parser};
+use sfv_random::Random;
+use sfv_random::texts::bytes_of;
 use std::alloc::{AllocError, Global};
 use std::test::Fail;
 
@@ -86,6 +88,18 @@ fn long_byte_sequences_are_written_as_base64_encodes_them(rt: HostRuntime) -> Re
     for &len in &[4_097usize, 65_537, 100_001, 1_000_000] {
         let bytes = vec![in rt.alloc(); 0xfb; len]?;
         holds &= is_written_alike(rt.alloc(), bytes.as_slice());
+    }
+    assert!(rt; holds);
+    Ok(())
+}
+
+// Each byte is at each of the first 16 places.
+#[test]
+fn random_bytes_are_written_as_base64_encodes_them(rt: HostRuntime) -> Result<(), Fail> {
+    let alloc = rt.alloc();
+    let mut holds = true;
+    for text in Random::new(1).texts(alloc, "bytes")?.iter() {
+        holds &= is_written_alike(alloc, bytes_of(alloc, text.as_str())?.as_slice());
     }
     assert!(rt; holds);
     Ok(())

@@ -9,12 +9,18 @@ use std::test::Fail;
 const TEXT: &[u8] =
     b" !#$&'()*+,-./0123456789:;<=>?@ABCDEFGHIJKLMNOPQRSTUVWXYZ[]^_`abcdefghijklmnopqrstuvwxyz{|}~";
 
+/// The first bytes of a token.
+pub(crate) const FIRST_OF_TOKEN: &[u8] = b"*ABCDEFGHIJKLMNOPQRSTUVWXYZabcdefghijklmnopqrstuvwxyz";
+
 /// The bytes of a token after its first byte.
-const TOKEN: &[u8] =
+pub(crate) const TOKEN: &[u8] =
     b"!#$%&'*+-.^_`|~:/0123456789ABCDEFGHIJKLMNOPQRSTUVWXYZabcdefghijklmnopqrstuvwxyz";
 
+/// The first bytes of a key.
+pub(crate) const FIRST_OF_KEY: &[u8] = b"*abcdefghijklmnopqrstuvwxyz";
+
 /// The bytes of a key after its first byte.
-const KEY: &[u8] = b"abcdefghijklmnopqrstuvwxyz0123456789_-.*";
+pub(crate) const KEY: &[u8] = b"abcdefghijklmnopqrstuvwxyz0123456789_-.*";
 
 /// The symbols of Base64, in their order.
 const BASE64: &[u8] = b"ABCDEFGHIJKLMNOPQRSTUVWXYZabcdefghijklmnopqrstuvwxyz0123456789+/";
@@ -99,11 +105,7 @@ impl Random {
     }
 
     fn push_token(&mut self, text: &mut String) -> Result<(), AllocError> {
-        self.push_bytes(
-            text,
-            b"*ABCDEFGHIJKLMNOPQRSTUVWXYZabcdefghijklmnopqrstuvwxyz",
-            1,
-        )?;
+        self.push_bytes(text, FIRST_OF_TOKEN, 1)?;
         let count = self.length(6);
         self.push_bytes(text, TOKEN, count)
     }
@@ -155,7 +157,7 @@ impl Random {
 
     // Appends a key. Keys with different numbers are different.
     fn push_key(&mut self, text: &mut String, number: usize) -> Result<(), Fail> {
-        self.push_bytes(text, b"*abcdefghijklmnopqrstuvwxyz", 1)?;
+        self.push_bytes(text, FIRST_OF_KEY, 1)?;
         let count = self.length(5);
         self.push_bytes(text, KEY, count)?;
         write!(text, ".{number}")?;

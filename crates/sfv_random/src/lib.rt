@@ -1,8 +1,9 @@
-//! Numbers and fields that a seed determines (the generator SplitMix64), and keys that collide under a hash seed.
+//! Numbers, fields and texts that a seed determines (the generator SplitMix64), and keys that collide under a hash seed.
 #![tactic(auto)]
 
 pub mod fields;
 pub mod keys;
+pub mod texts;
 
 /// A source of numbers.
 #[derive(Clone, Copy)]

@@ -89,7 +89,17 @@ fn is_same(digest: &Option<Vec<u8>>, again: &Option<Vec<u8>>) -> bool {
     }
 }
 
-/// Returns `true` if digests of these lengths are written, and parse back.
+/// Returns `true` if the digests are written, and parse back.
+pub fn is_reread(alloc: Global, digest: &ContentDigest) -> bool {
+    let (Ok(Some(text)), Ok(Some(again))) = (write(alloc, digest), reread(alloc, digest)) else {
+        return false;
+    };
+    is_tight(text.capacity(), text.len())
+        && is_same(&digest.sha_256, &again.sha_256)
+        && is_same(&digest.sha_512, &again.sha_512)
+}
+
+/// The same for digests of these lengths.
 pub fn come_back(
     alloc: Global,
     sha_256: Option<usize>,
@@ -99,14 +109,7 @@ pub fn come_back(
         sha_256: bytes(alloc, sha_256)?,
         sha_512: bytes(alloc, sha_512)?,
     };
-    let (Ok(Some(text)), Ok(Some(again))) = (write(alloc, &digest), reread(alloc, &digest)) else {
-        return Ok(false);
-    };
-    Ok(
-        is_tight(text.capacity(), text.len())
-            && is_same(&digest.sha_256, &again.sha_256)
-            && is_same(&digest.sha_512, &again.sha_512),
-    )
+    Ok(is_reread(alloc, &digest))
 }
 
 #[test]

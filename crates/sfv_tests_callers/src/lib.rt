@@ -28,6 +28,8 @@ mod requests;
 #[cfg(test)]
 mod seeds;
 #[cfg(test)]
+mod texts;
+#[cfg(test)]
 mod tool;
 #[cfg(test)]
 mod uses;

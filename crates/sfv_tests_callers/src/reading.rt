@@ -163,7 +163,13 @@ fn dictionaries_have(alloc: Global, version: Version, input: &[u8], wanted: Opti
 }
 
 /// The same for an item, a list or a dictionary.
-fn have(alloc: Global, field: &str, version: Version, input: &[u8], wanted: Option<Error>) -> bool {
+pub fn have(
+    alloc: Global,
+    field: &str,
+    version: Version,
+    input: &[u8],
+    wanted: Option<Error>,
+) -> bool {
     match field {
         "item" => items_have(alloc, version, input, wanted),
         "list" => lists_have(alloc, version, input, wanted),

@@ -3,8 +3,8 @@
 use crate::common::{
     NEAR, counted, doubled, field_of, map_capacity, numbers, repeated, version_of,
 };
-use crate::sizes::filled;
 use sfv::{Dictionary, Item, List, ListEntry, Parameters, Parser, Version};
+use sfv_random::texts::filled;
 use std::alloc::Global;
 use std::fmt::Write;
 use std::test::Fail;

@@ -2,12 +2,16 @@
 //! lists, dictionaries and parameters.
 
 use crate::common::{NEAR, counted, doubled, is_grown, numbers, repeated};
-use crate::sizes::{FAR, TEXTS, filled, item_calls, member_calls};
-use sfv::script::{ItemCalls, MemberCalls, run_dict_for, run_item_for, run_list_for};
-use sfv::{
-    DictSerializer, Dictionary, FieldType, Item, ItemSerializer, KeyRef, List, ListEntry,
-    ListSerializer, Parser, Sink, Version,
+use crate::sizes::{FAR, TEXTS, item_calls, member_calls};
+use sfv::script::{
+    ItemCalls, MemberCalls, run_dict, run_dict_for, run_item, run_item_for, run_list, run_list_for,
 };
+use sfv::{
+    DictSerializer, Dictionary, FieldType, InnerListSerializer, Item, ItemSerializer, KeyRef, List,
+    ListEntry, ListSerializer, ParameterSerializer, Parameters, Parser, SequenceSerializer, Sink,
+    Version,
+};
+use sfv_random::texts::filled;
 use sfv_writer::output::{serialize_separator, truncate_to};
 use std::alloc::{AllocError, Global};
 use std::test::Fail;
@@ -175,6 +179,47 @@ fn is_at_end(text: &String, wanted: &str, (full, room): (usize, usize), first: u
         && is_grown(text.capacity(), full_or_first, len)
 }
 
+/// Writes an item: its first parameter by a single call, and then the others at once.
+fn put_item(serializer: ItemSerializer<'_>, item: &Item) -> Option<()> {
+    let mut serializer = serializer.bare_item(item.bare_item.as_ref_item()).ok()?;
+    let mut params = item.params.iter();
+    if let Some((key, value)) = params.next() {
+        serializer = serializer
+            .parameter(key.as_key_ref(), value.as_ref_item())
+            .ok()?;
+    }
+    serializer.parameters(params).ok()?.finish();
+    Some(())
+}
+
+/// Writes parameters of a member in the same way.
+fn put_params<W: Sink, K>(
+    serializer: ParameterSerializer<'_, SequenceSerializer<W, K>>,
+    params: &Parameters,
+) -> Option<()> {
+    let mut serializer = serializer;
+    let mut params = params.iter();
+    if let Some((key, value)) = params.next() {
+        serializer = serializer
+            .parameter(key.as_key_ref(), value.as_ref_item())
+            .ok()?;
+    }
+    serializer.parameters(params).ok()?.finish();
+    Some(())
+}
+
+/// Writes items in the same way.
+fn put_items<X: Sink>(inner: &mut InnerListSerializer<X>, items: &Vec<Item>) -> Option<()> {
+    let mut items = items.iter();
+    if let Some(item) = items.next() {
+        put_params(
+            inner.bare_item(item.bare_item.as_ref_item()).ok()?,
+            &item.params,
+        )?;
+    }
+    inner.items(items).ok()
+}
+
 /// Writes an item in one of three ways.
 fn write_item(
     version: Version,
@@ -187,12 +232,9 @@ fn write_item(
         0 => {
             item.append_to(version, text).ok()?;
         }
+        1 if version == Version::Rfc9651 => run_item(text, calls).ok()?,
         1 => run_item_for(version, text, calls).ok()?,
-        _ => {
-            let serializer = ItemSerializer::with_buffer_for(text, version);
-            let params = serializer.bare_item(item.bare_item.as_ref_item()).ok()?;
-            params.parameters(item.params.iter()).ok()?.finish();
-        }
+        _ => put_item(ItemSerializer::with_buffer_for(text, version), item)?,
     }
     Some(())
 }
@@ -202,19 +244,17 @@ fn put_member<W: Sink>(list: &mut ListSerializer<W>, member: &ListEntry) -> Opti
     match member {
         ListEntry::Item(item) => {
             let params = list.bare_item(item.bare_item.as_ref_item()).ok()?;
-            params.parameters(item.params.iter()).ok()?.finish();
+            put_params(params, &item.params)
         }
         ListEntry::InnerList(inner_list) => {
             let mut inner = list.inner_list().ok()?;
-            if inner.items(inner_list.items.iter()).is_err() {
+            if put_items(&mut inner, &inner_list.items).is_none() {
                 inner.abandon();
                 return None;
             }
-            let params = inner.finish().ok()?;
-            params.parameters(inner_list.params.iter()).ok()?.finish();
+            put_params(inner.finish().ok()?, &inner_list.params)
         }
     }
-    Some(())
 }
 
 /// Writes a list in one of four ways. The last one writes it twice.
@@ -228,6 +268,9 @@ fn write_list(
     match way {
         0 => {
             list.append_to(version, text).ok()?;
+        }
+        1 if version == Version::Rfc9651 => {
+            run_list(text, calls).ok()?;
         }
         1 => {
             run_list_for(version, text, calls).ok()?;
@@ -260,19 +303,17 @@ fn put_entry<W: Sink>(
             let params = dictionary
                 .bare_item(key, item.bare_item.as_ref_item())
                 .ok()?;
-            params.parameters(item.params.iter()).ok()?.finish();
+            put_params(params, &item.params)
         }
         ListEntry::InnerList(inner_list) => {
             let mut inner = dictionary.inner_list(key).ok()?;
-            if inner.items(inner_list.items.iter()).is_err() {
+            if put_items(&mut inner, &inner_list.items).is_none() {
                 inner.abandon();
                 return None;
             }
-            let params = inner.finish().ok()?;
-            params.parameters(inner_list.params.iter()).ok()?.finish();
+            put_params(inner.finish().ok()?, &inner_list.params)
         }
     }
-    Some(())
 }
 
 /// Writes a dictionary in one of four ways. The last one writes it twice.
@@ -286,6 +327,9 @@ fn write_dictionary(
     match way {
         0 => {
             dictionary.append_to(version, text).ok()?;
+        }
+        1 if version == Version::Rfc9651 => {
+            run_dict(text, calls).ok()?;
         }
         1 => {
             run_dict_for(version, text, calls).ok()?;
@@ -307,29 +351,37 @@ fn write_dictionary(
     Some(())
 }
 
-/// Returns `true` if the item is written in each way into a text that is full after each number of bytes.
-fn item_grows(alloc: Global, version: Version, full: usize, input: &str) -> Option<bool> {
+/// Returns `true` if the item is written in each way into texts of this capacity with room for so many bytes.
+fn item_grows(
+    alloc: Global,
+    version: Version,
+    (full, rooms): (usize, &[usize]),
+    input: &str,
+) -> Option<bool> {
     let parser = Parser::new(input.as_bytes()).with_version(version);
     let item = parser.parse::<Item>(alloc).ok()?;
     let calls = item_calls(alloc, &item)?;
     let mut text = long_text(alloc, full).ok()?;
     let mut holds = true;
-    for room in 0..=input.len().min(full) {
+    for &room in rooms {
         for way in 0..3usize {
-            if is_room(room, input.len()) {
-                cut(&mut text, full, room)?;
-                write_item(version, way, &item, &calls, &mut text)?;
-                // `append_to` does not request memory first for an item.
-                let first = if way == 0 { 0 } else { 128 };
-                holds &= is_at_end(&text, input, (full, room), first);
-            }
+            cut(&mut text, full, room)?;
+            write_item(version, way, &item, &calls, &mut text)?;
+            // `append_to` does not request memory first for an item.
+            let first = if way == 0 { 0 } else { 128 };
+            holds &= is_at_end(&text, input, (full, room), first);
         }
     }
     Some(holds)
 }
 
 /// The same for a list.
-fn list_grows(alloc: Global, version: Version, full: usize, input: &str) -> Option<bool> {
+fn list_grows(
+    alloc: Global,
+    version: Version,
+    (full, rooms): (usize, &[usize]),
+    input: &str,
+) -> Option<bool> {
     let parser = Parser::new(input.as_bytes()).with_version(version);
     let list = parser.parse::<List>(alloc).ok()?;
     let mut calls = Vec::new(alloc);
@@ -339,21 +391,24 @@ fn list_grows(alloc: Global, version: Version, full: usize, input: &str) -> Opti
     let twice = format!(in alloc; "{input}, {input}").ok()?;
     let mut text = long_text(alloc, full).ok()?;
     let mut holds = true;
-    for room in 0..=twice.len().min(full) {
+    for &room in rooms {
         for way in 0..4usize {
-            if is_room(room, input.len()) {
-                cut(&mut text, full, room)?;
-                write_list(version, way, &list, &calls[..], &mut text)?;
-                let wanted = if way < 3 { input } else { twice.as_str() };
-                holds &= is_at_end(&text, wanted, (full, room), 128);
-            }
+            cut(&mut text, full, room)?;
+            write_list(version, way, &list, &calls[..], &mut text)?;
+            let wanted = if way < 3 { input } else { twice.as_str() };
+            holds &= is_at_end(&text, wanted, (full, room), 128);
         }
     }
     Some(holds)
 }
 
 /// The same for a dictionary.
-fn dictionary_grows(alloc: Global, version: Version, full: usize, input: &str) -> Option<bool> {
+fn dictionary_grows(
+    alloc: Global,
+    version: Version,
+    (full, rooms): (usize, &[usize]),
+    input: &str,
+) -> Option<bool> {
     let parser = Parser::new(input.as_bytes()).with_version(version);
     let dictionary = parser.parse::<Dictionary>(alloc).ok()?;
     let mut calls: Vec<(KeyRef<'_>, MemberCalls<'_>)> = Vec::new(alloc);
@@ -365,14 +420,12 @@ fn dictionary_grows(alloc: Global, version: Version, full: usize, input: &str) -
     let twice = format!(in alloc; "{input}, {input}").ok()?;
     let mut text = long_text(alloc, full).ok()?;
     let mut holds = true;
-    for room in 0..=twice.len().min(full) {
+    for &room in rooms {
         for way in 0..4usize {
-            if is_room(room, input.len()) {
-                cut(&mut text, full, room)?;
-                write_dictionary(version, way, &dictionary, &calls[..], &mut text)?;
-                let wanted = if way < 3 { input } else { twice.as_str() };
-                holds &= is_at_end(&text, wanted, (full, room), 128);
-            }
+            cut(&mut text, full, room)?;
+            write_dictionary(version, way, &dictionary, &calls[..], &mut text)?;
+            let wanted = if way < 3 { input } else { twice.as_str() };
+            holds &= is_at_end(&text, wanted, (full, room), 128);
         }
     }
     Some(holds)
@@ -383,17 +436,52 @@ fn is_room(room: usize, len: usize) -> bool {
     len <= 150 || room <= 2 || room.abs_diff(len / 2) <= 1 || room.saturating_add(2) >= len
 }
 
+/// Returns `true` if the field of the input is written into texts of this capacity with room for so many bytes.
+pub fn grows_with(
+    alloc: Global,
+    field: &str,
+    version: Version,
+    (full, rooms): (usize, &[usize]),
+    input: &str,
+) -> bool {
+    let answer = match field {
+        "item" => item_grows(alloc, version, (full, rooms), input),
+        "list" => list_grows(alloc, version, (full, rooms), input),
+        _ => dictionary_grows(alloc, version, (full, rooms), input),
+    };
+    answer == Some(true)
+}
+
+/// Returns each room that is tried for a field of this length, or for two.
+fn rooms_for(
+    alloc: Global,
+    field: &str,
+    full: usize,
+    len: usize,
+) -> Result<Vec<usize>, AllocError> {
+    let most = if field == "item" {
+        len
+    } else {
+        len.saturating_mul(2).saturating_add(2)
+    };
+    let mut rooms = Vec::new(alloc);
+    for room in 0..=most.min(full) {
+        if is_room(room, len) {
+            rooms.push(room)?;
+        }
+    }
+    Ok(rooms)
+}
+
 /// Returns `true` if the field of the input is written into texts of so many bytes that are full, or have room for each
 /// number of its bytes.
 pub fn grows(alloc: Global, field: &str, full: usize, input: &str) -> bool {
+    let Ok(rooms) = rooms_for(alloc, field, full, input.len()) else {
+        return false;
+    };
     let mut holds = true;
     for &version in versions_of(input) {
-        let answer = match field {
-            "item" => item_grows(alloc, version, full, input),
-            "list" => list_grows(alloc, version, full, input),
-            _ => dictionary_grows(alloc, version, full, input),
-        };
-        holds &= answer == Some(true);
+        holds &= grows_with(alloc, field, version, (full, rooms.as_slice()), input);
     }
     holds
 }

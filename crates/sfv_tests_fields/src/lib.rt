@@ -1,5 +1,5 @@
-//! Tests of parsing and serialization: long fields, visitors, runs of bytes, whole fields, single calls, scripts,
-//! versions, and failed allocations. There is no code.
+//! Tests of parsing and serialization: long fields, visitors, runs of bytes, random texts, whole fields, single
+//! calls, scripts, versions, and failed allocations. There is no code.
 #![tactic(auto)]
 
 #[cfg(test)]
@@ -26,6 +26,8 @@ mod scripts;
 mod serializers;
 #[cfg(test)]
 mod sizes;
+#[cfg(test)]
+mod texts;
 #[cfg(test)]
 mod versions;
 #[cfg(test)]

@@ -2,12 +2,13 @@
 
 use crate::common::{doubled, field_of, numbers, repeated, version_of};
 use crate::kept::versions_of;
-use crate::sizes::{FAR, filled};
+use crate::sizes::FAR;
 use sfv::visitor::{DictionaryBuilder, ItemBuilder};
 use sfv::{
     BareItem, BareItemFromInput, Dictionary, GenericBareItem, InnerList, Item, Key, List,
     ListEntry, Parameters, Parser, StringFromInput,
 };
+use sfv_random::texts::filled;
 use std::alloc::Global;
 use std::test::Fail;
 

@@ -9,6 +9,7 @@ use sfv::{
     Item, ItemSerializer, KeyRef, List, ListEntry, ListSerializer, Parameters, Parser, Version,
     insert_entry, insert_param,
 };
+use sfv_random::texts::filled;
 use std::alloc::Global;
 use std::test::Fail;
 
@@ -95,18 +96,6 @@ const LONG: &[(&str, &str)] = &[
 const KEYS: &[(&str, &str)] = &[("item", "1;$"), ("list", "();$=?0"), ("dict", "$;$=2")];
 
 const LONG_KEYS: &[(&str, &str)] = &[("dict", "$;$")];
-
-/// Returns the text of a field with this text in the place of each `$`.
-pub fn filled(alloc: Global, place: &str, text: &str) -> Result<String, Fail> {
-    let mut all = String::new(alloc);
-    for (number, part) in place.split('$').enumerate() {
-        if number > 0 {
-            all.push_str(text)?;
-        }
-        all.push_str(part)?;
-    }
-    Ok(all)
-}
 
 /// Returns an empty text of half the capacity that the wanted text needs.
 fn half_room(alloc: Global, wanted: &str) -> Option<String> {

@@ -1,9 +1,11 @@
-//! Texts and bytes of many lengths: their conversions and copies, and the memory that these keep.
+//! Texts and bytes of many lengths, and random ones: their conversions and copies, and the memory that these keep.
 
 use crate::common::{is_shown, prints};
 use sfv::{
     BareItem, BareItemFromInput, GenericBareItem, RefBareItem, StringFromInput, StringRef, TokenRef,
 };
+use sfv_random::Random;
+use sfv_random::texts::bytes_of as random_bytes;
 use sfv_values::checked_text::CheckedText;
 use sfv_values::checked_text_ref::CheckedTextRef;
 use sfv_values::key::KeyClass;
@@ -321,4 +323,30 @@ fn bytes_of_each_two_values_are_copied_and_moved(rt: HostRuntime) {
         }
     }
     assert!(rt; holds);
+}
+
+// Each letter of a kind is at each of the first 16 places.
+#[test]
+fn random_texts_are_copied_and_moved(rt: HostRuntime) -> Result<(), Fail> {
+    let alloc = rt.alloc();
+    let mut holds = true;
+    for &kind in &["key", "token", "string", "display"] {
+        for text in Random::new(1).texts(alloc, kind)?.iter() {
+            holds &= are_texts_kept(alloc, text.as_str()) == Some(true);
+        }
+    }
+    assert!(rt; holds);
+    Ok(())
+}
+
+#[test]
+fn random_bytes_are_copied_and_moved(rt: HostRuntime) -> Result<(), Fail> {
+    let alloc = rt.alloc();
+    let mut holds = true;
+    for text in Random::new(1).texts(alloc, "bytes")?.iter() {
+        let bytes = random_bytes(alloc, text.as_str())?;
+        holds &= are_these_bytes_kept(alloc, bytes.as_slice()) == Some(true);
+    }
+    assert!(rt; holds);
+    Ok(())
 }
