@@ -75,7 +75,7 @@ pub trait FieldType: sealed::Sealed + Drop {
     /// Returns the canonical text (RFC 9651, section 4.1), allocated from `alloc`.
     ///
     /// The text parses back to the same value under RFC 9651. An empty list or dictionary returns `None` and does not
-    /// allocate.
+    /// allocate. The text of an item has at least one byte, so any item needs memory.
     ///
     /// # Errors
     ///

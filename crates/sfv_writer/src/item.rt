@@ -312,7 +312,8 @@ impl<'a> Fragment for &'a Item {
     }
 }
 
-/// Returns the text of an item, allocated from `alloc` (RFC 9651, section 4.1).
+/// Returns the text of an item, allocated from `alloc` (RFC 9651, section 4.1). The text has at least one byte, so any
+/// item needs memory.
 ///
 /// # Errors
 ///
