@@ -111,7 +111,7 @@ static size_t limit_of(enum call call) {
     switch (call) {
     case CHECK: return has_byte('\\') || has_byte('%') || has_byte(':') ? 3 * current->length : 0;
     case PARSE: return has_byte('\\') || has_byte('%') || has_byte(':') ? 8 + 3 * longest_value() : 0;
-    case CANONICAL: return 2048 + 260 * current->length;
+    case CANONICAL: return 2048 + 300 * current->length;
     default: return 128 + 8 * parsed.rows + 3 * make(LENGTH, 0).length;
     }
 }
@@ -159,7 +159,7 @@ static void append(line *l, const char *text, int number) {
 
 /* Measures fields of many parts. */
 static void try_long(sfv_type type, const char *start, const char *part, const char *end) {
-    static const int PARTS[] = {0, 1, 2, 3, 5, 9, 10, 30, 100, 300, 1000, 3900};
+    static const int PARTS[] = {0, 1, 2, 3, 5, 9, 10, 30, 100, 300, 512, 1000, 3900};
     for (size_t i = 0; i < sizeof PARTS / sizeof *PARTS; i++) {
         line l = {(char *)part, type, SFV_RFC9651, guarded(LONG_FIELD), 0, 0, NULL};
         append(&l, start, 0);

@@ -348,7 +348,7 @@ SFV_INLINE sfv_answer sfv_write(sfv_type type, sfv_version version, const sfv_ro
  * seed can make keys collide.
  *
  * Returns SFV_OK or SFV_TOO_SMALL with the length of the text, SFV_NOTHING, SFV_REJECTED, SFV_UNSUPPORTED,
- * SFV_OUT_OF_MEMORY or SFV_BAD_ARGUMENT. Unless the status is SFV_OK, `out` is unchanged. Allocates up to 2 KB and 260
+ * SFV_OUT_OF_MEMORY or SFV_BAD_ARGUMENT. Unless the status is SFV_OK, `out` is unchanged. Allocates up to 2 KB and 300
  * bytes per byte of input. */
 SFV_INLINE sfv_answer sfv_canonical_with_seed(sfv_type type, sfv_version reading, sfv_version writing, uint64_t seed,
                                               const void *input, size_t input_length, void *out, size_t out_length) {

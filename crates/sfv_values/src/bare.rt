@@ -79,11 +79,11 @@ pub enum StringFromInput<'a> {
     Owned(String),
 }
 
-// Returns the same bytes. The prover knows that a slice contains bytes if it is an argument, but not if it is inside a
-// bare item.
+/// Returns the same bytes. The prover knows that a slice contains bytes if it is an argument, but not if it is inside a
+/// bare item.
 #[inline(always)]
 #[tactic(auto, using(crate::proofs::Bytes::run_of_bytes))]
-fn with_bytes_invariant(bytes: &[u8]) -> &[u8]
+pub fn with_bytes_invariant(bytes: &[u8]) -> &[u8]
     ensures value { result.now ≡ bytes.now }
     ensures bytes { RunOf is_byte result.now }
 {

@@ -2,22 +2,12 @@
 
 ghost use Rattle.std.specs.Prelude.{IsTrue};
 ghost use Rattle.sfv_spec.specs.Classes.{is_key};
-ghost use Rattle.sfv_spec.specs.Texts.{RunOf};
-ghost use Rattle.sfv_spec.specs.Values.{is_byte, IsBareValue};
+ghost use Rattle.sfv_spec.specs.Values.{IsBareValue};
 ghost use Rattle.sfv_values.specs.BareItems.{ref_value};
 ghost use Rattle.sfv_values.specs.CheckedTexts.{text_of};
 
-use sfv_values::bare::{GenericBareItem, RefBareItem};
+use sfv_values::bare::{GenericBareItem, RefBareItem, with_bytes_invariant};
 use sfv_values::key_ref::KeyRef;
-
-// The prover knows that a slice contains bytes if it is an argument, but not if it is inside a bare item.
-#[inline(always)]
-#[tactic(auto, using(sfv_values::proofs::Bytes::run_of_bytes))]
-fn bytes_invariant(bytes: &[u8])
-    ensures { RunOf is_byte bytes.now }
-{
-    let _bytes = bytes;
-}
 
 /// Makes the type invariant of a bare item known to the prover: its content is in its range or class.
 #[inline(always)]
@@ -28,7 +18,9 @@ pub fn bare_item_invariant(value: RefBareItem<'_>)
         GenericBareItem::Decimal(_decimal) => {}
         GenericBareItem::Integer(_integer) => {}
         GenericBareItem::String(_string) => {}
-        GenericBareItem::ByteSequence(bytes) => bytes_invariant(bytes),
+        GenericBareItem::ByteSequence(bytes) => {
+            let _bytes = with_bytes_invariant(bytes);
+        }
         GenericBareItem::Boolean(_boolean) => {}
         GenericBareItem::Token(_token) => {}
         GenericBareItem::Date(_date) => {}

@@ -6,8 +6,8 @@ pub returns-in_ok-insert_entry-clause-members : goal.returns-in_ok-insert_entry-
 returns-in_ok-insert_entry-clause-members c = rw (
   c.in_ok-insert_entry.ensures.entries,
   dictionary_tree-insert,
-  c.in_ok-member.ensures,
+  c.in_ok-member.ensures.member,
   c.as_slice.ensures.value,
-  c.in_ok-key.ensures,
+  c.in_ok-key.ensures.text,
   c.in-Some.is,
 ) refl
