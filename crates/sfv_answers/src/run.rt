@@ -14,10 +14,9 @@ ghost use Rattle.sfv_answers.specs.Runs.{failure_text, failure_status, IsBuiltFo
 use crate::answer::{ToolFault, answer, answer_priority};
 use sfv::{FieldKind, HashSeed, Version};
 use std::alloc::Global;
-use std::fmt;
-use std::io;
 use std::io::{ErrorKind, Read, Write};
 use std::random::RandomSource;
+use std::{fmt, io};
 
 /// The exit status after the result is written.
 pub const DONE: u8 = 0;
