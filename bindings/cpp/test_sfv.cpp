@@ -254,13 +254,13 @@ void test_out_of_memory() {
 // The first buffers of a parser have 64 rows, and of a writer one byte and a half for each byte.
 void test_second_buffers() {
     std::string list;
-    for (int i = 0; i < 70; i++) list += (i ? ", \"\\\\" : "\"\\\\") + std::to_string(i) + "\\\"\"";
+    for (int i = 0; i < 70; i++) list += (i ? ", \"\\\\" : "\"\\\\") + std::to_string(i) + " is a number\\\"\"";
     sfv::field field = sfv::parse(sfv::type::list, list);
     sfv::field moved = std::move(field);
     int strings = 0;
     for (sfv::row row : moved) {
         if (row.tag() != SFV_BARE_ITEM) continue;
-        expect(row.get<std::string_view>() == "\\" + std::to_string(strings++) + '"', "an escaped string");
+        expect(row.get<std::string_view>() == "\\" + std::to_string(strings++) + " is a number\"", "an escaped string");
     }
     expect(strings == 70 && moved.text() == list && rewritten(sfv::type::list, moved) == list, "escaped strings");
     std::string quotes(1000, '"');

@@ -137,8 +137,8 @@ class Parsing(unittest.TestCase):
         self.check_item(b'"' + b"\\\\" * 500_000 + b'"', "\\" * 500_000)
 
     def test_second_buffers(self):
-        strings = [f'\\{n}"' for n in range(300)]
-        text = ", ".join(f'"\\\\{n}\\""' for n in range(300))
+        strings = [f'\\{n} is a number"' for n in range(300)]
+        text = ", ".join(f'"\\\\{n} is a number\\""' for n in range(300))
         self.assertEqual(parse_list(text.encode()), [(string, {}) for string in strings])
         self.assertEqual(serialize(strings), text)
         self.assertEqual(serialize(['"' * 1000]), '"' + '\\"' * 1000 + '"')

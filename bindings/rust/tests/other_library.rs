@@ -26,6 +26,7 @@ struct Row { tag: u32, kind: u32, key: *const u8, key_length: usize, bytes: *con
 const OK: u32 = 0;
 const TOO_SMALL: u32 = 2;
 const REJECTED: u32 = 3;
+const OUT_OF_MEMORY: u32 = 4;
 const BAD_ARGUMENT: u32 = 5;
 const UNSUPPORTED: u32 = 6;
 
@@ -103,6 +104,15 @@ fn the_row_of_this_library() {
     assert_eq!(field.members().next().and_then(|member| member.value), Some(Value::Integer(42)));
 }
 
+/// An enum would not compile here: a number that it does not name is undefined behaviour.
+#[test]
+fn each_number_is_a_value() {
+    for number in [0, 8, 9, u32::MAX] {
+        let (status, tag, kind) = (ffi::Status(number), ffi::Tag(number), ffi::ValueKind(number));
+        assert_eq!(format!("{status:?} {tag:?} {kind:?}"), format!("Status({number}) Tag({number}) ValueKind({number})"));
+    }
+}
+
 #[test]
 fn unknown_statuses() {
     for number in [8, 9, 256, u32::MAX] {
@@ -127,6 +137,11 @@ fn unknown_kinds() {
     }
     assert_eq!(unsupported(7), [Some(Error::Unsupported(Unsupported::Date)); 4]);
     assert_eq!(unsupported(8), [Some(Error::Unsupported(Unsupported::DisplayString)); 4]);
+}
+
+#[test]
+fn out_of_memory() {
+    assert_eq!(errors(Answer { kind: 1, ..status(OUT_OF_MEMORY) }), [Some(Error::OutOfMemory); 4]);
 }
 
 #[test]

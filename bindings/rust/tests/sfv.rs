@@ -145,11 +145,11 @@ fn repeated_keys() {
 /// The first buffers of a parser have 64 rows, and those of a writer a byte and a half for each byte.
 #[test]
 fn second_buffers() {
-    let strings: Vec<String> = (0..70).map(|n| format!("\"\\\\{n}\\\"\"")).collect();
+    let strings: Vec<String> = (0..70).map(|n| format!("\"\\\\{n} is a number\\\"\"")).collect();
     let list = strings.join(", ");
     let field = parse(Kind::List, list.as_bytes()).unwrap();
     for (n, member) in field.members().enumerate() {
-        assert_eq!(member.value, Some(Value::String(&format!("\\{n}\""))));
+        assert_eq!(member.value, Some(Value::String(&format!("\\{n} is a number\""))));
     }
     assert_eq!(field.members().count(), 70);
     assert_eq!(field.serialize(Version::Rfc8941).unwrap().as_ref(), Some(&list));
