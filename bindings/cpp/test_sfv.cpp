@@ -1,10 +1,16 @@
 // Tests of sfv.hpp. Usage: test_sfv bindings/errors <crates/sfv_replay/stdin
-#include "sfv.hpp"
-
+#include <atomic>
 #include <fstream>
 #include <iostream>
 #include <sstream>
 #include <thread>
+
+#include <sfv.h>
+
+// The number of calls that build a tree.
+static std::atomic<int> trees;
+#define sfv_canonical(...) (trees++, sfv_canonical(__VA_ARGS__))
+#include "sfv.hpp"
 
 namespace {
 
@@ -336,28 +342,30 @@ void test_writer() {
     expect(thrown([] { sfv::writer(sfv::type::item).begin_inner().end_inner().text(); }) == SFV_WRONG_ROW, "no item");
 }
 
+// Checks the texts of a field and of its rewritten form. Both build a tree if and only if a key repeats.
+void check_text(sfv::type type, std::string_view input, std::string_view text) {
+    sfv::field field = sfv::parse(type, input);
+    int before = trees, expected = input == text ? 0 : 1;
+    expect(field.text() == text && trees - before == expected, input);
+    before = trees;
+    expect(rewritten(type, field) == text && trees - before == expected, input);
+}
+
 // A repeated key keeps its first position and takes its last value. The same key can be in two items.
 void test_repeated_keys() {
-    const std::pair<sfv::type, std::pair<std::string_view, std::string_view>> texts[] = {
-        {sfv::type::item, {"1;a;b;a=2", "1;a=2;b"}},
-        {sfv::type::list, {"1;a, 2;a, (3;a 4;a);a", "1;a, 2;a, (3;a 4;a);a"}},
-        {sfv::type::list, {"1;a, (2 3;b;b=1)", "1;a, (2 3;b=1)"}},
-        {sfv::type::list, {"(2 3);a;a=1", "(2 3);a=1"}},
-        {sfv::type::dictionary, {"a;b, b;a, c=(1;a);b", "a;b, b;a, c=(1;a);b"}},
-        {sfv::type::dictionary, {"b;x, a, c=(), b", "b, a, c=()"}},
-        {sfv::type::dictionary, {"a, aa, b;a=1;aa=2;a=3", "a, aa, b;a=3;aa=2"}},
-    };
-    for (const auto &[type, text] : texts) {
-        sfv::field field = sfv::parse(type, text.first);
-        expect(field.text() == text.second && rewritten(type, field) == text.second, text.first);
-    }
-    std::string many, expected;
-    for (int i = 0; i < 50; i++) many += "key" + std::to_string(i * 7 % 50) + "=1, ";
-    expected = many.substr(0, many.size() - 2);
+    check_text(sfv::type::item, "1;a;b;a=2", "1;a=2;b");
+    check_text(sfv::type::list, "1;a, 2;a, (3;a 4;a);a", "1;a, 2;a, (3;a 4;a);a");
+    check_text(sfv::type::list, "1;a, (2 3;b;b=1)", "1;a, (2 3;b=1)");
+    check_text(sfv::type::list, "(2 3);a;a=1", "(2 3);a=1");
+    check_text(sfv::type::dictionary, "a;b, b;a, c=(1;a);b", "a;b, b;a, c=(1;a);b");
+    check_text(sfv::type::dictionary, "b;x, a, c=(), b", "b, a, c=()");
+    check_text(sfv::type::dictionary, "a, aa, b;a=1;aa=2;a=3", "a, aa, b;a=3;aa=2");
+    std::string many;
+    for (int i = 0; i < 50; i++) many += (i ? ", key" : "key") + std::to_string(i * 7 % 50) + "=1";
+    check_text(sfv::type::dictionary, many, many);
+    std::string expected = many;
     expected.replace(expected.find("key14=1"), 7, "key14=2");
-    many += "key14=2";
-    sfv::field field = sfv::parse(sfv::type::dictionary, many);
-    expect(field.text() == expected && rewritten(sfv::type::dictionary, field) == expected, "the last of many keys");
+    check_text(sfv::type::dictionary, many + ", key14=2", expected);
 }
 
 void test_threads() {

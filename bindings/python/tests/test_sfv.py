@@ -148,7 +148,7 @@ class Parsing(unittest.TestCase):
         gc.disable()
         try:
             count = len(ctypes.Array.__subclasses__())
-            for length in range(1, 300):
+            for length in range(1, 100):
                 text = '"' + "\\\\" * length + '"'
                 self.assertEqual(serialize([parse_item(text.encode())] * length), ", ".join([text] * length))
                 self.assertRaises(ParseError, parse_item, text.encode() * 2)

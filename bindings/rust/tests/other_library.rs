@@ -163,6 +163,24 @@ fn sizes_above_the_buffers() {
     assert_eq!(errors(largest), [Some(Error::OutOfMemory); 4]);
 }
 
+/// Writing builds a tree, by a second call, only if two members or two parameters of one item have the same key.
+#[test]
+fn trees_for_repeated_keys() {
+    let calls = |writer: Writer<'_>| {
+        set_library(Library { answer: status(OK), ..ITEM });
+        assert_eq!(writer.text(Version::Rfc9651), Ok(Some(String::new())));
+        library().calls
+    };
+    let one = Value::Integer(1);
+    let list = || Writer::new(Kind::List).begin_inner().item(one).parameter("a", one).item(one).parameter("b", one);
+    assert_eq!(calls(list().parameter("a", one).end_inner().parameter("a", one).parameter("b", one)), 1);
+    assert_eq!(calls(list().parameter("b", one).end_inner()), 2);
+    assert_eq!(calls(list().end_inner().parameter("a", one).parameter("aa", one).parameter("a", one)), 2);
+    let dictionary = || Writer::new(Kind::Dictionary).key("a").item(one).parameter("b", one).key("b").item(one);
+    assert_eq!(calls(dictionary().parameter("a", one).parameter("b", one)), 1);
+    assert_eq!(calls(dictionary().key("a").item(one)), 2);
+}
+
 /// Another library gets no call but the one for its number.
 #[test]
 fn another_binary_interface() {
