@@ -291,13 +291,15 @@ def _parse(kind: _Type, field: bytes, version: int) -> Iterator[_Part]:
         raise TypeError(f"a field is bytes, not {type(field).__name__}")
     size = len(field)
     # Most fields have at most 256 parts. Others are parsed twice.
-    answer = _Answer(_Status.TOO_SMALL, length=size, rows=min(256, 2 * size + 2))
-    while answer.status == _Status.TOO_SMALL:
+    answer = _Answer(length=size, rows=min(256, 2 * size + 2))
+    for _ in range(2):
         # The rows point into one buffer: the field, and after it the room for decoded texts.
         buffer, rows = bytearray(size + answer.length + 1), bytearray(answer.rows * _ROW.size + 1)
         buffer[:size] = field
         start, to = _address(buffer), _address(rows)
         answer = _spans(kind, _Version(version), start, size, to, answer.rows, start + size, answer.length)
+        if answer.status != _Status.TOO_SMALL:
+            break
     _raise_error(answer)
     texts, written = bytes(buffer), memoryview(rows)[: answer.rows * _ROW.size]
     for tag, value_kind, key, key_length, data, length, number in _ROW.iter_unpack(written):
@@ -316,10 +318,12 @@ def _packed(rows: Iterable[_Row], at: int) -> Iterator[bytes]:
 def _write(kind: _Type, rows: List[_Row], version: int) -> str:
     texts = bytearray(b"".join([text for _, key, _, data, _ in rows for text in (key, data)]) + b"\0")
     array = bytearray(b"".join(_packed(rows, _address(texts))) + b"\0")
-    answer = _Answer(_Status.TOO_SMALL, length=1024)
-    while answer.status == _Status.TOO_SMALL:
+    answer = _Answer(length=1024)
+    for _ in range(2):
         out = bytearray(answer.length)
         answer = _write_spans(kind, _Version(version), _address(array), len(rows), _address(out), len(out))
+        if answer.status != _Status.TOO_SMALL:
+            break
     _raise_error(answer)
     return out[: answer.length].decode("ascii")
 

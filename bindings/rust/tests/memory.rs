@@ -112,7 +112,9 @@ fn a_limit_of_memory() {
     for (call, megabytes) in LIMITED {
         let script = format!("ulimit -v {} && exec \"$0\" --exact a_limit_of_memory --test-threads=1", 1000 * megabytes);
         let mut command = Command::new("sh");
-        command.arg("-c").arg(script).arg(env::current_exe().unwrap()).env("SFV_LIMITED", call);
+        command.arg("-c").arg(script).arg(env::current_exe().unwrap());
+        // A backtrace would need memory, too.
+        command.env("SFV_LIMITED", call).env("RUST_BACKTRACE", "0");
         let output = command.output().expect("sh runs");
         assert!(output.status.success(), "{call}: {}, {output:?}", output.status);
     }
