@@ -9,6 +9,7 @@
 #ifndef SFV_HPP
 #define SFV_HPP
 
+#include <algorithm>
 #include <cstdint>
 #include <deque>
 #include <iterator>
@@ -39,15 +40,26 @@ struct display_string { std::string_view text; };  // UTF-8
 // The value of an item or parameter. An integer is std::int64_t, and a string is std::string_view.
 using value = std::variant<std::int64_t, decimal, std::string_view, token, byte_sequence, bool, date, display_string>;
 
+namespace detail {
+// A number of the library as an enum, or `other` if it is above the last. A cast alone would be undefined.
+template <class Enum> constexpr Enum known(std::uint32_t number, Enum last, Enum other) {
+    return number <= static_cast<std::uint32_t>(last) ? static_cast<Enum>(number) : other;
+}
+}  // namespace detail
+
 // The reason why a call fails. It converts to true if the call failed.
 class error_code {
   public:
     error_code() = default;
     explicit error_code(const sfv_answer &answer) : answer_(answer) {}
     explicit operator bool() const { return status() != SFV_OK && status() != SFV_NOTHING; }
-    sfv_status status() const { return static_cast<sfv_status>(answer_.status); }
-    // The kind of the syntax error, and its index in the input.
-    sfv_error_kind kind() const { return static_cast<sfv_error_kind>(status() == SFV_REJECTED ? answer_.kind : 0); }
+    // The status. One that this header does not know is SFV_BAD_ARGUMENT.
+    sfv_status status() const { return detail::known(answer_.status, SFV_WRONG_ROW, SFV_BAD_ARGUMENT); }
+    // The kind of the syntax error, or SFV_ERR_NONE for another error.
+    sfv_error_kind kind() const {
+        return detail::known(status() == SFV_REJECTED ? answer_.kind : 0, SFV_ERR_EXPECTED_START_OF_KEY, SFV_ERR_NONE);
+    }
+    // The index of the syntax error in the input, or of the wrong row.
     std::size_t index() const { return answer_.index; }
     std::string message() const {
         char text[SFV_TEXT_SIZE];
@@ -95,6 +107,37 @@ template <class Write> std::string written(std::size_t guess, Write write) {
     out.resize(answer.length);
     return out;
 }
+// The text of these rows, with each repeated key each time.
+inline std::string written_rows(type t, version v, const std::vector<sfv_row> &rows) {
+    std::size_t guess = 0;  // enough for most texts
+    for (const sfv_row &row : rows) guess += row.key.length + row.bytes.length + row.bytes.length / 2 + 8;
+    return written(guess, [&rows, t, v](char *out, std::size_t n) {
+        return sfv_write(raw(t), raw(v), rows.data(), rows.size(), out, n);
+    });
+}
+// Sorts the keys. Returns true if two are equal.
+inline bool has_equal(std::vector<std::string_view> &keys) {
+    std::sort(keys.begin(), keys.end());
+    return std::adjacent_find(keys.begin(), keys.end()) != keys.end();
+}
+// Returns true if two members of the dictionary, or two parameters of an item or inner list, have the same key.
+inline bool repeats_key(const std::vector<sfv_row> &rows) {
+    std::vector<std::string_view> members, parameters;
+    for (const sfv_row &row : rows) {
+        if (row.tag == SFV_PARAMETER) {
+            parameters.push_back(view(row.key));
+            continue;
+        }
+        if (has_equal(parameters)) return true;
+        parameters.clear();
+        if (row.tag == SFV_KEYED_ENTRY) members.push_back(view(row.key));
+    }
+    return has_equal(members);
+}
+// Whether a T points to its text.
+template <class T>
+inline constexpr bool is_view = std::is_same_v<T, std::string_view> || std::is_same_v<T, token> ||
+                                std::is_same_v<T, byte_sequence> || std::is_same_v<T, display_string>;
 }  // namespace detail
 
 // Parses a field and returns its canonical text. A repeated key keeps its first position and takes its last value.
@@ -109,7 +152,7 @@ inline std::string canonical(type t, std::string_view input, version reading = v
 class row {
   public:
     explicit row(const sfv_row *raw) : raw_(raw) {}
-    sfv_tag tag() const { return static_cast<sfv_tag>(raw_->tag); }
+    sfv_tag tag() const { return detail::known(raw_->tag, SFV_END_INNER, sfv_tag{}); }
     // The key of a member of a dictionary, or of a parameter; otherwise empty.
     std::string_view key() const { return detail::view(raw_->key); }
 
@@ -177,12 +220,23 @@ class field {
         const sfv_row *at_;
     };
 
-    iterator begin() const { return iterator(rows_.data()); }
-    iterator end() const { return iterator(rows_.data() + rows_.size()); }
-    // The first row: the SFV_BARE_ITEM of an item.
-    row front() const { return *begin(); }
+    // Rows and texts of a temporary field would dangle, so these calls do not compile for one.
+    iterator begin() const && = delete;
+    iterator end() const && = delete;
+    row front() const && = delete;
+    std::optional<row> member(std::string_view key) const && = delete;
+    template <class T, std::enable_if_t<detail::is_view<T>, int> = 0>
+    std::optional<T> get(std::string_view key) const && = delete;
+
+    iterator begin() const & { return iterator(rows_.data()); }
+    iterator end() const & { return iterator(rows_.data() + rows_.size()); }
+    // The first row: the SFV_BARE_ITEM of an item. Throws std::out_of_range for a list or dictionary without members.
+    row front() const & {
+        if (rows_.empty()) throw std::out_of_range("the field has no rows");
+        return *begin();
+    }
     // The last member of a dictionary with this key: its SFV_BARE_ITEM or SFV_BEGIN_INNER.
-    std::optional<row> member(std::string_view key) const {
+    std::optional<row> member(std::string_view key) const & {
         std::optional<row> found;
         for (iterator at = begin(); at != end(); ++at) {
             if ((*at).tag() != SFV_KEYED_ENTRY || (*at).key() != key) continue;
@@ -192,10 +246,15 @@ class field {
         return found;
     }
     // The last member with this key, if its value is a T.
-    template <class T> std::optional<T> get(std::string_view key) const { return row::get_from<T>(member(key)); }
+    template <class T> std::optional<T> get(std::string_view key) const & { return row::get_from<T>(member(key)); }
+    template <class T, std::enable_if_t<!detail::is_view<T>, int> = 0>
+    std::optional<T> get(std::string_view key) const && { return row::get_from<T>(member(key)); }
 
     // The canonical text, empty for a list or dictionary without members: do not send the field.
-    std::string text(version writing = version::rfc9651) const { return canonical(type_, input_, version_, writing); }
+    std::string text(version writing = version::rfc9651) const {
+        if (detail::repeats_key(rows_)) return canonical(type_, input_, version_, writing);
+        return detail::written_rows(type_, writing, rows_);
+    }
 
   private:
     friend std::optional<field> parse(type, std::string_view, error_code &, version);
@@ -234,8 +293,8 @@ inline field parse(type t, std::string_view input, version v = version::rfc9651)
 }
 
 // A field borrows from its input, so a temporary string does not compile.
-template <class S, class... Rest, std::enable_if_t<std::is_same_v<S, std::string>, int> = 0>
-void parse(type, S &&, Rest &&...) = delete;
+template <class Allocator, class... Rest>
+field parse(type, const std::basic_string<char, std::char_traits<char>, Allocator> &&, Rest &&...) = delete;
 
 // Writes a field part by part, and copies each text. `text` throws the error of a wrong order of calls, or of a value
 // that no field can hold.
@@ -260,10 +319,8 @@ class writer {
     // The canonical text, empty for a list or dictionary without members: do not send the field.
     std::string text(version v = version::rfc9651) {
         close();
-        std::string all = detail::written(256, [this, v](char *out, std::size_t length) {
-            return sfv_write(detail::raw(type_), detail::raw(v), rows_.data(), rows_.size(), out, length);
-        });
-        return canonical(type_, all, v, v);  // without repeated keys
+        std::string all = detail::written_rows(type_, v, rows_);
+        return detail::repeats_key(rows_) ? canonical(type_, all, v, v) : all;
     }
 
   private:

@@ -1,9 +1,16 @@
-// Tests of sfv.hpp. Usage: test_sfv <crates/sfv_replay/stdin
-#include "sfv.hpp"
-
+// Tests of sfv.hpp. Usage: test_sfv bindings/errors <crates/sfv_replay/stdin
+#include <atomic>
+#include <fstream>
 #include <iostream>
 #include <sstream>
 #include <thread>
+
+#include <sfv.h>
+
+// The number of calls that build a tree.
+static std::atomic<int> trees;
+#define sfv_canonical(...) (trees++, sfv_canonical(__VA_ARGS__))
+#include "sfv.hpp"
 
 namespace {
 
@@ -18,7 +25,7 @@ template <class Input, class = void> struct is_input : std::false_type {};
 template <class Input>
 struct is_input<Input, std::void_t<decltype(sfv::parse(sfv::type::item, std::declval<Input>()))>> : std::true_type {};
 static_assert(is_input<const char *>::value && is_input<std::string_view>::value && is_input<std::string &>::value);
-static_assert(!is_input<std::string>::value, "a field borrows from its input");
+static_assert(!is_input<std::string>::value && !is_input<const std::string>::value, "a field borrows from its input");
 static_assert(!std::is_copy_constructible_v<sfv::field> && !std::is_copy_constructible_v<sfv::writer>);
 static_assert(std::is_nothrow_move_constructible_v<sfv::field>);
 
@@ -30,6 +37,11 @@ template <class Call> sfv_status thrown(Call call) {
         return error.code.status();
     }
     return SFV_OK;
+}
+
+// The type with this name in a line of tests.
+sfv::type type_of(const std::string &name) {
+    return name == "item" ? sfv::type::item : name == "list" ? sfv::type::list : sfv::type::dictionary;
 }
 
 std::string bytes_of(const std::string &hexadecimal) {
@@ -64,7 +76,7 @@ void replay(const std::string &line) {
     words >> type_name >> version_number >> hexadecimal >> calls >> status;
     std::getline(words >> std::ws, result);
     std::string input = bytes_of(hexadecimal);
-    sfv::type type = type_name == "item" ? sfv::type::item : type_name == "list" ? sfv::type::list : sfv::type::dictionary;
+    sfv::type type = type_of(type_name);
     auto version = static_cast<sfv::version>(version_number);
     sfv::error_code code;
     std::optional<sfv::field> parsed = sfv::parse(type, input, code, version);
@@ -111,6 +123,13 @@ void test_no_input() {
     expect(thrown([] { sfv::parse(sfv::type::item, std::string_view()); }) == SFV_REJECTED, "an empty item");
     sfv::field list = sfv::parse(sfv::type::list, {});
     expect(list.begin() == list.end() && list.text().empty(), "an empty list");
+    bool is_thrown = false;
+    try {
+        list.front();
+    } catch (const std::out_of_range &) {
+        is_thrown = true;
+    }
+    expect(is_thrown, "the first row of an empty list");
     expect(sfv::writer(sfv::type::dictionary).text().empty(), "no members");
     expect(thrown([] { sfv::writer(sfv::type::item).text(); }) == SFV_WRONG_ROW, "no item");
 }
@@ -133,7 +152,159 @@ void test_large() {
     sfv::field field = sfv::parse(sfv::type::list, list);
     expect(field.text() == list && rewritten(sfv::type::list, field) == list, "a list of 1 MB");
     std::string item = '"' + std::string(1'000'000, '\\') + '"';
-    expect(sfv::parse(sfv::type::item, item).front().get<std::string_view>()->size() == 500'000, "a string of 1 MB");
+    sfv::field string = sfv::parse(sfv::type::item, item);
+    expect(string.front().get<std::string_view>() == item.substr(1, 500'000), "a string of 1 MB");
+}
+
+// A line of bindings/errors is `TYPE VERSION INPUT KIND NAME INDEX MESSAGE`, between tabs.
+void test_syntax_errors(const char *path) {
+    std::ifstream file(path);
+    int kinds = 0;
+    for (std::string line; std::getline(file, line); kinds++) {
+        std::istringstream words(line);
+        std::string type, version, input, kind, name, index, message;
+        for (std::string *word : {&type, &version, &input, &kind, &name, &index, &message})
+            std::getline(words, *word, '\t');
+        message += " at index " + index;
+        auto has_reason = [&](const sfv::error_code &code) {
+            return code && code.status() == SFV_REJECTED && std::to_string(code.kind()) == kind
+                && std::to_string(code.index()) == index && code.message() == message;
+        };
+        auto number = static_cast<sfv::version>(std::stoi(version));
+        sfv::error_code code;
+        expect(!sfv::parse(type_of(type), input, code, number) && has_reason(code), line);
+        auto is_thrown = [&](auto call) {
+            try {
+                call();
+            } catch (const sfv::error &error) {
+                return has_reason(error.code) && error.what() == message;
+            }
+            return false;
+        };
+        expect(is_thrown([&] { sfv::parse(type_of(type), input, number); }), "thrown: " + line);
+        expect(is_thrown([&] { sfv::canonical(type_of(type), input, number); }), "canonical: " + line);
+    }
+    expect(kinds == SFV_ERR_EXPECTED_START_OF_KEY - SFV_ERR_INVALID_CHARACTER, "each kind");
+}
+
+// The error that this call throws.
+template <class Call> sfv::error_code reason(Call call) {
+    try {
+        call();
+    } catch (const sfv::error &error) {
+        expect(error.what() == error.code.message(), "the text of an error");
+        return error.code;
+    }
+    return sfv::error_code();
+}
+
+void test_other_errors() {
+    auto unknown_type = static_cast<sfv::type>(4);
+    auto unknown_version = static_cast<sfv::version>(1);
+    for (sfv::error_code code : {reason([&] { sfv::parse(unknown_type, "1"); }),
+                                 reason([&] { sfv::parse(sfv::type::item, "1", unknown_version); }),
+                                 reason([&] { sfv::canonical(unknown_type, "1"); })}) {
+        expect(code.status() == SFV_BAD_ARGUMENT && code.kind() == SFV_ERR_NONE && code.index() == 0, "a bad argument");
+        expect(code.message() == "bad argument", "the text of a bad argument");
+    }
+    sfv::writer writer(sfv::type::list);
+    sfv::error_code code = reason([&] { writer.item(1).item(sfv::date{1}).item(2).text(sfv::version::rfc8941); });
+    expect(code.status() == SFV_UNSUPPORTED && code.kind() == SFV_ERR_NONE && code.index() == 0, "a date");
+    expect(code.message() == "RFC 8941 does not support dates", "the text of a date");
+    sfv::field display = sfv::parse(sfv::type::item, "%\"a\"");
+    code = reason([&] { display.text(sfv::version::rfc8941); });
+    expect(code.status() == SFV_UNSUPPORTED, "a display string");
+    expect(code.message() == "RFC 8941 does not support display strings", "the text of a display string");
+    // The rows are ENTRY, BEGIN_ITEM, BARE_ITEM, END_PARAMETERS for the first item.
+    code = reason([] { sfv::writer(sfv::type::list).item(1).item(sfv::token{"a b"}).text(); });
+    expect(code.status() == SFV_WRONG_ROW && code.kind() == SFV_ERR_NONE && code.index() == 6, "the index of a wrong row");
+    expect(code.message() == "no field has these rows", "the text of a wrong row");
+    expect(!reason([] { sfv::writer(sfv::type::list).text(); }), "no members");
+}
+
+sfv_answer answer_of(std::uint32_t status, std::uint32_t kind) {
+    sfv_answer answer = {};
+    answer.status = status;
+    answer.kind = kind;
+    return answer;
+}
+
+// Numbers of another library. No cast may be undefined.
+void test_unknown_numbers() {
+    for (std::uint32_t status : {8u, 0xffffffffu}) {
+        sfv::error_code code(answer_of(status, 0));
+        expect(code && code.status() == SFV_BAD_ARGUMENT && code.message() == "unknown status", "an unknown status");
+    }
+    for (std::uint32_t kind : {31u, 0xffffffffu}) {
+        sfv::error_code code(answer_of(SFV_REJECTED, kind));
+        expect(code && code.status() == SFV_REJECTED && code.kind() == SFV_ERR_NONE, "an unknown kind of error");
+    }
+    sfv_row raw = sfv_tag_row(SFV_END_INNER);
+    expect(sfv::row(&raw).tag() == SFV_END_INNER, "the last tag");
+    for (std::uint32_t number : {9u, 0xffffffffu}) {
+        raw.tag = raw.kind = number;
+        expect(sfv::row(&raw).tag() == 0 && !sfv::row(&raw).value(), "an unknown tag and value");
+    }
+}
+
+void test_out_of_memory() {
+    bool is_thrown = false;
+    try {
+        sfv::detail::checked(answer_of(SFV_OUT_OF_MEMORY, SFV_ERR_OUT_OF_MEMORY));
+    } catch (const std::bad_alloc &) {
+        is_thrown = true;
+    }
+    expect(is_thrown, "out of memory");
+}
+
+// The first buffers of a parser have 64 rows, and of a writer one byte and a half for each byte.
+void test_second_buffers() {
+    std::string list;
+    for (int i = 0; i < 70; i++) list += (i ? ", \"\\\\" : "\"\\\\") + std::to_string(i) + " is a number\\\"\"";
+    sfv::field field = sfv::parse(sfv::type::list, list);
+    sfv::field moved = std::move(field);
+    int strings = 0;
+    for (sfv::row row : moved) {
+        if (row.tag() != SFV_BARE_ITEM) continue;
+        expect(row.get<std::string_view>() == "\\" + std::to_string(strings++) + " is a number\"", "an escaped string");
+    }
+    expect(strings == 70 && moved.text() == list && rewritten(sfv::type::list, moved) == list, "escaped strings");
+    std::string quotes(1000, '"');
+    expect(sfv::writer(sfv::type::item).item(quotes).text().size() == 2002, "a long escaped string");
+    std::string items;
+    for (int i = 0; i < 100; i++) items += i ? ",a" : "a";
+    expect(sfv::canonical(sfv::type::list, items).size() == 298, "a text longer than its input");
+}
+
+// A field of more than 500 bytes, so that each call needs a second buffer.
+void test_rfc8941() {
+    const sfv::version old = sfv::version::rfc8941;
+    std::string input;
+    sfv::writer writer(sfv::type::dictionary);
+    for (int i = 0; i < 80; i++) {
+        std::string key = "k" + std::to_string(i);
+        input += (i ? ", " : "") + key + "=\"\\\"\"";
+        writer.key(key).item("\"");
+    }
+    expect(input.size() > 500, "a field of 500 bytes");
+    sfv::field field = sfv::parse(sfv::type::dictionary, input, old);
+    expect(field.text(old) == input && field.text() == input && writer.text(old) == input, "a text of 500 bytes");
+    expect(sfv::canonical(sfv::type::dictionary, input, old, old) == input, "the canonical text of 500 bytes");
+    expect(sfv::canonical(sfv::type::dictionary, input + ", k0=1", old, old).find("k0=1, k1=") == 0, "a repeated key");
+    std::string with_date = input + ", d=@1";
+    sfv::error_code code;
+    expect(!sfv::parse(sfv::type::dictionary, with_date, code, old) && code.kind() == SFV_ERR_RFC8941_DATE, "no dates");
+    expect(code.index() == input.size() + 4, "the index of a date");
+    sfv::field dated = sfv::parse(sfv::type::dictionary, with_date);
+    expect(dated.text() == with_date && dated.text(sfv::version::rfc9651) == with_date, "a date");
+    expect(thrown([&] { dated.text(old); }) == SFV_UNSUPPORTED, "no dates");
+    writer.key("d").item(sfv::date{1});
+    expect(writer.text() == with_date && thrown([&] { writer.text(old); }) == SFV_UNSUPPORTED, "no dates");
+    // The canonical text is written from a tree.
+    with_date += ", d=@2";
+    sfv::field repeated = sfv::parse(sfv::type::dictionary, with_date);
+    expect(repeated.text() == input + ", d=@2", "a repeated date");
+    expect(thrown([&] { repeated.text(old); }) == SFV_UNSUPPORTED, "no dates");
 }
 
 sfv_status status_of(const sfv::value &value) {
@@ -171,6 +342,32 @@ void test_writer() {
     expect(thrown([] { sfv::writer(sfv::type::item).begin_inner().end_inner().text(); }) == SFV_WRONG_ROW, "no item");
 }
 
+// Checks the texts of a field and of its rewritten form. Both build a tree if and only if a key repeats.
+void check_text(sfv::type type, std::string_view input, std::string_view text) {
+    sfv::field field = sfv::parse(type, input);
+    int before = trees, expected = input == text ? 0 : 1;
+    expect(field.text() == text && trees - before == expected, input);
+    before = trees;
+    expect(rewritten(type, field) == text && trees - before == expected, input);
+}
+
+// A repeated key keeps its first position and takes its last value. The same key can be in two items.
+void test_repeated_keys() {
+    check_text(sfv::type::item, "1;a;b;a=2", "1;a=2;b");
+    check_text(sfv::type::list, "1;a, 2;a, (3;a 4;a);a", "1;a, 2;a, (3;a 4;a);a");
+    check_text(sfv::type::list, "1;a, (2 3;b;b=1)", "1;a, (2 3;b=1)");
+    check_text(sfv::type::list, "(2 3);a;a=1", "(2 3);a=1");
+    check_text(sfv::type::dictionary, "a;b, b;a, c=(1;a);b", "a;b, b;a, c=(1;a);b");
+    check_text(sfv::type::dictionary, "b;x, a, c=(), b", "b, a, c=()");
+    check_text(sfv::type::dictionary, "a, aa, b;a=1;aa=2;a=3", "a, aa, b;a=3;aa=2");
+    std::string many;
+    for (int i = 0; i < 50; i++) many += (i ? ", key" : "key") + std::to_string(i * 7 % 50) + "=1";
+    check_text(sfv::type::dictionary, many, many);
+    std::string expected = many;
+    expected.replace(expected.find("key14=1"), 7, "key14=2");
+    check_text(sfv::type::dictionary, many + ", key14=2", expected);
+}
+
 void test_threads() {
     const std::string input = "a;n=\"\\\\\", (1 b);q=:AAAA:";
     const sfv::field shared = sfv::parse(sfv::type::list, input);
@@ -186,7 +383,8 @@ void test_threads() {
 
 }  // namespace
 
-int main() {
+int main(int count, char **arguments) {
+    if (count != 2) return 2;
     int lines = 0;
     for (std::string line; std::getline(std::cin, line); lines++) replay(line);
     expect(lines == 2857, "the number of lines");
@@ -195,6 +393,13 @@ int main() {
     test_no_input();
     test_nul();
     test_large();
+    test_syntax_errors(arguments[1]);
+    test_other_errors();
+    test_unknown_numbers();
+    test_out_of_memory();
+    test_second_buffers();
+    test_rfc8941();
+    test_repeated_keys();
     test_values_out_of_range();
     test_writer();
     test_threads();

@@ -14,13 +14,13 @@ from __future__ import annotations
 import ctypes
 import re
 import struct
-from ctypes import c_char_p, c_int64, c_size_t, c_uint32, c_void_p
+from ctypes import c_char, c_size_t, c_uint32, c_void_p
 from dataclasses import dataclass
 from datetime import datetime, timedelta, timezone
 from decimal import ROUND_HALF_EVEN, Context, Decimal, InvalidOperation
 from enum import Enum, IntEnum
 from itertools import takewhile
-from typing import Any, Callable, Dict, Iterator, List, Pattern, Tuple, Union
+from typing import Any, Callable, Dict, Iterable, Iterator, List, Pattern, Tuple, Union
 
 __all__ = ["Date", "DisplayString", "ErrorKind", "ParseError", "Token"]
 __all__ += ["parse_dictionary", "parse_item", "parse_list", "serialize"]
@@ -61,18 +61,38 @@ class _Text(str):
 
 
 class Token(_Text):
-    """A token. It equals the string with the same text; `isinstance` distinguishes them."""
+    """A token. It equals the string with the same text; `isinstance` distinguishes them.
+
+    Raises `ValueError` if no token has this text.
+    """
+
+    def __new__(cls, text: str) -> Token:
+        _matching("token", _TOKEN, text)
+        return super().__new__(cls, text)
 
 
 class DisplayString(_Text):
-    """A display string: any Unicode text. It equals the string with the same text."""
+    """A display string: any Unicode text. It equals the string with the same text.
+
+    Raises `ValueError` if the text contains a surrogate.
+    """
+
+    def __new__(cls, text: str) -> DisplayString:
+        _matching("Unicode text", _UNICODE, text)
+        return super().__new__(cls, text)
 
 
 @dataclass(frozen=True)
 class Date:
-    """A date in seconds since 1970. A date in the years 1 to 9999 parses to `datetime`, and any other to `Date`."""
+    """A date in seconds since 1970. A date in the years 1 to 9999 parses to `datetime`, and any other to `Date`.
+
+    Raises `ValueError` if the number is no integer of at most 15 digits.
+    """
 
     seconds: int
+
+    def __post_init__(self) -> None:
+        _in_range(self.seconds)
 
 
 BareItem = Union[int, Decimal, str, Token, bytes, bool, datetime, Date, DisplayString]
@@ -80,6 +100,8 @@ Parameters = Dict[str, BareItem]
 Item = Tuple[BareItem, Parameters]
 InnerList = Tuple[List[Item], Parameters]
 Member = Union[Item, InnerList]
+# What `serialize` takes. Members are `Any`, because a `List[int]` is no `List` of all types of members.
+FieldValue = Union[BareItem, Item, List[Any], Dict[str, Any]]
 
 
 def parse_item(field: bytes, version: int = 9651) -> Item:
@@ -99,7 +121,7 @@ def parse_dictionary(field: bytes, version: int = 9651) -> Dict[str, Member]:
     return {key: _member(rows) for _, key, _ in rows}
 
 
-def serialize(value: Any, version: int = 9651) -> str:
+def serialize(value: FieldValue, version: int = 9651) -> str:
     """Returns the canonical text of a dictionary (`dict`), a list (`list`) or an item (RFC 9651, section 4.1).
 
     A value without parameters can be alone, not in a pair. Without members, the text is empty: do not send the field.
@@ -110,13 +132,16 @@ def serialize(value: Any, version: int = 9651) -> str:
     if isinstance(value, list):
         entries = [(_row(_Tag.ENTRY), member) for member in value]
     else:
-        entries = [(_row(_Tag.KEYED_ENTRY, _matching(_KEY, key)), member) for key, member in value.items()]
+        entries = [(_row(_Tag.KEYED_ENTRY, _matching("key", _KEY, key)), member) for key, member in value.items()]
     rows = [row for entry, member in entries for row in (entry, *_member_rows(member))]
     return _write(_Type.LIST if isinstance(value, list) else _Type.DICTIONARY, rows, version)
 
 
 # The tag, key and value of a row.
 _Part = Tuple[int, str, Any]
+# The kind, bytes and number of a value, and the tag and key of a row to write before them.
+_Encoded = Tuple[int, bytes, int]
+_Row = Tuple[int, bytes, int, bytes, int]
 
 
 def _member(rows: Iterator[_Part]) -> Member:
@@ -149,16 +174,17 @@ _DECIMALS = Context(prec=18, rounding=ROUND_HALF_EVEN, traps=[InvalidOperation])
 _KEY = re.compile(r"[a-z*][a-z0-9_.*-]*")
 _TOKEN = re.compile(r"[A-Za-z*][A-Za-z0-9!#$%&'*+.^_`|~:/-]*")
 _STRING = re.compile(r"[ -~]*")
+_UNICODE = re.compile(r"[^\ud800-\udfff]*")
 _DECODERS: Dict[int, Callable[[bytes, int], Any]] = {
     _Kind.NONE: lambda data, number: None,
     _Kind.INTEGER: lambda data, number: number,
     _Kind.DECIMAL: lambda data, number: _DECIMALS.divide(number, 1000),
     _Kind.STRING: lambda data, number: data.decode("ascii"),
-    _Kind.TOKEN: lambda data, number: Token(data, "ascii"),
+    _Kind.TOKEN: lambda data, number: str.__new__(Token, data, "ascii"),  # without the check
     _Kind.BYTE_SEQUENCE: lambda data, number: data,
     _Kind.BOOLEAN: lambda data, number: number == 1,
     _Kind.DATE: lambda data, number: _date(number),
-    _Kind.DISPLAY_STRING: lambda data, number: DisplayString(data, "utf-8"),
+    _Kind.DISPLAY_STRING: lambda data, number: str.__new__(DisplayString, data, "utf-8"),
 }
 
 
@@ -176,8 +202,12 @@ def _item_rows(item: Any) -> List[_Row]:
 
 
 def _parameter_rows(parameters: Dict[str, Any]) -> List[_Row]:
-    rows = [_row(_Tag.PARAMETER, _matching(_KEY, key), _encoded(value)) for key, value in parameters.items()]
+    rows = [_row(_Tag.PARAMETER, _matching("key", _KEY, key), _encoded(value)) for key, value in parameters.items()]
     return [*rows, _row(_Tag.END_PARAMETERS)]
+
+
+def _row(tag: _Tag, key: bytes = b"", encoded: _Encoded = (_Kind.NONE, b"", 0)) -> _Row:
+    return (tag, key, *encoded)
 
 
 def _pair(member: Any) -> Tuple[Any, Dict[str, Any]]:
@@ -188,7 +218,7 @@ def _pair(member: Any) -> Tuple[Any, Dict[str, Any]]:
     return value, parameters
 
 
-def _encoded(value: Any) -> Tuple[_Kind, bytes, int]:
+def _encoded(value: Any) -> _Encoded:
     """Returns the kind, bytes and number of a value. A `bool` is an `int`, and a token or display string is a `str`."""
     if isinstance(value, bool):
         return _Kind.BOOLEAN, b"", int(value)
@@ -197,10 +227,11 @@ def _encoded(value: Any) -> Tuple[_Kind, bytes, int]:
     if isinstance(value, Decimal):
         return _Kind.DECIMAL, b"", _thousandths(value)
     if isinstance(value, DisplayString):
-        return _Kind.DISPLAY_STRING, value.encode("utf-8"), 0
+        return _Kind.DISPLAY_STRING, _matching("Unicode text", _UNICODE, value), 0
+    if isinstance(value, Token):
+        return _Kind.TOKEN, _matching("token", _TOKEN, value), 0
     if isinstance(value, str):
-        is_token = isinstance(value, Token)
-        return (_Kind.TOKEN if is_token else _Kind.STRING), _matching(_TOKEN if is_token else _STRING, value), 0
+        return _Kind.STRING, _matching("string of printable ASCII", _STRING, value), 0
     if isinstance(value, bytes):
         return _Kind.BYTE_SEQUENCE, value, 0
     if isinstance(value, (datetime, Date)):
@@ -208,10 +239,10 @@ def _encoded(value: Any) -> Tuple[_Kind, bytes, int]:
     raise ValueError(f"no field can hold a {type(value).__name__}: {value!r}")
 
 
-def _matching(pattern: Pattern[str], text: Any) -> bytes:
+def _matching(name: str, pattern: Pattern[str], text: Any) -> bytes:
     if not isinstance(text, str) or not pattern.fullmatch(text):
-        raise ValueError(f"no field can hold {text!r} here")
-    return text.encode("ascii")
+        raise ValueError(f"no {name}: {text!r}")
+    return text.encode("utf-8")
 
 
 def _in_range(number: int) -> int:
@@ -238,14 +269,9 @@ class _Answer(ctypes.Structure):
     _fields_ = [("status", c_uint32), ("kind", c_uint32), ("index", c_size_t), ("length", c_size_t), ("rows", c_size_t)]
 
 
-class _Row(ctypes.Structure):
-    _fields_ = [("tag", c_uint32), ("kind", c_uint32), ("key", c_char_p), ("key_length", c_size_t)]
-    _fields_ += [("data", c_char_p), ("length", c_size_t), ("number", c_int64)]
-
-
-_ROW = struct.Struct("IIPNPNq")  # the members of _Row
+_ROW = struct.Struct("IIPNPNq")  # the members of sfv_row
 _library = ctypes.CDLL("libsfv.so.1")
-if _library.sfv_c_abi() != 1 or _ROW.size != ctypes.sizeof(_Row):
+if _library.sfv_c_abi() != 1 or _ROW.size != 48:
     raise ImportError("libsfv has another binary interface")
 _spans, _write_spans, _message = _library.sfv_c_spans, _library.sfv_c_write_spans, _library.sfv_c_message
 _spans.restype = _write_spans.restype = _message.restype = _Answer
@@ -255,9 +281,9 @@ _write_spans.argtypes = [c_uint32, c_uint32, *_BUFFER, *_BUFFER]
 _message.argtypes = [c_uint32, *_BUFFER]
 
 
-def _row(tag: _Tag, key: bytes = b"", encoded: Tuple[_Kind, bytes, int] = (_Kind.NONE, b"", 0)) -> _Row:
-    kind, data, number = encoded
-    return _Row(tag, kind, key, len(key), data, len(data), number)
+def _address(buffer: bytearray) -> int:
+    """Returns the address of a buffer that is not empty. An array of ctypes would need a type for each length."""
+    return ctypes.addressof(c_char.from_buffer(buffer))
 
 
 def _parse(kind: _Type, field: bytes, version: int) -> Iterator[_Part]:
@@ -265,36 +291,51 @@ def _parse(kind: _Type, field: bytes, version: int) -> Iterator[_Part]:
         raise TypeError(f"a field is bytes, not {type(field).__name__}")
     size = len(field)
     # Most fields have at most 256 parts. Others are parsed twice.
-    answer = _Answer(_Status.TOO_SMALL, length=size, rows=min(256, 2 * size + 2))
-    while answer.status == _Status.TOO_SMALL:
+    answer = _Answer(length=size, rows=min(256, 2 * size + 2))
+    for _ in range(2):
         # The rows point into one buffer: the field, and after it the room for decoded texts.
-        buffer = ctypes.create_string_buffer(field, size + answer.length + 1)
-        rows, start = ctypes.create_string_buffer(answer.rows * _ROW.size), ctypes.addressof(buffer)
-        answer = _spans(kind, _Version(version), start, size, rows, answer.rows, start + size, answer.length)
+        buffer, rows = bytearray(size + answer.length + 1), bytearray(answer.rows * _ROW.size + 1)
+        buffer[:size] = field
+        start, to = _address(buffer), _address(rows)
+        answer = _spans(kind, _Version(version), start, size, to, answer.rows, start + size, answer.length)
+        if answer.status != _Status.TOO_SMALL:
+            break
     _raise_error(answer)
-    texts, written = buffer.raw, memoryview(rows)[: answer.rows * _ROW.size]
+    texts, written = bytes(buffer), memoryview(rows)[: answer.rows * _ROW.size]
     for tag, value_kind, key, key_length, data, length, number in _ROW.iter_unpack(written):
         key, data = key - start, data - start
         name = texts[key : key + key_length].decode("ascii") if key_length else ""
         yield tag, name, _DECODERS[value_kind](texts[data : data + length], number)
 
 
+def _packed(rows: Iterable[_Row], at: int) -> Iterator[bytes]:
+    """Yields the rows. Their keys and bytes follow each other, from this address."""
+    for tag, key, kind, data, number in rows:
+        yield _ROW.pack(tag, kind, at, len(key), at + len(key), len(data), number)
+        at += len(key) + len(data)
+
+
 def _write(kind: _Type, rows: List[_Row], version: int) -> str:
-    array, answer = (_Row * len(rows))(*rows), _Answer(_Status.TOO_SMALL, length=1024)
-    while answer.status == _Status.TOO_SMALL:
-        out = ctypes.create_string_buffer(answer.length)
-        answer = _write_spans(kind, _Version(version), array, len(rows), out, len(out))
+    texts = bytearray(b"".join([text for _, key, _, data, _ in rows for text in (key, data)]) + b"\0")
+    array = bytearray(b"".join(_packed(rows, _address(texts))) + b"\0")
+    answer = _Answer(length=1024)
+    for _ in range(2):
+        out = bytearray(answer.length)
+        answer = _write_spans(kind, _Version(version), _address(array), len(rows), _address(out), len(out))
+        if answer.status != _Status.TOO_SMALL:
+            break
     _raise_error(answer)
-    return out.raw[: answer.length].decode("ascii")
+    return out[: answer.length].decode("ascii")
 
 
 def _raise_error(answer: _Answer) -> None:
     if answer.status == _Status.REJECTED:
-        text = ctypes.create_string_buffer(64)
-        length = _message(answer.kind, text, len(text)).length
-        raise ParseError(ErrorKind(answer.kind), answer.index, text.raw[:length].decode("ascii"))
+        text = bytearray(64)
+        length = _message(answer.kind, _address(text), len(text)).length
+        raise ParseError(ErrorKind(answer.kind), answer.index, text[:length].decode("ascii"))
     if answer.status == _Status.UNSUPPORTED:
-        raise ValueError(f"RFC 8941 has no {'dates' if answer.kind == _Kind.DATE else 'display strings'}")
+        raise ValueError(f"RFC 8941 does not support {'dates' if answer.kind == _Kind.DATE else 'display strings'}")
     if answer.status == _Status.OUT_OF_MEMORY:
         raise MemoryError
-    assert answer.status in (_Status.OK, _Status.NOTHING), _Status(answer.status)
+    if answer.status not in (_Status.OK, _Status.NOTHING):
+        raise RuntimeError(f"libsfv returned the status {answer.status}")

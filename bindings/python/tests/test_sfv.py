@@ -1,13 +1,19 @@
 """Tests of the module over the installed library. They read the replay and the header of the repository."""
 
+import copy
+import ctypes
 import doctest
+import gc
 import pickle
 import re
+import subprocess
+import sys
 import unittest
 from concurrent.futures import ThreadPoolExecutor
 from datetime import datetime, timedelta, timezone
 from decimal import Decimal, localcontext
 from pathlib import Path
+from typing import Any, get_type_hints
 
 import sfv
 from sfv import Date, DisplayString, ErrorKind, ParseError, Token, parse_dictionary, parse_item, parse_list, serialize
@@ -96,6 +102,15 @@ class Parsing(unittest.TestCase):
         self.check_item(b"@-999999999999999", Date(-LARGEST))
         self.assertEqual(serialize(Date(0)), "@0")
 
+    def test_dates_before_1970(self):
+        self.check_item(b"@-1", datetime(1969, 12, 31, 23, 59, 59, tzinfo=UTC))
+        self.check_item(b"@-86401", datetime(1969, 12, 30, 23, 59, 59, tzinfo=UTC))
+        self.check_item(b"@-2208988800", datetime(1900, 1, 1, tzinfo=UTC))
+        east = timezone(timedelta(hours=2))
+        self.assertEqual(serialize(datetime(1970, 1, 1, 1, 59, 59, tzinfo=east)), "@-1")
+        for microsecond in (1, 999_999):
+            self.assertRaises(ValueError, serialize, datetime(1969, 12, 31, 23, 59, 59, microsecond, UTC))
+
     def test_the_context_of_decimals(self):
         with localcontext() as context:
             context.prec = 3
@@ -121,12 +136,57 @@ class Parsing(unittest.TestCase):
         self.check_item(b":" + b"QUJD" * 250_000 + b":", b"ABC" * 250_000)
         self.check_item(b'"' + b"\\\\" * 500_000 + b'"', "\\" * 500_000)
 
+    def test_second_buffers(self):
+        strings = [f'\\{n} is a number"' for n in range(300)]
+        text = ", ".join(f'"\\\\{n} is a number\\""' for n in range(300))
+        self.assertTrue(parse_list(text.encode()) == [(string, {}) for string in strings])
+        self.assertEqual(serialize(strings), text)
+        self.assertEqual(serialize(['"' * 1000]), '"' + '\\"' * 1000 + '"')
+
+    def test_no_type_for_each_length(self):
+        gc.collect()
+        gc.disable()
+        try:
+            count = len(ctypes.Array.__subclasses__())
+            for length in range(1, 100):
+                text = '"' + "\\\\" * length + '"'
+                self.assertEqual(serialize([parse_item(text.encode())] * length), ", ".join([text] * length))
+                self.assertRaises(ParseError, parse_item, text.encode() * 2)
+            self.assertEqual(len(ctypes.Array.__subclasses__()), count)
+        finally:
+            gc.enable()
+
+    def test_a_limit_of_memory(self):
+        script = """if True:
+            import resource, sfv
+            field = b"a," * 10_000_000 + b"a"
+            resource.setrlimit(resource.RLIMIT_AS, (500_000_000, 500_000_000))
+            try:
+                sfv.parse_list(field)
+            except MemoryError:
+                print("out of memory")
+        """
+        output = subprocess.run([sys.executable, "-c", script], stdout=subprocess.PIPE, check=True, text=True).stdout
+        self.assertEqual(output, "out of memory\n")
+
     def test_errors(self):
         with self.assertRaises(ParseError) as caught:
             parse_dictionary(b"u=1, i=?2")
         error = pickle.loads(pickle.dumps(caught.exception))
         self.assertEqual((error.kind, error.index, error.message), (ErrorKind.EXPECTED_BOOLEAN, 8, "expected boolean ('0' or '1')"))
         self.assertIsInstance(error, ValueError)
+
+    def test_each_syntax_error(self):
+        # TYPE VERSION INPUT KIND NAME INDEX MESSAGE
+        lines = (TOP / "bindings/errors").read_text(encoding="utf-8").splitlines()
+        for line in lines:
+            kind, version, field, number, name, index, message = line.split("\t")
+            with self.assertRaises(ParseError, msg=line) as caught:
+                PARSERS[kind](field.encode(), int(version))
+            error = caught.exception
+            self.assertEqual((error.kind.name, error.kind.value, error.index), (name, int(number), int(index)), line)
+            self.assertEqual((error.message, str(error)), (message, f"{message} at index {index}"))
+        self.assertEqual(len({line.split("\t")[3] for line in lines}), 26)
 
     def test_versions(self):
         with self.assertRaises(ParseError) as caught:
@@ -146,8 +206,71 @@ class Parsing(unittest.TestCase):
         lines = [f"a{n};n={n}, ({n} b);q=:AAAA:".encode() for n in range(2000)]
         expected = [parse_list(line) for line in lines]
         with ThreadPoolExecutor(8) as pool:
-            self.assertEqual(list(pool.map(parse_list, lines)), expected)
-            self.assertEqual(list(pool.map(serialize, expected)), [line.decode() for line in lines])
+            self.assertTrue(list(pool.map(parse_list, lines)) == expected)
+            self.assertTrue(list(pool.map(serialize, expected)) == [line.decode() for line in lines])
+
+
+class Errors(unittest.TestCase):
+    def check(self, exception, text, call, *arguments):
+        with self.assertRaises(exception) as caught:
+            call(*arguments)
+        self.assertEqual((type(caught.exception), str(caught.exception)), (exception, text))
+
+    def test_parsing(self):
+        self.check(TypeError, "a field is bytes, not str", parse_item, "1")
+        self.check(TypeError, "a field is bytes, not NoneType", parse_list, None)
+        self.check(ValueError, "1 is not a valid _Version", parse_dictionary, b"", 1)
+
+    def test_values(self):
+        self.check(ValueError, "no integer of at most 15 digits: 1000000000000000", serialize, LARGEST + 1)
+        self.check(ValueError, "no decimal of at most 12 digits before the point: 1E+12", serialize, Decimal("1e12"))
+        self.check(ValueError, "no string of printable ASCII: 'a\\n'", serialize, "a\n")
+        self.check(ValueError, "no key: 'A'", serialize, {"A": 1})
+        self.check(ValueError, "no key: 1", serialize, (1, {1: 1}))
+        self.check(ValueError, "no dict of parameters: None", serialize, (1, None))
+        self.check(ValueError, "no field can hold a float: 1.5", serialize, [1.5])
+        naive = "a date needs a time zone and whole seconds: datetime.datetime(2020, 1, 1, 0, 0)"
+        self.check(ValueError, naive, serialize, datetime(2020, 1, 1))
+        self.check(ValueError, "1 is not a valid _Version", serialize, 1, 1)
+
+    def test_types_that_fail_at_once(self):
+        for text in ("", "a b", "1a", "a\n", "é", 'a"'):
+            self.check(ValueError, f"no token: {text!r}", Token, text)
+        self.check(ValueError, "no token: 1", Token, 1)
+        self.check(ValueError, "no Unicode text: 'a\\ud800'", DisplayString, "a\ud800")
+        self.check(ValueError, "no Unicode text: b'a'", DisplayString, b"a")
+        self.check(ValueError, "no integer of at most 15 digits: 1.5", Date, 1.5)
+        self.check(ValueError, "no integer of at most 15 digits: -1000000000000000", Date, -LARGEST - 1)
+        for value in (Token("*a/b:c"), DisplayString("é\n"), Date(-LARGEST)):
+            for same in (pickle.loads(pickle.dumps(value)), copy.deepcopy(value)):
+                self.assertEqual((same, type(same)), (value, type(value)))
+
+    def test_versions(self):
+        self.check(ValueError, "RFC 8941 does not support dates", serialize, [1, Date(1), DisplayString("a")], 8941)
+        self.check(ValueError, "RFC 8941 does not support display strings", serialize, (DisplayString("a"), {"a": Date(1)}), 8941)
+
+    def test_statuses(self):
+        self.check(MemoryError, "", sfv._raise_error, sfv._Answer(4, 1))
+        for status in (2, 5, 7, 8, 2**32 - 1):
+            self.check(RuntimeError, f"libsfv returned the status {status}", sfv._raise_error, sfv._Answer(status))
+        for status in (0, 1):
+            self.assertIsNone(sfv._raise_error(sfv._Answer(status)))
+
+    def test_another_binary_interface(self):
+        script = """if True:
+            import ctypes, types
+            ctypes.CDLL = lambda name: types.SimpleNamespace(sfv_c_abi=lambda: 2)
+            try:
+                import sfv
+            except ImportError as error:
+                print(error)
+        """
+        output = subprocess.run([sys.executable, "-c", script], stdout=subprocess.PIPE, check=True, text=True).stdout
+        self.assertEqual(output, "libsfv has another binary interface\n")
+
+    def test_annotations(self):
+        for function in (serialize, parse_item, parse_list, parse_dictionary):
+            self.assertNotIn(Any, get_type_hints(function).values())
 
 
 class Serializing(unittest.TestCase):
@@ -172,12 +295,15 @@ class Serializing(unittest.TestCase):
             self.assertNotIsInstance(caught.exception, ParseError)
 
     def test_values_that_no_field_holds(self):
-        for value in (LARGEST + 1, -LARGEST - 1, 10**40, 1.5, None, "é", "a\n", "a\0", Token(""), Token("a b"), Token("1a"), Token("a\n")):
+        for value in (LARGEST + 1, -LARGEST - 1, 10**40, 1.5, None, "é", "a\n", "a\0", str.__new__(Token, "a b")):
             self.check_no_field_holds(value)
         for text in ("1e12", "-1e12", "999999999999.9995", "NaN", "sNaN", "Infinity", "1e999999", "1e99999999"):
             self.check_no_field_holds(Decimal(text))
-        for value in (DisplayString("\ud800"), datetime(2020, 1, 1), datetime(2020, 1, 1, 0, 0, 0, 1, UTC), Date(LARGEST + 1), Date(1.5)):
+        for value in (str.__new__(DisplayString, "\ud800"), datetime(2020, 1, 1), datetime(2020, 1, 1, 0, 0, 0, 1, UTC)):
             self.check_no_field_holds(value)
+        date = Date(1)
+        object.__setattr__(date, "seconds", LARGEST + 1)
+        self.check_no_field_holds(date)
         for value in (object(), {1}, bytearray(b"a"), (1,), (1, {}, 2), (1, None), datetime(2020, 1, 1).date()):
             self.check_no_field_holds(value)
 

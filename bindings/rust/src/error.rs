@@ -1,8 +1,9 @@
 #![forbid(unsafe_code)]
 
+use std::collections::TryReserveError;
 use std::fmt;
 
-use crate::ffi::{self, Answer, Status};
+use crate::ffi::{self, Answer, Status, ValueKind};
 
 macro_rules! error_kinds {
     ($($name:ident = $number:literal)*) => {
@@ -11,8 +12,8 @@ macro_rules! error_kinds {
         #[non_exhaustive]
         pub enum ErrorKind { $($name = $number),* }
 
-        fn kind_of(number: u32) -> ErrorKind {
-            match number { $($number => ErrorKind::$name,)* _ => unreachable!("no syntax error has the kind {number}") }
+        fn kind_of(number: u32) -> Option<ErrorKind> {
+            Some(match number { $($number => ErrorKind::$name,)* _ => return None })
         }
     };
 }
@@ -28,38 +29,56 @@ error_kinds! {
     ExpectedStartOfKey = 30
 }
 
+/// The values that RFC 8941 does not support.
+#[derive(Clone, Copy, Debug, PartialEq, Eq, Hash)]
+pub enum Unsupported { Date, DisplayString }
+
 /// The error of a call.
 #[derive(Clone, Copy, Debug, PartialEq, Eq)]
 #[non_exhaustive]
 pub enum Error {
     /// The input is no such field. The index is at most its length.
     Syntax { kind: ErrorKind, index: usize },
-    /// RFC 8941 has no dates and no display strings.
-    Unsupported,
+    /// The version lacks a value: the first such value.
+    Unsupported(Unsupported),
     /// No field has these parts: the number of the first part that is wrong or missing.
     WrongPart { index: usize },
     OutOfMemory,
+    /// The program is linked to another version of libsfv: one with another binary interface, or one that returns a
+    /// number that this crate does not know. Every call can return this error.
+    Incompatible,
 }
 
 impl From<Answer> for Error {
     fn from(Answer { status, kind, index, .. }: Answer) -> Error {
-        match status {
-            Status::Rejected => Error::Syntax { kind: kind_of(kind), index },
-            Status::Unsupported => Error::Unsupported,
-            Status::WrongRow => Error::WrongPart { index },
-            Status::OutOfMemory => Error::OutOfMemory,
-            _ => unreachable!("no error is {status:?}"),
+        match (status, ValueKind(kind)) {
+            (Status::REJECTED, _) => kind_of(kind).map_or(Error::Incompatible, |kind| Error::Syntax { kind, index }),
+            (Status::UNSUPPORTED, ValueKind::DATE) => Error::Unsupported(Unsupported::Date),
+            (Status::UNSUPPORTED, ValueKind::DISPLAY_STRING) => Error::Unsupported(Unsupported::DisplayString),
+            (Status::WRONG_ROW, _) => Error::WrongPart { index },
+            (Status::OUT_OF_MEMORY, _) => Error::OutOfMemory,
+            _ => Error::Incompatible,
         }
     }
+}
+
+impl From<TryReserveError> for Error {
+    fn from(_: TryReserveError) -> Error { Error::OutOfMemory }
 }
 
 impl fmt::Display for Error {
     fn fmt(&self, f: &mut fmt::Formatter<'_>) -> fmt::Result {
         match *self {
-            Error::Syntax { kind, index } => write!(f, "{} at index {index}", ffi::message(kind as u32)),
-            Error::Unsupported => f.write_str("RFC 8941 has no dates and no display strings"),
+            Error::Syntax { kind, index } => {
+                let mut buffer = [0; 63];
+                let message = ffi::message(kind as u32, &mut buffer).unwrap_or("no such field");
+                write!(f, "{message} at index {index}")
+            }
+            Error::Unsupported(Unsupported::Date) => f.write_str("RFC 8941 does not support dates"),
+            Error::Unsupported(Unsupported::DisplayString) => f.write_str("RFC 8941 does not support display strings"),
             Error::WrongPart { index } => write!(f, "no field has these parts: part {index} is wrong or missing"),
             Error::OutOfMemory => f.write_str("out of memory"),
+            Error::Incompatible => f.write_str("this version of libsfv is not the one that the crate needs"),
         }
     }
 }

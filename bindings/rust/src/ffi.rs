@@ -1,7 +1,13 @@
 //! The calls of libsfv. The header sfv.h describes each call and struct.
 
+use std::collections::TryReserveError;
 use std::marker::PhantomData;
-use std::slice;
+use std::{slice, str};
+
+use crate::Error;
+
+/// The SFV_ABI of the header.
+const ABI: u32 = 1;
 
 /// The type of a field.
 #[repr(u32)]
@@ -13,18 +19,29 @@ pub enum Kind { Item = 1, List, Dictionary }
 #[derive(Clone, Copy, Debug, PartialEq, Eq)]
 pub enum Version { Rfc8941 = 8941, Rfc9651 = 9651 }
 
-#[repr(u32)]
-#[derive(Clone, Copy, Debug, PartialEq, Eq)]
-#[allow(dead_code)] // The library returns each status.
-pub enum Status { Ok, Nothing, TooSmall, Rejected, OutOfMemory, BadArgument, Unsupported, WrongRow }
+// The numbers that the library returns. An enum would have undefined behaviour for a number that it does not name.
+macro_rules! numbers {
+    ($($type:ident { $($name:ident = $number:literal)* })*) => {$(
+        #[repr(transparent)]
+        #[derive(Clone, Copy, Debug, PartialEq, Eq)]
+        pub struct $type(pub u32);
 
-#[repr(u32)]
-#[derive(Clone, Copy, PartialEq, Eq)]
-pub enum Tag { Entry = 1, Key, BeginItem, BeginInner, BareItem, Parameter, EndParameters, EndInner }
+        #[allow(dead_code)] // The library returns each of them.
+        impl $type { $(pub const $name: $type = $type($number);)* }
+    )*};
+}
 
-#[repr(u32)]
-#[derive(Clone, Copy)]
-pub enum ValueKind { None, Integer, Decimal, String, Token, ByteSequence, Boolean, Date, DisplayString }
+numbers! {
+    Status {
+        OK = 0 NOTHING = 1 TOO_SMALL = 2 REJECTED = 3 OUT_OF_MEMORY = 4 BAD_ARGUMENT = 5 UNSUPPORTED = 6 WRONG_ROW = 7
+    }
+    Tag {
+        ENTRY = 1 KEY = 2 BEGIN_ITEM = 3 BEGIN_INNER = 4 BARE_ITEM = 5 PARAMETER = 6 END_PARAMETERS = 7 END_INNER = 8
+    }
+    ValueKind {
+        NONE = 0 INTEGER = 1 DECIMAL = 2 STRING = 3 TOKEN = 4 BYTE_SEQUENCE = 5 BOOLEAN = 6 DATE = 7 DISPLAY_STRING = 8
+    }
+}
 
 #[repr(C)]
 pub struct Answer { pub status: Status, pub kind: u32, pub index: usize, pub length: usize, pub rows: usize }
@@ -54,18 +71,24 @@ impl<'a> Row<'a> {
         Row { tag, kind, key, key_length, bytes, bytes_length, number, borrow: PhantomData }
     }
 
-    pub fn key(&self) -> &'a str {
+    pub fn key(&self) -> &'a str { text(self.key_bytes()) }
+
+    pub fn key_bytes(&self) -> &'a [u8] {
         // SAFETY: `new` and the library write the parts of bytes that are borrowed for 'a (see `Rows`).
-        text(unsafe { slice::from_raw_parts(self.key, self.key_length) })
+        unsafe { slice::from_raw_parts(self.key, self.key_length) }
     }
 
     pub fn bytes(&self) -> &'a [u8] {
-        // SAFETY: as in `key`.
+        // SAFETY: as in `key_bytes`.
         unsafe { slice::from_raw_parts(self.bytes, self.bytes_length) }
+    }
+
+    fn is_known(&self) -> bool {
+        (Tag::ENTRY.0..=Tag::END_INNER.0).contains(&self.tag.0) && self.kind.0 <= ValueKind::DISPLAY_STRING.0
     }
 }
 
-pub fn text(bytes: &[u8]) -> &str { std::str::from_utf8(bytes).expect("the library returns UTF-8") }
+pub fn text(bytes: &[u8]) -> &str { str::from_utf8(bytes).expect("the library returns UTF-8") }
 
 /// The rows of a field. Their bytes are in the input, or in the room.
 pub struct Rows<'a> { rows: Vec<Row<'a>>, _room: Vec<u8> }
@@ -76,6 +99,7 @@ impl Rows<'_> {
 }
 
 extern "C" {
+    fn sfv_c_abi() -> u32;
     fn sfv_c_canonical(kind: Kind, reading: Version, writing: Version, seed: u64, input: *const u8, input_length: usize,
                        out: *mut u8, out_length: usize) -> Answer;
     fn sfv_c_spans(kind: Kind, version: Version, input: *const u8, input_length: usize, rows: *mut Row<'_>,
@@ -86,56 +110,90 @@ extern "C" {
     fn sfv_seed() -> u64;
 }
 
-pub fn parse(kind: Kind, version: Version, input: &[u8]) -> Result<Rows<'_>, Answer> {
+/// Returns an error if the library has another binary interface. Every other call of the library comes after it.
+fn check_abi() -> Result<(), Error> {
+    // SAFETY: it has no arguments.
+    let abi = unsafe { sfv_c_abi() };
+    if abi == ABI { Ok(()) } else { Err(Error::Incompatible) }
+}
+
+fn reserved<T>(count: usize) -> Result<Vec<T>, TryReserveError> {
+    let mut vector = Vec::new();
+    vector.try_reserve_exact(count)?;
+    Ok(vector)
+}
+
+fn zeros(count: usize) -> Result<Vec<u8>, TryReserveError> {
+    let mut bytes = reserved(count)?;
+    bytes.resize(count, 0);
+    Ok(bytes)
+}
+
+pub fn parse(kind: Kind, version: Version, input: &[u8]) -> Result<Rows<'_>, Error> {
+    check_abi()?;
     // Most fields have at most 64 rows. Others are parsed twice.
     let (mut count, mut length) = (2 * input.len().min(31) + 2, input.len());
-    loop {
-        let (mut rows, mut room) = (Vec::with_capacity(count), Vec::with_capacity(length));
+    for _ in 0..2 {
+        let (mut rows, mut room) = (reserved(count)?, reserved(length)?);
         let (to, decoded) = (rows.as_mut_ptr(), room.as_mut_ptr());
         // SAFETY: the pointers have these lengths, are not null, and do not overlap.
         let answer = unsafe { sfv_c_spans(kind, version, input.as_ptr(), input.len(), to, count, decoded, length) };
         match answer.status {
-            Status::TooSmall => (count, length) = (answer.rows, answer.length),
-            Status::Ok => {
+            Status::TOO_SMALL => (count, length) = (answer.rows, answer.length),
+            Status::OK if answer.rows <= count => {
                 // SAFETY: the library wrote this number of rows. Their bytes are in the input, which is borrowed, or in
                 // the allocation of the room, which `Rows` keeps and never changes.
                 unsafe { rows.set_len(answer.rows) };
-                return Ok(Rows { rows, _room: room });
+                let are_known = rows.iter().all(Row::is_known);
+                return if are_known { Ok(Rows { rows, _room: room }) } else { Err(Error::Incompatible) };
             }
-            _ => return Err(answer),
+            _ => return Err(answer.into()),
         }
     }
+    Err(Error::Incompatible)
 }
 
-/// Passes a buffer to `write`, again if it is too small. Returns the text, or `None` if it is empty.
-fn written(guess: usize, write: impl Fn(*mut u8, usize) -> Answer) -> Result<Option<String>, Answer> {
-    let mut out = vec![0; guess];
+/// Passes a buffer to `write`, again if it is too small. Returns the text, or `None` without a member.
+fn written(guess: usize, write: impl Fn(*mut u8, usize) -> Answer) -> Result<Option<String>, Error> {
+    let mut out = zeros(guess)?;
     let mut answer = write(out.as_mut_ptr(), out.len());
-    if answer.status == Status::TooSmall {
-        out.resize(answer.length, 0);
+    if answer.status == Status::TOO_SMALL {
+        out = zeros(answer.length)?;
         answer = write(out.as_mut_ptr(), out.len());
     }
-    if !matches!(answer.status, Status::Ok | Status::Nothing) {
-        return Err(answer);
+    match answer.status {
+        Status::NOTHING => Ok(None),
+        Status::OK if answer.length <= out.len() => {
+            out.truncate(answer.length);
+            String::from_utf8(out).map(Some).or(Err(Error::Incompatible))
+        }
+        _ => Err(answer.into()),
     }
-    let written = text(&out[..answer.length]);
-    Ok((!written.is_empty()).then(|| written.to_owned()))
 }
 
-pub fn write(kind: Kind, version: Version, rows: &[Row<'_>]) -> Result<Option<String>, Answer> {
+pub fn write(kind: Kind, version: Version, rows: &[Row<'_>]) -> Result<Option<String>, Error> {
+    check_abi()?;
+    // Enough for most texts.
+    let guess = rows.iter().fold(0, |sum: usize, row| {
+        sum.saturating_add(row.key_length + row.bytes_length + row.bytes_length / 2 + 8)
+    });
     // SAFETY: the pointers are parts of slices, so they are not null. Nothing else borrows the buffer.
-    written(256, |out, length| unsafe { sfv_c_write_spans(kind, version, rows.as_ptr(), rows.len(), out, length) })
+    written(guess, |out, length| unsafe { sfv_c_write_spans(kind, version, rows.as_ptr(), rows.len(), out, length) })
 }
 
-pub fn canonical(kind: Kind, reading: Version, writing: Version, input: &[u8]) -> Result<Option<String>, Answer> {
+pub fn canonical(kind: Kind, reading: Version, writing: Version, input: &[u8]) -> Result<Option<String>, Error> {
+    check_abi()?;
     // SAFETY: as in `write`.
     written(input.len(), |out, length| unsafe {
         sfv_c_canonical(kind, reading, writing, sfv_seed(), input.as_ptr(), input.len(), out, length)
     })
 }
 
-pub fn message(kind: u32) -> String {
+/// Writes the message of a kind of syntax error to a buffer, and returns it.
+pub fn message(kind: u32, out: &mut [u8; 63]) -> Option<&str> {
+    check_abi().ok()?;
     // SAFETY: as in `write`.
-    let message = written(64, |out, length| unsafe { sfv_c_message(kind, out, length) });
-    message.ok().flatten().unwrap_or_default()
+    let answer = unsafe { sfv_c_message(kind, out.as_mut_ptr(), out.len()) };
+    let message = out.get(..answer.length).filter(|_| answer.status == Status::OK)?;
+    str::from_utf8(message).ok()
 }

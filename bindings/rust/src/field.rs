@@ -1,5 +1,6 @@
 #![forbid(unsafe_code)]
 
+use std::collections::TryReserveError;
 use std::slice::Iter;
 
 use crate::ffi::{self, text, Kind, Row, Rows, Tag, ValueKind, Version};
@@ -21,28 +22,28 @@ pub enum Value<'a> {
 impl<'a> Value<'a> {
     fn from_row(row: &Row<'a>) -> Option<Value<'a>> {
         Some(match row.kind {
-            ValueKind::None => return None,
-            ValueKind::Integer => Value::Integer(row.number),
-            ValueKind::Decimal => Value::Decimal(row.number),
-            ValueKind::String => Value::String(text(row.bytes())),
-            ValueKind::Token => Value::Token(text(row.bytes())),
-            ValueKind::ByteSequence => Value::ByteSequence(row.bytes()),
-            ValueKind::Boolean => Value::Boolean(row.number != 0),
-            ValueKind::Date => Value::Date(row.number),
-            ValueKind::DisplayString => Value::DisplayString(text(row.bytes())),
+            ValueKind::INTEGER => Value::Integer(row.number),
+            ValueKind::DECIMAL => Value::Decimal(row.number),
+            ValueKind::STRING => Value::String(text(row.bytes())),
+            ValueKind::TOKEN => Value::Token(text(row.bytes())),
+            ValueKind::BYTE_SEQUENCE => Value::ByteSequence(row.bytes()),
+            ValueKind::BOOLEAN => Value::Boolean(row.number != 0),
+            ValueKind::DATE => Value::Date(row.number),
+            ValueKind::DISPLAY_STRING => Value::DisplayString(text(row.bytes())),
+            _ => return None,
         })
     }
 
     fn to_row(self, tag: Tag, key: &'a str) -> Row<'a> {
         match self {
-            Value::Integer(number) => Row::new(tag, key, ValueKind::Integer, b"", number),
-            Value::Decimal(number) => Row::new(tag, key, ValueKind::Decimal, b"", number),
-            Value::String(text) => Row::new(tag, key, ValueKind::String, text.as_bytes(), 0),
-            Value::Token(text) => Row::new(tag, key, ValueKind::Token, text.as_bytes(), 0),
-            Value::ByteSequence(bytes) => Row::new(tag, key, ValueKind::ByteSequence, bytes, 0),
-            Value::Boolean(is_true) => Row::new(tag, key, ValueKind::Boolean, b"", is_true.into()),
-            Value::Date(number) => Row::new(tag, key, ValueKind::Date, b"", number),
-            Value::DisplayString(text) => Row::new(tag, key, ValueKind::DisplayString, text.as_bytes(), 0),
+            Value::Integer(number) => Row::new(tag, key, ValueKind::INTEGER, b"", number),
+            Value::Decimal(number) => Row::new(tag, key, ValueKind::DECIMAL, b"", number),
+            Value::String(text) => Row::new(tag, key, ValueKind::STRING, text.as_bytes(), 0),
+            Value::Token(text) => Row::new(tag, key, ValueKind::TOKEN, text.as_bytes(), 0),
+            Value::ByteSequence(bytes) => Row::new(tag, key, ValueKind::BYTE_SEQUENCE, bytes, 0),
+            Value::Boolean(is_true) => Row::new(tag, key, ValueKind::BOOLEAN, b"", is_true.into()),
+            Value::Date(number) => Row::new(tag, key, ValueKind::DATE, b"", number),
+            Value::DisplayString(text) => Row::new(tag, key, ValueKind::DISPLAY_STRING, text.as_bytes(), 0),
         }
     }
 }
@@ -72,7 +73,7 @@ pub struct Field<'a> {
 /// Parses a field of RFC 9651. Empty input is a list or dictionary without members.
 ///
 /// # Errors
-/// Returns `Error::Syntax` if the input is no such field, and `Error::OutOfMemory`.
+/// Returns `Error::Syntax` if the input is no such field, `Error::OutOfMemory` or `Error::Incompatible`.
 pub fn parse(kind: Kind, input: &[u8]) -> Result<Field<'_>, Error> {
     parse_version(kind, input, Version::Rfc9651)
 }
@@ -95,10 +96,39 @@ impl Field<'_> {
     /// position and takes its last value.
     ///
     /// # Errors
-    /// Returns `Error::Unsupported` if the version lacks a value, and `Error::OutOfMemory`.
+    /// Returns `Error::Unsupported` if the version lacks a value, `Error::OutOfMemory` or `Error::Incompatible`.
     pub fn serialize(&self, version: Version) -> Result<Option<String>, Error> {
-        Ok(ffi::canonical(self.kind, self.version, version, self.input)?)
+        if repeats_key(self.rows.get())? {
+            ffi::canonical(self.kind, self.version, version, self.input)
+        } else {
+            ffi::write(self.kind, version, self.rows.get())
+        }
     }
+}
+
+/// Returns whether two members of the dictionary, or two parameters of an item or inner list, have the same key.
+fn repeats_key(rows: &[Row<'_>]) -> Result<bool, TryReserveError> {
+    let mut keys = Vec::new();
+    if has_equal(rows.iter().filter(|row| row.tag == Tag::KEY), &mut keys)? {
+        return Ok(true);
+    }
+    for parameters in rows.split(|row| row.tag != Tag::PARAMETER) {
+        if has_equal(parameters.iter(), &mut keys)? {
+            return Ok(true);
+        }
+    }
+    Ok(false)
+}
+
+/// Returns whether two of these rows have the same key. The vector is a buffer.
+fn has_equal<'r>(rows: impl Iterator<Item = &'r Row<'r>>, keys: &mut Vec<&'r [u8]>) -> Result<bool, TryReserveError> {
+    keys.clear();
+    for row in rows {
+        keys.try_reserve(1)?;
+        keys.push(row.key_bytes());
+    }
+    keys.sort_unstable();
+    Ok(keys.windows(2).any(|pair| pair[0] == pair[1]))
 }
 
 /// The members of a field, or the items of an inner list.
@@ -109,16 +139,16 @@ impl<'f> Iterator for Members<'f> {
     type Item = Member<'f>;
 
     fn next(&mut self) -> Option<Member<'f>> {
-        let first = self.0.find(|row| matches!(row.tag, Tag::Key | Tag::BareItem | Tag::BeginInner))?;
-        if first.tag == Tag::Key {
+        let first = self.0.find(|row| matches!(row.tag, Tag::KEY | Tag::BARE_ITEM | Tag::BEGIN_INNER))?;
+        if first.tag == Tag::KEY {
             return Some(Member { key: Some(first.key()), ..self.next()? });
         }
         let rows = self.0.as_slice();
-        if first.tag == Tag::BeginInner {
-            self.0.find(|row| row.tag == Tag::EndInner);
+        if first.tag == Tag::BEGIN_INNER {
+            self.0.find(|row| row.tag == Tag::END_INNER);
         }
         let (items, parameters) = rows.split_at(rows.len() - self.0.as_slice().len());
-        self.0.find(|row| row.tag == Tag::EndParameters);
+        self.0.find(|row| row.tag == Tag::END_PARAMETERS);
         Some(Member { key: None, value: Value::from_row(first), items, parameters })
     }
 }
@@ -139,7 +169,7 @@ impl<'f> Member<'f> {
     pub fn items(&self) -> Members<'f> { Members(self.items.iter()) }
 
     pub fn parameters(&self) -> impl Iterator<Item = (&'f str, Value<'f>)> + Clone {
-        let parameters = self.parameters.iter().take_while(|row| row.tag == Tag::Parameter);
+        let parameters = self.parameters.iter().take_while(|row| row.tag == Tag::PARAMETER);
         parameters.filter_map(|row| Some((row.key(), Value::from_row(row)?)))
     }
 
@@ -165,47 +195,54 @@ pub struct Writer<'a> {
     kind: Kind,
     rows: Vec<Row<'a>>,
     is_inner: bool,
+    is_out_of_memory: bool,
 }
 
 impl<'a> Writer<'a> {
-    pub fn new(kind: Kind) -> Self { Writer { kind, rows: Vec::new(), is_inner: false } }
+    pub fn new(kind: Kind) -> Self { Writer { kind, rows: Vec::new(), is_inner: false, is_out_of_memory: false } }
 
     /// Begins a member of a dictionary. Its item or inner list follows.
-    pub fn key(self, key: &'a str) -> Self { self.close().push_tag(Tag::Key, key) }
+    pub fn key(self, key: &'a str) -> Self { self.close().push_tag(Tag::KEY, key) }
 
-    pub fn item(self, value: Value<'a>) -> Self { self.begin(Tag::BeginItem).push(value.to_row(Tag::BareItem, "")) }
+    pub fn item(self, value: Value<'a>) -> Self { self.begin(Tag::BEGIN_ITEM).push(value.to_row(Tag::BARE_ITEM, "")) }
 
-    pub fn begin_inner(self) -> Self { Writer { is_inner: true, ..self.begin(Tag::BeginInner) } }
+    pub fn begin_inner(self) -> Self { Writer { is_inner: true, ..self.begin(Tag::BEGIN_INNER) } }
 
     /// Ends the items of an inner list. Its parameters can follow.
-    pub fn end_inner(self) -> Self { Writer { is_inner: false, ..self.close().push_tag(Tag::EndInner, "") } }
+    pub fn end_inner(self) -> Self { Writer { is_inner: false, ..self.close().push_tag(Tag::END_INNER, "") } }
 
     /// Appends a parameter to the last item, or to the inner list that ended.
-    pub fn parameter(self, key: &'a str, value: Value<'a>) -> Self { self.push(value.to_row(Tag::Parameter, key)) }
+    pub fn parameter(self, key: &'a str, value: Value<'a>) -> Self { self.push(value.to_row(Tag::PARAMETER, key)) }
 
     /// Returns the canonical text, as `Field::serialize`.
     ///
     /// # Errors
-    /// Returns `Error::WrongPart`, `Error::Unsupported` or `Error::OutOfMemory`.
+    /// Returns `Error::WrongPart`, `Error::Unsupported`, `Error::OutOfMemory` or `Error::Incompatible`.
     pub fn text(self, version: Version) -> Result<Option<String>, Error> {
-        let closed = self.close();
-        match ffi::write(closed.kind, version, &closed.rows)? {
-            Some(text) => Ok(ffi::canonical(closed.kind, version, version, text.as_bytes())?),
-            None => Ok(None),
+        let Writer { kind, rows, is_out_of_memory, .. } = self.close();
+        if is_out_of_memory {
+            return Err(Error::OutOfMemory);
+        }
+        match ffi::write(kind, version, &rows)? {
+            Some(text) if repeats_key(&rows)? => ffi::canonical(kind, version, version, text.as_bytes()),
+            text => Ok(text),
         }
     }
 
     fn push(mut self, row: Row<'a>) -> Self {
-        self.rows.push(row);
+        match self.rows.try_reserve(1) {
+            Ok(()) => self.rows.push(row),
+            Err(_) => self.is_out_of_memory = true,
+        }
         self
     }
 
-    fn push_tag(self, tag: Tag, key: &'a str) -> Self { self.push(Row::new(tag, key, ValueKind::None, b"", 0)) }
+    fn push_tag(self, tag: Tag, key: &'a str) -> Self { self.push(Row::new(tag, key, ValueKind::NONE, b"", 0)) }
 
     fn begin(self, tag: Tag) -> Self {
         match (self.kind, self.is_inner) {
             (Kind::Item, _) => self.close(),
-            (Kind::List, false) => self.close().push_tag(Tag::Entry, "").push_tag(tag, ""),
+            (Kind::List, false) => self.close().push_tag(Tag::ENTRY, "").push_tag(tag, ""),
             _ => self.close().push_tag(tag, ""),
         }
     }
@@ -213,7 +250,7 @@ impl<'a> Writer<'a> {
     /// Ends the parameters of the last item or inner list.
     fn close(self) -> Self {
         match self.rows.last().map(|row| row.tag) {
-            Some(Tag::BareItem | Tag::Parameter | Tag::EndInner) => self.push_tag(Tag::EndParameters, ""),
+            Some(Tag::BARE_ITEM | Tag::PARAMETER | Tag::END_INNER) => self.push_tag(Tag::END_PARAMETERS, ""),
             _ => self,
         }
     }

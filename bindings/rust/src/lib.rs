@@ -19,6 +19,6 @@ mod error;
 mod ffi;
 mod field;
 
-pub use error::{Error, ErrorKind};
+pub use error::{Error, ErrorKind, Unsupported};
 pub use ffi::{Kind, Version};
 pub use field::{parse, parse_version, Field, Member, Members, Value, Writer};

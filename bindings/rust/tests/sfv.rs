@@ -4,7 +4,7 @@ use std::fs;
 use std::path::Path;
 use std::thread;
 
-use sfv_proved::{parse, parse_version, Error, ErrorKind, Field, Kind, Member, Value, Version, Writer};
+use sfv_proved::{parse, parse_version, Error, ErrorKind, Field, Kind, Member, Unsupported, Value, Version, Writer};
 
 const LARGEST: i64 = 999_999_999_999_999;
 
@@ -81,6 +81,117 @@ fn replay() {
     }
 }
 
+/// A line of bindings/errors is `TYPE VERSION INPUT KIND NAME INDEX MESSAGE`, between tabs.
+#[test]
+fn syntax_errors() {
+    let lines = repository("bindings/errors");
+    assert_eq!(lines.lines().count(), 26);
+    for line in lines.lines() {
+        let words: Vec<&str> = line.split('\t').collect();
+        let error = parse_line(&words, words[2].as_bytes()).err().expect(line);
+        let Error::Syntax { kind, index } = error else { panic!("{line}: {error}") };
+        assert_eq!((kind as u32, index), (words[3].parse().unwrap(), words[5].parse().unwrap()), "{line}");
+        assert_eq!(format!("{kind:?}").to_uppercase(), words[4].replace('_', ""), "{line}");
+        assert_eq!(error.to_string(), format!("{} at index {}", words[6], words[5]), "{line}");
+    }
+}
+
+#[test]
+fn other_errors() {
+    let dates = Writer::new(Kind::List).item(Value::Integer(1)).item(Value::Date(1)).item(Value::DisplayString("a"));
+    let error = dates.text(Version::Rfc8941).unwrap_err();
+    assert_eq!(error, Error::Unsupported(Unsupported::Date));
+    assert_eq!(error.to_string(), "RFC 8941 does not support dates");
+    let error = parse(Kind::Item, b"%\"a\";b=@1").unwrap().serialize(Version::Rfc8941).unwrap_err();
+    assert_eq!(error, Error::Unsupported(Unsupported::DisplayString));
+    assert_eq!(error.to_string(), "RFC 8941 does not support display strings");
+    // Four parts for the first item, and two before the value of the second.
+    let writer = Writer::new(Kind::List).item(Value::Integer(1)).item(Value::Token("a b"));
+    let error = writer.text(Version::Rfc9651).unwrap_err();
+    assert_eq!(error, Error::WrongPart { index: 6 });
+    assert_eq!(error.to_string(), "no field has these parts: part 6 is wrong or missing");
+    assert_eq!(Error::OutOfMemory.to_string(), "out of memory");
+    assert_eq!(Error::Incompatible.to_string(), "this version of libsfv is not the one that the crate needs");
+    let error: Box<dyn std::error::Error + Send + Sync> = error.into();
+    assert!(error.source().is_none());
+}
+
+/// The same key can be in two items.
+#[test]
+fn repeated_keys() {
+    let texts = [
+        (Kind::Item, "1;a;b;a=2", "1;a=2;b"),
+        (Kind::List, "1;a, 2;a, (3;a 4;a);a", "1;a, 2;a, (3;a 4;a);a"),
+        (Kind::List, "1;a, (2 3;b;b=1)", "1;a, (2 3;b=1)"),
+        (Kind::List, "(2 3);a;a=1", "(2 3);a=1"),
+        (Kind::Dictionary, "a;b, b;a, c=(1;a);b", "a;b, b;a, c=(1;a);b"),
+        (Kind::Dictionary, "b;x, a, c=(), b", "b, a, c=()"),
+        (Kind::Dictionary, "a, aa, b;a=1;aa=2;a=3", "a, aa, b;a=3;aa=2"),
+    ];
+    for (kind, input, text) in texts {
+        let field = parse(kind, input.as_bytes()).unwrap();
+        assert_eq!(field.serialize(Version::Rfc9651).unwrap().as_deref(), Some(text));
+        assert_eq!(rewritten(kind, &field).as_deref(), Some(text));
+    }
+    let members: Vec<String> = (0..50).map(|n| format!("key{}=1", n * 7 % 50)).collect();
+    let many = members.join(", ");
+    let repeated = format!("{many}, key14=2");
+    let field = parse(Kind::Dictionary, repeated.as_bytes()).unwrap();
+    let text = many.replace("key14=1", "key14=2");
+    assert_eq!(field.serialize(Version::Rfc9651).unwrap().as_ref(), Some(&text));
+    assert_eq!(rewritten(Kind::Dictionary, &field), Some(text));
+}
+
+/// The first buffers of a parser have 64 rows, and those of a writer a byte and a half for each byte.
+#[test]
+fn second_buffers() {
+    let strings: Vec<String> = (0..70).map(|n| format!("\"\\\\{n} is a number\\\"\"")).collect();
+    let list = strings.join(", ");
+    let field = parse(Kind::List, list.as_bytes()).unwrap();
+    for (n, member) in field.members().enumerate() {
+        assert_eq!(member.value, Some(Value::String(&format!("\\{n} is a number\""))));
+    }
+    assert_eq!(field.members().count(), 70);
+    assert_eq!(field.serialize(Version::Rfc8941).unwrap().as_ref(), Some(&list));
+    assert_eq!(rewritten(Kind::List, &field), Some(list));
+    let quotes = "\"".repeat(1000);
+    assert_eq!(written(Value::String(&quotes)), Ok(Some(format!("\"{}\"", "\\\"".repeat(1000)))));
+    let repeated = format!("{}a", "a,".repeat(100));
+    let field = parse(Kind::Dictionary, repeated.as_bytes()).unwrap();
+    assert_eq!(field.serialize(Version::Rfc8941).unwrap().as_deref(), Some("a"));
+    let keys: Vec<String> = (0..100).map(|n| format!("a{n}")).collect();
+    let field_text = format!("{},a0", keys.join(","));
+    let field = parse(Kind::Dictionary, field_text.as_bytes()).unwrap();
+    assert_eq!(field.serialize(Version::Rfc8941).unwrap(), Some(keys.join(", ")));
+}
+
+/// A field of 500 bytes, under the older version.
+#[test]
+fn rfc8941() {
+    let keys: Vec<String> = (0..80).map(|n| format!("k{n}")).collect();
+    let input: Vec<String> = keys.iter().map(|key| format!("{key}=\"\\\"\"")).collect();
+    let input = input.join(", ");
+    assert!(input.len() > 500);
+    let quote = Value::String("\"");
+    let write = || keys.iter().fold(Writer::new(Kind::Dictionary), |writer, key| writer.key(key).item(quote));
+    let field = parse_version(Kind::Dictionary, input.as_bytes(), Version::Rfc8941).unwrap();
+    assert_eq!(field.serialize(Version::Rfc8941).as_ref(), Ok(&Some(input.clone())));
+    assert_eq!(write().text(Version::Rfc8941).as_ref(), Ok(&Some(input.clone())));
+    let unsupported = Err(Error::Unsupported(Unsupported::Date));
+    for dates in ["d=@1", "d=@2, d=@1"] {
+        let dated = format!("{input}, {dates}");
+        let error = parse_version(Kind::Dictionary, dated.as_bytes(), Version::Rfc8941).err();
+        assert_eq!(error, Some(Error::Syntax { kind: ErrorKind::Rfc8941Date, index: input.len() + 4 }));
+        let field = parse(Kind::Dictionary, dated.as_bytes()).unwrap();
+        assert_eq!(field.serialize(Version::Rfc9651), Ok(Some(format!("{input}, d=@1"))));
+        assert_eq!(field.serialize(Version::Rfc8941), unsupported);
+    }
+    assert_eq!(write().key("d").item(Value::Date(1)).text(Version::Rfc8941), unsupported);
+    let repeated = format!("{input}, k0=1");
+    let field = parse_version(Kind::Dictionary, repeated.as_bytes(), Version::Rfc8941).unwrap();
+    assert_eq!(field.serialize(Version::Rfc8941), Ok(Some(format!("k0=1{}", &input["k0=\"\\\"\"".len()..]))));
+}
+
 #[test]
 fn look_ups_take_the_last_value() {
     let field = parse(Kind::Dictionary, br#"u=1, i, u=5;x;q=0.5;x="a\"b", in=(1 2;y);z=:YQ==:, d=@1, e=%"%c3%a9""#).unwrap();
@@ -102,7 +213,7 @@ fn look_ups_take_the_last_value() {
     assert_eq!((items.len(), field.members().count()), (2, 6));
     let text = r#"u=5;x="a\"b";q=0.5, i, in=(1 2;y);z=:YQ==:, d=@1, e=%"%c3%a9""#;
     assert_eq!(field.serialize(Version::Rfc9651).unwrap().as_deref(), Some(text));
-    assert_eq!(field.serialize(Version::Rfc8941), Err(Error::Unsupported));
+    assert_eq!(field.serialize(Version::Rfc8941), Err(Error::Unsupported(Unsupported::Date)));
 }
 
 /// A text that has no escape borrows from the input, and its field can move.
