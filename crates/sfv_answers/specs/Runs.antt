@@ -83,6 +83,12 @@ IsFailed request input output output' (failures.Fault fault) =
 IsFailed request input output output' failures.UnwrittenOutput = (text : List ℕ) × IsAnswerFor request input text
 IsFailed request input output output' failure = ⊥
 
+-- the failure is of a command, not of the arguments or of the seed
+abbrev pub IsOfCommand : Failure → Type 0
+IsOfCommand failures.WrongArguments = ⊥
+IsOfCommand failures.NoSeed = ⊥
+IsOfCommand failure = ⊤
+
 -- the failure of a read
 abbrev pub IsReadFailure : Failure → Type 0
 IsReadFailure failure = (failure ≡ failures.OutOfMemory) ⊎ (failure ≡ failures.UnreadableInput)

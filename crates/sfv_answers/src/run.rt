@@ -6,7 +6,7 @@ ghost use Rattle.std.specs.Io.KnownBytes.{Appends};
 ghost use Rattle.std.specs.IoError.{error_kind};
 ghost use Rattle.std.specs.declared.io.ErrorKind.TheVariants as kinds;
 ghost use Rattle.sfv_answers.specs.declared.run.Failure.TheVariants as failures;
-ghost use Rattle.sfv_answers.specs.Runs.{Names, NamesNothing, Requests, IsAnswered, IsFailed, IsUnread, IsReadFailure};
+ghost use Rattle.sfv_answers.specs.Runs.{Names, NamesNothing, Requests, IsAnswered, IsFailed, IsUnread, IsReadFailure, IsOfCommand};
 ghost use Rattle.sfv_answers.specs.Runs.{IsAnswerFor, IsFaultOf, NamesPriority, NamesNoField, NamesNoPriority};
 ghost use Rattle.sfv_answers.specs.Runs.{field_word, version_word, priority_word, seed_of_bytes, NamesFieldType};
 ghost use Rattle.sfv_answers.specs.Runs.{failure_text, failure_status, IsBuiltFor};
@@ -224,6 +224,7 @@ fn print<W: Write>(text: &str, output: &mut W) -> io::Result<()>
 fn unreadable(error: &io::Error) -> Failure
     ensures memory { error_kind error.now ≡ kinds.OutOfMemory → result ≡ failures.OutOfMemory }
     ensures other { error_kind error.now ≢ kinds.OutOfMemory → result ≡ failures.UnreadableInput }
+    ensures of_command { IsOfCommand result }
 {
     if error.kind() == ErrorKind::OutOfMemory {
         Failure::OutOfMemory
@@ -236,6 +237,7 @@ fn unreadable(error: &io::Error) -> Failure
 fn read_all<R: Read>(alloc: Global, input: &mut R) -> Result<Vec<u8>, Failure>
     ensures read { IfOk result (λ bytes. IfSome (R.remaining input.old) (λ all. bytes.items ≡ all)) }
     ensures failed { IfErr result IsReadFailure }
+    ensures of_command { IfErr result IsOfCommand }
 {
     let mut bytes = Vec::new(alloc);
     match input.read_to_end(&mut bytes) {
@@ -254,6 +256,7 @@ fn write_answer<W: Write>(
 ) -> Result<(), Failure>
     ensures done { OnOk result (IsAnswered request input.now (W.contents output.old) (W.contents output.new)) }
     ensures failed { IfErr result (IsFailed request input.now (W.contents output.old) (W.contents output.new)) }
+    ensures of_command { IfErr result IsOfCommand }
     ensures seed { OnOk result (IsBuiltFor seed request input.now) }
 {
     let text = answer_to(alloc, seed, request, input)?;
@@ -276,6 +279,7 @@ fn convert<R: Read, W: Write>(
     ensures failed { IfErr result (λ failure. IsUnread failure (W.contents output.old) (W.contents output.new)
         ⊎ IfSome (R.remaining input.old) (λ bytes.
         IsFailed request bytes (W.contents output.old) (W.contents output.new) failure)) }
+    ensures of_command { IfErr result IsOfCommand }
     ensures seed { OnOk result (IfSome (R.remaining input.old) (IsBuiltFor seed request)) }
 {
     let bytes = read_all(alloc, input)?;
