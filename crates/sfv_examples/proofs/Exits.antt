@@ -1,17 +1,18 @@
 -- The errors of calls that write several values, where a `?` returns them.
-use Rattle.std.proofs.Common.{◌≡◌, ◌≤◌, ◌+◌, ℕ, List, [], ◌∷◌, ◌++◌, length, not, ap, inl, inr, arith, Result, Ok, Err}
-use Rattle.std.proofs.Common.{string_bytes, string_capacity}
-use Rattle.std.specs.Prelude.{◌⊎◌, Some, MatchResult, IfErr, OnErr, IsErrAnd}
+use Rattle.std.proofs.Common.{◌≡◌, ◌≤◌, ℕ, Bool, true, false, List, [], ◌∷◌, ◌++◌, length, not, ap, subst, inl, inr}
+use Rattle.std.proofs.Common.{arith, append_assoc, refl, ◌∙◌, map, codes, Result, string_bytes, string_capacity}
+use Rattle.std.specs.Prelude.{◌⊎◌, Some, MatchResult, IsErrAnd}
 use Rattle.std.specs.List.{find}
 use Rattle.std.specs.declared.string.String.{String}
-use Rattle.std.proofs.lemmas.List.{length-append}
 use Rattle.std.proofs.lemmas.Result.{err_from_is_err_and}
-use Rattle.sfv.specs.Values.{BareValue, AllFit, fits_bare}
+use Rattle.sfv.specs.Values.{BareValue, AllFit, fits_bare, RawItem, RawParameters, inner_list}
+use Rattle.sfv.specs.Canonical.{item_text, parameters_text, dictionary_member_text}
 use Rattle.sfv.specs.Types.{Version, Rfc8941, Rfc9651, SerializeError}
 use Rattle.sfv.specs.Types.serialize_errors as errors
-use Rattle.sfv.specs.Versions.{NamesFirstUnfit, IsSerializeError, OnOutOfMemory}
-use Rattle.sfv.specs.Written.{LacksRoom}
-use Rattle.sfv.proofs.Callers.{names_front, names_after, all_fit_newer, len_of}
+use Rattle.sfv.specs.Versions.{NamesFirstUnfit, IsSerializeError}
+use Rattle.sfv.specs.Written.{LacksRoom, separator_before, with_separators}
+use Rattle.sfv.proofs.Callers.{names_front, names_after, all_fit_newer, len_of, room_before, room_after, no_less}
+use Rattle.sfv.proofs.Callers.{named_list_ended}
 
 -- what `ChecksEach` says of an error
 abbrev IsWriteError : Version → List BareValue → SerializeError → Type 0
@@ -52,9 +53,84 @@ pub only_memory : (version : Version) (values : List BareValue) (e : SerializeEr
 only_memory version values e fit (inl h) = h
 only_memory version values e fit (inr h) = absurd (none_unfit version values h.0 (fit_each version values fit) h.1)
 
--- no room for one more part means no room for the whole
-pub lacks_whole : {Z : Type 0} (old now : String Z) (done one whole : List ℕ)
-    → string_bytes now ≡ string_bytes old ++ done → string_capacity old ≤ string_capacity now
-    → length done + length one ≤ length whole → LacksRoom now one → LacksRoom old whole
-lacks_whole old now done one whole e c l h =
-    omega (arith, len_of old, len_of now, ap (length {A = ℕ}) e, length-append (string_bytes old) done, c, l, h)
+-- No room for a part means no room for the whole. `old` is the text before all parts, `mid` and `now` are it after some.
+module _ {Z : Type 0} (old : String Z) (front part : List ℕ) where
+  pub lacks_first : (more : List ℕ) → LacksRoom old (front ++ part) → LacksRoom old (front ++ (part ++ more))
+  lacks_first more h = subst (LacksRoom old) (append_assoc front part more) (room_before old (front ++ part) more h)
+
+  module _ (mid : String Z) (begun : string_bytes mid ≡ string_bytes old ++ (front ++ part))
+      (room : string_capacity old ≤ string_capacity mid) where
+    pub lacks_after : (rest : List ℕ) → LacksRoom mid rest → LacksRoom old (front ++ (part ++ rest))
+    lacks_after rest h =
+        subst (LacksRoom old) (append_assoc front part rest) (room_after old mid (front ++ part) rest begun room h)
+
+    pub lacks_second : (one more : List ℕ) → LacksRoom mid one → LacksRoom old (front ++ (part ++ (one ++ more)))
+    lacks_second one more h = lacks_after (one ++ more) (room_before mid one more h)
+
+    pub lacks_third : (now : String Z) (one two more : List ℕ) → string_bytes now ≡ string_bytes mid ++ one
+        → string_capacity mid ≤ string_capacity now → LacksRoom now two
+        → LacksRoom old (front ++ (part ++ (one ++ (two ++ more))))
+    lacks_third now one two more next room h =
+        lacks_after (one ++ (two ++ more)) (room_after mid now one (two ++ more) next room (room_before now two more h))
+
+-- a part without a separator
+pub unseparated : {Z : Type 0} (old : String Z) (is_first : Bool) (text : List ℕ)
+    → LacksRoom old (separator_before is_first [] ++ text) → LacksRoom old text
+unseparated old true text h = h
+unseparated old false text h = h
+
+-- the same text with the same capacity
+pub same_room : {Z : Type 0} (old now : String Z) (text : List ℕ) → string_bytes now ≡ string_bytes old
+    → string_capacity now ≡ string_capacity old → LacksRoom now text → LacksRoom old text
+same_room old now text same capacity h = omega (arith, len_of old, len_of now, ap (length {A = ℕ}) same, capacity, h)
+
+-- the text so far, and one more part
+pub after_part : {Z : Type 0} (old mid now : String Z) (so_far one : List ℕ) → string_bytes mid ≡ string_bytes old ++ so_far
+    → string_bytes now ≡ string_bytes mid ++ one → string_bytes now ≡ string_bytes old ++ (so_far ++ one)
+after_part old mid now so_far one before next =
+    next ∙ ap (λ (t : List ℕ). t ++ one) before ∙ append_assoc (string_bytes old) so_far one
+
+-- The same for a dictionary member that is an inner list, from its text call by call: the beginning, the items, the
+-- closing parenthesis and the parameters.
+module _ {Z : Type 0} (old : String Z) (front key : List ℕ) (none : Bool) (items : List RawItem)
+    (params : RawParameters) (begun : none ≡ true) where
+  abbrev opening : List ℕ
+  opening = front ++ (key ++ codes "=(")
+
+  abbrev inside : List ℕ
+  inside = with_separators none (codes " ") (map item_text items)
+
+  abbrev Lacks : Type 0
+  Lacks = LacksRoom old (front ++ dictionary_member_text (key, inner_list (record {
+    items = items;
+    parameters = params;
+  })))
+
+  whole_lacks : LacksRoom old (((opening ++ inside) ++ codes ")") ++ parameters_text params) → Lacks
+  whole_lacks h = subst (LacksRoom old)
+      (named_list_ended [] opening (opening ++ inside) ((opening ++ inside) ++ codes ")")
+      (((opening ++ inside) ++ codes ")") ++ parameters_text params) front key none items params refl refl begun refl
+      refl) h
+
+  pub opening_lacks : LacksRoom old opening → Lacks
+  opening_lacks h = whole_lacks (room_before old ((opening ++ inside) ++ codes ")") (parameters_text params)
+      (room_before old (opening ++ inside) (codes ")") (room_before old opening inside h)))
+
+  module _ (mid : String Z) (opened : string_bytes mid ≡ string_bytes old ++ opening)
+      (room : string_capacity old ≤ string_capacity mid) where
+    pub items_lack : LacksRoom mid inside → Lacks
+    items_lack h = whole_lacks (room_before old ((opening ++ inside) ++ codes ")") (parameters_text params)
+        (room_before old (opening ++ inside) (codes ")") (room_after old mid opening inside opened room h)))
+
+    module _ (now : String Z) (written : string_bytes now ≡ string_bytes mid ++ inside)
+        (more : string_capacity mid ≤ string_capacity now) where
+      pub ending_lacks : LacksRoom now (codes ")") → Lacks
+      ending_lacks h = whole_lacks (room_before old ((opening ++ inside) ++ codes ")") (parameters_text params)
+          (room_after old now (opening ++ inside) (codes ")") (after_part old mid now opening inside opened written)
+          (no_less room more) h))
+
+      pub params_lack : (last : String Z) → string_bytes last ≡ string_bytes now ++ codes ")"
+          → string_capacity now ≤ string_capacity last → LacksRoom last (parameters_text params) → Lacks
+      params_lack last closed most h = whole_lacks (room_after old last ((opening ++ inside) ++ codes ")")
+          (parameters_text params) (after_part old now last (opening ++ inside) (codes ")")
+          (after_part old mid now opening inside opened written) closed) (no_less room (no_less more most)) h)
