@@ -17,23 +17,20 @@ use Rattle.sfv.proofs.Callers.{Answers, FailsIn, HasFirst}
 use Rattle.sfv_examples.specs.Uses.{IsReturnedFor, FailsAtFirst}
 
 module _ {F T M : Type 0} (post : F → ReadBareItem → Result T OutOfMemory → Type 0) where
-  abbrev Caller : Type 0
-  Caller = ItemVisitorWith F T M
-
-  abbrev Takes : Caller → TreeEvent → Caller → Type 0
+  abbrev Takes : ItemVisitorWith F T M → TreeEvent → ItemVisitorWith F T M → Type 0
   Takes = OnRead (CallTakes post)
 
-  abbrev Fails : Caller → TreeEvent → OutOfMemory → Type 0
+  abbrev Fails : ItemVisitorWith F T M → TreeEvent → OutOfMemory → Type 0
   Fails = OnRead (CallFails post)
 
-  abbrev Finishes : Caller → Option T → Type 0
+  abbrev Finishes : ItemVisitorWith F T M → Option T → Type 0
   Finishes s out = out ≡ answer_kept s
 
-  abbrev FinishFails : Caller → OutOfMemory → Type 0
+  abbrev FinishFails : ItemVisitorWith F T M → OutOfMemory → Type 0
   FinishFails s error = ⊥
 
   -- after the call, an event changes nothing
-  idle : (s after : Caller) (read : Event) → function_waiting s ≡ None → CallTakes post s read after → after ≡ s
+  idle : (s after : ItemVisitorWith F T M) (read : Event) → function_waiting s ≡ None → CallTakes post s read after → after ≡ s
   idle s after (event.BareItem item) none h = rw none at h
   idle s after event.Entry none h = h
   idle s after (event.KeyedEntry key) none h = h
@@ -43,14 +40,14 @@ module _ {F T M : Type 0} (post : F → ReadBareItem → Result T OutOfMemory �
   idle s after event.ParametersEnd none h = h
   idle s after event.InnerListEnd none h = h
 
-  stays : (es : List TreeEvent) (s last : Caller) → function_waiting s ≡ None → FoldsTo Takes s es last → last ≡ s
+  stays : (es : List TreeEvent) (s last : ItemVisitorWith F T M) → function_waiting s ≡ None → FoldsTo Takes s es last → last ≡ s
   stays [] s last none run = sym run
   stays (e ∷ es) s last none run =
       let same : run.0 ≡ s = idle s run.0 run.1.0 none run.1.2 in
       stays es run.0 last (ap function_waiting same ∙ none) run.2 ∙ same
 
   -- and the visitor does not fail
-  never : (s : Caller) (read : Event) (error : OutOfMemory) → function_waiting s ≡ None
+  never : (s : ItemVisitorWith F T M) (read : Event) (error : OutOfMemory) → function_waiting s ≡ None
       → CallFails post s read error → ⊥
   never s (event.BareItem item) error none h = rw none at h
   never s event.Entry error none h = h
@@ -61,9 +58,9 @@ module _ {F T M : Type 0} (post : F → ReadBareItem → Result T OutOfMemory �
   never s event.ParametersEnd error none h = h
   never s event.InnerListEnd error none h = h
 
-  module _ (f : F) (from : Caller) (waits : function_waiting from ≡ Some f) where
+  module _ (f : F) (from : ItemVisitorWith F T M) (waits : function_waiting from ≡ Some f) where
     -- the bare item calls the function
-    calls : (read : Event) (raw : RawItem) (after : Caller) → event_of read ≡ bare_item raw.bare
+    calls : (read : Event) (raw : RawItem) (after : ItemVisitorWith F T M) → event_of read ≡ bare_item raw.bare
         → CallTakes post from read after
         → (item : ReadBareItem) × (input_value item ≡ raw.bare) × (out : T) × post f item (Ok out)
         × (answer_kept after ≡ Some out) × (function_waiting after ≡ None)

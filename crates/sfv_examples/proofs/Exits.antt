@@ -1,7 +1,7 @@
 -- The errors of calls that write several values, where a `?` returns them.
 use Rattle.std.proofs.Common.{◌≡◌, ◌≤◌, ℕ, Bool, true, false, List, [], ◌∷◌, ◌++◌, length, not, ap, subst, inl, inr}
 use Rattle.std.proofs.Common.{arith, append_assoc, refl, ◌∙◌, map, codes, Result, string_bytes, string_capacity}
-use Rattle.std.specs.Prelude.{◌⊎◌, Some, MatchResult, IsErrAnd}
+use Rattle.std.specs.Prelude.{◌⊎◌, Some, Ok, Err, IsTrue, MatchResult, IsErrAnd}
 use Rattle.std.specs.List.{find}
 use Rattle.std.specs.declared.string.String.{String}
 use Rattle.std.proofs.lemmas.Result.{err_from_is_err_and}
@@ -9,14 +9,20 @@ use Rattle.sfv.specs.Values.{BareValue, AllFit, fits_bare, RawItem, RawParameter
 use Rattle.sfv.specs.Canonical.{item_text, parameters_text, dictionary_member_text}
 use Rattle.sfv.specs.Types.{Version, Rfc8941, Rfc9651, SerializeError}
 use Rattle.sfv.specs.Types.serialize_errors as errors
-use Rattle.sfv.specs.Versions.{NamesFirstUnfit, IsSerializeError}
+use Rattle.sfv.specs.Versions.{NamesFirstUnfit, IsSerializeError, ChecksVersionFirst, OnOutOfMemory}
 use Rattle.sfv.specs.Written.{LacksRoom, separator_before, with_separators}
 use Rattle.sfv.proofs.Callers.{names_front, names_after, all_fit_newer, len_of, room_before, room_after, no_less}
 use Rattle.sfv.proofs.Callers.{named_list_ended}
 
 -- what `ChecksEach` says of an error
-abbrev IsWriteError : Version → List BareValue → SerializeError → Type 0
+abbrev pub IsWriteError : Version → List BareValue → SerializeError → Type 0
 IsWriteError version values e = (e ≡ errors.OutOfMemory) ⊎ NamesFirstUnfit version values e
+
+-- an error for more values
+pub more_values : (version : Version) (front rest : List BareValue) (e : SerializeError) → IsWriteError version front e
+    → IsWriteError version (front ++ rest) e
+more_values version front rest e (inl h) = inl h
+more_values version front rest e (inr h) = inr (names_front version front rest e h)
 
 module _ {T : Type 0} (e : SerializeError) (r : Result T SerializeError) (exit : IsErrAnd r (λ y. y ≡ e)) where
   pub at_exit : (P : T → Type 0) (Q : SerializeError → Type 0) → Q e → MatchResult r P Q
@@ -25,9 +31,8 @@ module _ {T : Type 0} (e : SerializeError) (r : Result T SerializeError) (exit :
   -- the error of the first call, for more values
   pub first_error : (version : Version) (front rest : List BareValue) (P : T → Type 0) → IsWriteError version front e
       → MatchResult r P (IsWriteError version (front ++ rest))
-  first_error version front rest P (inl h) = at_exit P (IsWriteError version (front ++ rest)) (inl h)
-  first_error version front rest P (inr h) =
-      at_exit P (IsWriteError version (front ++ rest)) (inr (names_front version front rest e h))
+  first_error version front rest P h =
+      at_exit P (IsWriteError version (front ++ rest)) (more_values version front rest e h)
 
   -- the error of a later call, after values that fit
   pub next_error : (version : Version) (front : List BareValue) (b : BareValue) (rest : List BareValue) (P : T → Type 0)
@@ -36,6 +41,19 @@ module _ {T : Type 0} (e : SerializeError) (r : Result T SerializeError) (exit :
   next_error version front b rest P fit (inl h) = at_exit P (IsWriteError version (front ++ b ∷ rest)) (inl h.0)
   next_error version front b rest P fit (inr h) = at_exit P (IsWriteError version (front ++ b ∷ rest))
       (inr (names_after version front (b ∷ rest) e fit (names_front version (b ∷ []) rest e h)))
+
+-- a call that checks one value before it allocates
+pub checks_one : {T : Type 0} (version : Version) (b : BareValue) (r : Result T SerializeError)
+    → ChecksVersionFirst version (b ∷ []) r
+    → MatchResult r (λ _. AllFit version (b ∷ [])) (IsWriteError version (b ∷ []))
+checks_one version b (Ok x) h = h
+checks_one version b (Err e) (inl h) = inl h.0
+checks_one version b (Err e) (inr h) = inr h
+
+-- what holds of an error of another type
+pub of_memory : {T : Type 0} (r : Result T SerializeError) (L : Type 0) → L → OnOutOfMemory r L
+of_memory (Ok x) L h = tt
+of_memory (Err e) L h = λ memory. h
 
 -- each version has the values that the older one has
 fit_each : (version : Version) (values : List BareValue) → AllFit Rfc8941 values → AllFit version values
@@ -52,6 +70,11 @@ pub only_memory : (version : Version) (values : List BareValue) (e : SerializeEr
     → IsWriteError version values e → e ≡ errors.OutOfMemory
 only_memory version values e fit (inl h) = h
 only_memory version values e fit (inr h) = absurd (none_unfit version values h.0 (fit_each version values fit) h.1)
+
+pub one_memory : (version : Version) (b : BareValue) (e : SerializeError) → IsTrue (fits_bare Rfc8941 b)
+    → IsSerializeError version (b ∷ []) e → e ≡ errors.OutOfMemory
+one_memory version b e fit (inl h) = h.0
+one_memory version b e fit (inr h) = only_memory version (b ∷ []) e (fit, tt) (inr h)
 
 -- No room for a part means no room for the whole. `old` is the text before all parts, `mid` and `now` are it after some.
 module _ {Z : Type 0} (old : String Z) (front part : List ℕ) where

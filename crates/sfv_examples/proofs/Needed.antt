@@ -8,6 +8,7 @@ use Rattle.sfv.specs.Ascii.{byte}
 use Rattle.sfv.specs.Values.{RawMember, HasMember}
 use Rattle.sfv.specs.Types.{dictionary_field, Rfc9651, Error}
 use Rattle.sfv.specs.Grammar.{Spaces}
+use Rattle.sfv.specs.Ordered as order
 use Rattle.sfv.specs.Ordered.{ordered}
 use Rattle.sfv.specs.Statements.{IsParsedAs}
 use Rattle.sfv.specs.Memory.{may_need_memory, NeedsMemory}
@@ -29,6 +30,7 @@ spaces_or_not (c ∷ t) = elim (cases_Bool (c == byte " ")) [
 -- a text of spaces is the empty dictionary
 pub member_needs : (t : List ℕ) (value : List (List ℕ × RawMember)) → IsParsedAs Rfc9651 dictionary_field t value
     → HasMember dictionary_field value → HasByte t
+unfolding order.collapse
 member_needs t value h some = elim (spaces_or_not t) [
   | inl blank ↦
       let none : value ≡ [] = h.holds ∙ ap (ordered dictionary_field) (sym (h.only [] blank)) in
