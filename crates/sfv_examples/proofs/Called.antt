@@ -30,8 +30,10 @@ module _ {F T M : Type 0} (post : F → ReadBareItem → Result T OutOfMemory �
   FinishFails s error = ⊥
 
   -- after the call, an event changes nothing
-  idle : (s after : ItemVisitorWith F T M) (read : Event) → function_waiting s ≡ None → CallTakes post s read after → after ≡ s
-  idle s after (event.BareItem item) none h = rw none at h
+  idle : (s after : ItemVisitorWith F T M) (read : Event) → function_waiting s ≡ None → CallTakes post s read after
+      → after ≡ s
+  idle s after (event.BareItem item) none h = subst (λ (o : Option F). MatchOption o (after ≡ s) (λ f. (out : T)
+      × post f item (Ok out) × (answer_kept after ≡ Some out) × (function_waiting after ≡ None))) none h
   idle s after event.Entry none h = h
   idle s after (event.KeyedEntry key) none h = h
   idle s after event.Item none h = h
@@ -40,7 +42,8 @@ module _ {F T M : Type 0} (post : F → ReadBareItem → Result T OutOfMemory �
   idle s after event.ParametersEnd none h = h
   idle s after event.InnerListEnd none h = h
 
-  stays : (es : List TreeEvent) (s last : ItemVisitorWith F T M) → function_waiting s ≡ None → FoldsTo Takes s es last → last ≡ s
+  stays : (es : List TreeEvent) (s last : ItemVisitorWith F T M) → function_waiting s ≡ None → FoldsTo Takes s es last
+      → last ≡ s
   stays [] s last none run = sym run
   stays (e ∷ es) s last none run =
       let same : run.0 ≡ s = idle s run.0 run.1.0 none run.1.2 in
@@ -64,7 +67,10 @@ module _ {F T M : Type 0} (post : F → ReadBareItem → Result T OutOfMemory �
         → CallTakes post from read after
         → (item : ReadBareItem) × (input_value item ≡ raw.bare) × (out : T) × post f item (Ok out)
         × (answer_kept after ≡ Some out) × (function_waiting after ≡ None)
-    calls (event.BareItem item) raw after is h = (item, (cc), rw waits at h)
+    calls (event.BareItem item) raw after is h =
+        let k : (out : T) × post f item (Ok out) × (answer_kept after ≡ Some out) × (function_waiting after ≡ None) =
+        rw waits at h in
+        (item, (cc), k.0, k.1, k.2, k.3)
     calls event.Entry raw after is h = absurd (cc)
     calls (event.KeyedEntry key) raw after is h = absurd (cc)
     calls event.Item raw after is h = absurd (cc)

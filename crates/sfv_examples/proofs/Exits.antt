@@ -76,7 +76,8 @@ pub one_memory : (version : Version) (b : BareValue) (e : SerializeError) → Is
 one_memory version b e fit (inl h) = h.0
 one_memory version b e fit (inr h) = only_memory version (b ∷ []) e (fit, tt) (inr h)
 
--- No room for a part means no room for the whole. `old` is the text before all parts, `mid` and `now` are it after some.
+-- No room for a part means no room for the whole. `old` is the text before all parts, and `mid` and `now` are after
+-- some.
 module _ {Z : Type 0} (old : String Z) (front part : List ℕ) where
   pub lacks_first : (more : List ℕ) → LacksRoom old (front ++ part) → LacksRoom old (front ++ (part ++ more))
   lacks_first more h = subst (LacksRoom old) (append_assoc front part more) (room_before old (front ++ part) more h)
@@ -102,14 +103,10 @@ pub unseparated : {Z : Type 0} (old : String Z) (is_first : Bool) (text : List �
 unseparated old true text h = h
 unseparated old false text h = h
 
--- the same text with the same capacity
-pub same_room : {Z : Type 0} (old now : String Z) (text : List ℕ) → string_bytes now ≡ string_bytes old
-    → string_capacity now ≡ string_capacity old → LacksRoom now text → LacksRoom old text
-same_room old now text same capacity h = omega (arith, len_of old, len_of now, ap (length {A = ℕ}) same, capacity, h)
-
 -- the text so far, and one more part
-pub after_part : {Z : Type 0} (old mid now : String Z) (so_far one : List ℕ) → string_bytes mid ≡ string_bytes old ++ so_far
-    → string_bytes now ≡ string_bytes mid ++ one → string_bytes now ≡ string_bytes old ++ (so_far ++ one)
+pub after_part : {Z : Type 0} (old mid now : String Z) (so_far one : List ℕ)
+    → string_bytes mid ≡ string_bytes old ++ so_far → string_bytes now ≡ string_bytes mid ++ one
+    → string_bytes now ≡ string_bytes old ++ (so_far ++ one)
 after_part old mid now so_far one before next =
     next ∙ ap (λ (t : List ℕ). t ++ one) before ∙ append_assoc (string_bytes old) so_far one
 

@@ -22,13 +22,13 @@ returns-clause-read g c = IfOk-weaker c.parse_item_with_visitor.result _ _ (λ o
 
 pub returns-clause-called : goal.returns-clause-called
 returns-clause-called g c = IfOk-weaker c.parse_item_with_visitor.result _ _
-    (λ out h. called g.F.FnOnce.post c.args.f c.with_memory_errors-visitor.result
+    (λ out h. called {T = g.row.T.Denot} (goal.F-post g) c.args.f c.with_memory_errors-visitor.result
     (c.with_memory_errors-visitor.ensures.waiting ∙ c.item_visitor_with.ensures.waiting) c.args.input.now out h)
     (rw c.new.ensures at c.parse_item_with_visitor.ensures.visited)
 
 pub returns-clause-failed : goal.returns-clause-failed
 returns-clause-failed g c = read_failed _ _ _ item_field c.args.input.now (λ e h. h.0)
-    (λ error h. failed_first g.F.FnOnce.post c.args.f c.with_memory_errors-visitor.result
+    (λ error h. failed_first {T = g.row.T.Denot} (goal.F-post g) c.args.f c.with_memory_errors-visitor.result
     (c.with_memory_errors-visitor.ensures.waiting ∙ c.item_visitor_with.ensures.waiting) c.args.input.now error h)
     c.parse_item_with_visitor.result (rw c.new.ensures at c.parse_item_with_visitor.ensures.syntax)
     (rw c.new.ensures at c.parse_item_with_visitor.ensures.first)
