@@ -1,10 +1,10 @@
 -- What a visitor that calls a function once says of an item.
-use Rattle.std.proofs.Common.{◌≡◌, ℕ, List, [], ◌∷◌, ◌++◌, Option, Some, None, Result, Ok, Err, refl, sym, ap, ◌∙◌, inl}
+use Rattle.std.proofs.Common.{◌≡◌, ℕ, List, [], ◌∷◌, ◌++◌, Option, Some, None, Result, Ok, Err, sym, ap, ◌∙◌, inl}
 use Rattle.std.proofs.Common.{inr, subst}
-use Rattle.std.specs.Prelude.{⊤, IfOk, MatchOption}
+use Rattle.std.specs.Prelude.{⊤, MatchOption}
 use Rattle.std.specs.List.{FoldsTo}
 use Rattle.sfv.specs.Values.{RawItem}
-use Rattle.sfv.specs.Types.{Rfc9651, item_field, OutOfMemory, ItemVisitorWith, ParseError}
+use Rattle.sfv.specs.Types.{Rfc9651, item_field, OutOfMemory, ItemVisitorWith}
 use Rattle.sfv.specs.Types.parse_errors.{Visitor}
 use Rattle.sfv.specs.Grammar.{BeginsWithLongest}
 use Rattle.sfv.specs.Events.{TreeEvent, bare_item, parameters_events, item_events}

@@ -1,6 +1,6 @@
 -- The errors of calls that write several values, where a `?` returns them.
-use Rattle.std.proofs.Common.{◌≡◌, ◌≤◌, ℕ, Bool, true, false, List, [], ◌∷◌, ◌++◌, length, not, ap, subst, inl, inr}
-use Rattle.std.proofs.Common.{arith, append_assoc, refl, ◌∙◌, map, codes, Result, string_bytes, string_capacity}
+use Rattle.std.proofs.Common.{◌≡◌, ◌≤◌, ℕ, Bool, true, false, List, [], ◌∷◌, ◌++◌, not, ap, subst, inl, inr}
+use Rattle.std.proofs.Common.{append_assoc, refl, ◌∙◌, map, codes, Result, string_bytes, string_capacity}
 use Rattle.std.specs.Prelude.{◌⊎◌, Some, Ok, Err, IsTrue, MatchResult, IsErrAnd}
 use Rattle.std.specs.List.{find}
 use Rattle.std.specs.declared.string.String.{String}
@@ -11,7 +11,7 @@ use Rattle.sfv.specs.Types.{Version, Rfc8941, Rfc9651, SerializeError}
 use Rattle.sfv.specs.Types.serialize_errors as errors
 use Rattle.sfv.specs.Versions.{NamesFirstUnfit, IsSerializeError, ChecksVersionFirst, OnOutOfMemory}
 use Rattle.sfv.specs.Written.{LacksRoom, separator_before, with_separators}
-use Rattle.sfv.proofs.Callers.{names_front, names_after, all_fit_newer, len_of, room_before, room_after, no_less}
+use Rattle.sfv.proofs.Callers.{names_front, names_after, all_fit_newer, room_before, room_after, no_less}
 use Rattle.sfv.proofs.Callers.{named_list_ended}
 
 -- what `ChecksEach` says of an error
@@ -121,10 +121,13 @@ module _ {Z : Type 0} (old : String Z) (front key : List ℕ) (none : Bool) (ite
   inside = with_separators none (codes " ") (map item_text items)
 
   abbrev Lacks : Type 0
-  Lacks = LacksRoom old (front ++ dictionary_member_text (key, inner_list (record {
-    items = items;
-    parameters = params;
-  })))
+  Lacks = LacksRoom old (front ++ dictionary_member_text (
+    key,
+    inner_list (record {
+      items = items;
+      parameters = params;
+    }),
+  ))
 
   whole_lacks : LacksRoom old (((opening ++ inside) ++ codes ")") ++ parameters_text params) → Lacks
   whole_lacks h = subst (LacksRoom old)

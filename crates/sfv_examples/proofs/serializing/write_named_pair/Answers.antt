@@ -2,7 +2,6 @@ use Rattle.std.proofs.Common.{◌≡◌, [], ◌∷◌, ◌++◌, ◌∙◌, Lis
 use Rattle.std.proofs.lemmas.List.{append-nil}
 use Rattle.sfv.specs.BareItems.{ref_value}
 use Rattle.sfv.specs.CheckedTexts.{text_of as key_text}
-use Rattle.sfv.specs.Values.{RawItem, RawParameters}
 use Rattle.sfv.specs.Types.{Version}
 use Rattle.sfv.specs.Types.serialize_errors as errors
 use Rattle.sfv.specs.Written.{LacksRoom, separator_before, param_text}

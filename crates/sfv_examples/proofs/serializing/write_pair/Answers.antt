@@ -1,9 +1,8 @@
-use Rattle.std.proofs.Common.{◌≡◌, ◌++◌, ◌∷◌, [], List, ℕ, Bool, codes, subst}
+use Rattle.std.proofs.Common.{◌++◌, ◌∷◌, [], List, ℕ, Bool, codes, subst}
 use Rattle.std.proofs.lemmas.Result.{MatchResult-weaker}
 use Rattle.sfv.specs.BareItems.{ref_value}
 use Rattle.sfv.specs.CheckedTexts.{text_of}
 use Rattle.sfv.specs.Canonical.{bare_text, item_text}
-use Rattle.sfv.specs.Types.serialize_errors as errors
 use Rattle.sfv.specs.Written.{LacksRoom, separator_before}
 use Rattle.sfv.specs.Serializers.{is_empty_so_far, sequence_version, sequence_sink}
 use Rattle.sfv_examples.specs.Uses.{item_of_one}
