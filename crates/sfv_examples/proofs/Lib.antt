@@ -3,3 +3,6 @@ pub mod Uses
 mod RowItems
 mod Pairs
 mod Foos
+mod Called
+mod Needed
+mod Exits

@@ -1,6 +1,7 @@
 -- The results of the examples.
 use Rattle.std.specs.Prelude.{◌≡◌, ◌⊎◌, ℕ, ℤ, ◌+◌, ◌<◌, ◌≤◌, List, [], ◌∷◌, ◌++◌, length, Option, Some, None, codes}
-use Rattle.std.specs.Prelude.{false, Result, MatchResult, IsTrue, ◌↔◌, ◌==◌, not, option_map, string_bytes}
+use Rattle.std.specs.Prelude.{⊤, map, false, Result, Ok, Err, MatchResult, IsTrue, ◌↔◌, ◌==◌, not, option_map}
+use Rattle.std.specs.Prelude.{string_bytes}
 use Rattle.std.specs.Borrow.{Bor}
 use Rattle.std.specs.declared.alloc.Global.{Global}
 use Rattle.std.specs.declared.string.String.{String}
@@ -8,9 +9,11 @@ use Rattle.std.specs.List.{repeat}
 use Rattle.sfv.specs.Ascii.{byte}
 use Rattle.sfv.specs.Texts.{RunOf}
 use Rattle.sfv.specs.Values.{BareValue, integer, string, token, RawField, HasMember, RawParameters, RawItem, RawMember}
-use Rattle.sfv.specs.Values.{item, inner_list}
+use Rattle.sfv.specs.Values.{item, inner_list, IsInRange, AllFit}
 use Rattle.sfv.specs.Types.{FieldKind, item_field, list_field, dictionary_field, Rfc9651, Sink, ParseError, OutOfMemory}
-use Rattle.sfv.specs.Types.{ErrorKind, ItemFault}
+use Rattle.sfv.specs.Types.{Error, ErrorKind, ItemFault, Version, SerializeError}
+use Rattle.sfv.specs.Types.error_kinds.{OutOfRange}
+use Rattle.sfv.specs.Types.serialize_errors as errors
 use Rattle.sfv.specs.Grammar.{IsFieldText, IsAccepted, BeginsWithLongest, BeginsWithComplete}
 use Rattle.sfv.specs.Ordered.{ordered, last_of}
 use Rattle.sfv.specs.Statements.{IsParsedAs, IsSerializedAs}
@@ -19,7 +22,7 @@ use Rattle.sfv.specs.CheckedTexts.{text_of}
 use Rattle.sfv.specs.TokenText.{TokenRef}
 use Rattle.sfv.specs.StringText.{StringRef}
 use Rattle.sfv.specs.Canonical.{item_text, inner_list_text, dictionary_member_text}
-use Rattle.sfv.specs.Serializers.{Parts, HasAppendedNext}
+use Rattle.sfv.specs.Serializers.{Parts, HasAppendedNext, LacksNext}
 use Rattle.sfv.specs.BareItems.{bare_value, ref_value, input_value, read_text, is_borrowed_string}
 use Rattle.sfv.specs.Trees.{OwnedBareItem}
 use Rattle.sfv.specs.Events.{TreeEvent, keyed_entry}
@@ -27,9 +30,11 @@ use Rattle.sfv.specs.Types.parse_errors.{Syntax, Visitor}
 use Rattle.sfv.specs.Parsers.{IsParseError}
 use Rattle.sfv_examples.specs.declared.visiting.TooMany.{TooMany}
 use Rattle.sfv.specs.Faults.{IsFaultAt}
-use Rattle.sfv.specs.Errors.{out_of_memory}
+use Rattle.sfv.specs.Errors.{out_of_memory, error_of}
+use Rattle.sfv.specs.Versions.{NamesFirstUnfit, OnOutOfMemory}
 use Rattle.sfv.specs.ProvidedVisitors.{ReadBareItem, IsWrongType}
 use Rattle.sfv.specs.Types.bare_item_types as kinds
+use Rattle.sfv.specs.Types.bare_items as bare_items
 use Rattle.sfv.specs.Types.{GenericBareItem, StringFromInput}
 use Rattle.sfv.specs.Messages.{message_of}
 
@@ -97,6 +102,10 @@ IsCountError t limit (Visitor fault) = (raw : List (List ℕ × RawMember)) → 
 abbrev pub item_of_one : BareValue → List ℕ → BareValue → RawItem
 item_of_one value key param = record { bare = value; parameters = (key, param) ∷ [] }
 
+-- two items, the first with a parameter
+abbrev pub pair_of : BareValue → List ℕ → BareValue → BareValue → List RawItem
+pair_of first key param second = item_of_one first key param ∷ record { bare = second; parameters = [] } ∷ []
+
 -- `RefBareItem`; antt has no name for an alias
 abbrev pub LentBareItem : Type 0
 LentBareItem = GenericBareItem StringRef (Bor (List ℕ)) TokenRef (Bor (List ℕ))
@@ -121,6 +130,18 @@ empty_text key param = inner_list_text (record { items = []; parameters = (text_
 abbrev pub named_text : KeyRef → LentBareItem → KeyRef → LentBareItem → List ℕ
 named_text name value key param = dictionary_member_text (text_of name, item (one_item value key param))
 
+-- The text of a dictionary member that is an inner list of two items. The first item has the parameter `param`, and
+-- the inner list has the parameter `ending`.
+abbrev pub named_pair_text : KeyRef → LentBareItem → KeyRef × LentBareItem → LentBareItem → KeyRef × LentBareItem
+    → List ℕ
+named_pair_text name first param second ending = dictionary_member_text (
+  text_of name,
+  inner_list (record {
+    items = pair_of (ref_value first) (text_of param.0) (ref_value param.1) (ref_value second);
+    parameters = (text_of ending.0, ref_value ending.1) ∷ [];
+  }),
+)
+
 -- the text of the example dictionary
 abbrev pub example_dictionary : List ℕ
 example_dictionary = codes "member1=11;foo, member2=(abc;abc_param=?0 def);bar=\"val\", member3=12.346"
@@ -137,10 +158,6 @@ AddsAtMost old new more = (string_bytes new ≡ string_bytes old) ⊎ Adds old n
 abbrev pub IsReadAsItself : RawItem → Type 0
 IsReadAsItself raw = IsParsedAs Rfc9651 item_field (item_text raw) raw
 
--- two items, the first with a parameter
-abbrev pub pair_of : BareValue → List ℕ → BareValue → BareValue → List RawItem
-pair_of first key param second = item_of_one first key param ∷ record { bare = second; parameters = [] } ∷ []
-
 -- an item with two parameters of one key
 abbrev pub item_of_two : BareValue → List ℕ → BareValue → BareValue → RawItem
 item_of_two value key first second = record { bare = value; parameters = (key, first) ∷ (key, second) ∷ [] }
@@ -149,6 +166,20 @@ item_of_two value key first second = record { bare = value; parameters = (key, f
 abbrev pub pair_text : LentBareItem → KeyRef → LentBareItem → LentBareItem → List ℕ
 pair_text value key first second =
     item_text (item_of_two (ref_value value) (text_of key) (ref_value first) (ref_value second))
+
+-- On success, the version has all these values. Otherwise, memory ran out, or the error has the kind of the first value
+-- that the version lacks.
+abbrev pub ChecksEach : {T : Type 0} → Version → List LentBareItem → Result T SerializeError → Type 0
+ChecksEach version items result = MatchResult result (λ _. AllFit version (map ref_value items))
+    (λ error. (error ≡ errors.OutOfMemory) ⊎ NamesFirstUnfit version (map ref_value items) error)
+
+-- if memory runs out, the capacity of a list or a dictionary doesn't hold this text as its next member
+abbrev pub MemberLacksRoom : {W K T : Type 0} → Sink W → Parts W K → List ℕ → Result T SerializeError → Type 0
+MemberLacksRoom w s text result = OnOutOfMemory result (LacksNext w (codes ", ") s text)
+
+-- if memory runs out, the capacity of an inner list doesn't hold this text as its next item
+abbrev pub ItemLacksRoom : {W K T : Type 0} → Sink W → Parts W K → List ℕ → Result T SerializeError → Type 0
+ItemLacksRoom w s text result = OnOutOfMemory result (LacksNext w (codes " ") s text)
 
 -- the text is an item with this bare item and any parameters
 abbrev pub HasBareItem : List ℕ → BareValue → Type 0
@@ -159,8 +190,8 @@ abbrev pub IsReadError : {E : Type 0} → (E → Type 0) → FieldKind → List 
 IsReadError holds kind t (Syntax e) = IsParseError Rfc9651 kind t e
 IsReadError holds kind t (Visitor fault) = holds fault
 
--- a bare item comes first in the text, and the type rejects it with this error
-abbrev pub FailsAtFirst : (ReadBareItem → ItemFault → Type 0) → List ℕ → ItemFault → Type 0
+-- a bare item comes first in the text, and fails with this error
+abbrev pub FailsAtFirst : {E : Type 0} → (ReadBareItem → E → Type 0) → List ℕ → E → Type 0
 FailsAtFirst fails t fault =
     (read : ReadBareItem) × BeginsWithLongest Rfc9651 (input_value read) t × fails read fault
 
@@ -200,6 +231,32 @@ RefusesOther value result =
 abbrev pub IsLentString : StringFromInput → List ℕ → Type 0
 IsLentString text t = (stands : BeginsWithLongest Rfc9651 (string (read_text text)) t)
     × (IsTrue (is_borrowed_string text) ↔ RunOf (λ c. not (c == byte "\\")) stands.first.front)
+
+-- a syntax error is the error of `parse`; otherwise a bare item of another kind comes first in the text
+abbrev pub IsStringError : List ℕ → ParseError ItemFault → Type 0
+IsStringError t = IsReadError (FailsAtFirst (λ read. IsWrongType kinds.String (input_value read)) t) item_field t
+
+-- the text is an item, and the function `f` returned this value for its bare item
+abbrev pub IsReturnedFor : {F T : Type 0} → (F → ReadBareItem → Result T OutOfMemory → Type 0) → F → List ℕ → Option T
+    → Type 0
+IsReturnedFor {T = T} post f t out = (read : ReadBareItem) × HasBareItem t (input_value read) × (value : T)
+    × post f read (Ok value) × (out ≡ Some value)
+
+-- a syntax error is the error of `parse`; otherwise a bare item comes first in the text, and `f` failed for it
+abbrev pub IsCallError : {F T : Type 0} → (F → ReadBareItem → Result T OutOfMemory → Type 0) → F → List ℕ
+    → ParseError OutOfMemory → Type 0
+IsCallError post f t = IsReadError (FailsAtFirst (λ read error. post f read (Err error)) t) item_field t
+
+-- the number has more than fifteen digits, and the error is that it is out of range
+abbrev pub IsOutOfRange : ℤ → Error → Type 0
+IsOutOfRange z error = (error ≡ error_of OutOfRange None) × ¬ IsInRange z
+
+-- a clone of the item may need memory: it is a byte sequence, a display string, or a string that is not borrowed
+abbrev pub MayNeedMemory : ReadBareItem → Type 0
+MayNeedMemory (bare_items.String text) = is_borrowed_string text ≡ false
+MayNeedMemory (bare_items.ByteSequence bytes) = ⊤
+MayNeedMemory (bare_items.DisplayString text) = ⊤
+MayNeedMemory read = ⊥
 
 -- the text parses to an item: its integer, or the default for another kind
 abbrev pub HasIntegerOr : ℤ → List ℕ → ℤ → Type 0

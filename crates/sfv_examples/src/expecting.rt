@@ -10,7 +10,7 @@ ghost use Rattle.sfv.specs.HashSeeds.{library_seed};
 ghost use Rattle.sfv.specs.Seeds.{ItemHasSeed, ListHasSeed, DictionaryHasSeed};
 ghost use Rattle.sfv.specs.Types.item_faults as item_faults;
 ghost use Rattle.sfv_examples.specs.Uses.{ExpectsItem, RejectsOther, HasBareItem, FailsAtFirst, IsReadError};
-ghost use Rattle.sfv_examples.specs.Uses.{IsExpectError, GivesToken, RefusesOther, IsLentString};
+ghost use Rattle.sfv_examples.specs.Uses.{IsExpectError, GivesToken, RefusesOther, IsLentString, IsStringError};
 
 use sfv::visitor::{ExpectedItem, ItemFault};
 use sfv::{Dictionary, Item, List, OutOfMemory, ParseError, Parser, StringFromInput, TokenRef};
@@ -58,7 +58,8 @@ pub fn string<'de>(
     alloc: Global,
     input: &'de [u8],
 ) -> Result<StringFromInput<'de>, ParseError<ItemFault>>
-    ensures { IfOk result (λ text. IsLentString text input.now) }
+    ensures read { IfOk result (λ text. IsLentString text input.now) }
+    ensures rejected { IfErr result (IsStringError input.now) }
 {
     Parser::new(input).parse_item::<StringFromInput>(alloc)
 }

@@ -1,15 +1,16 @@
 //! Values: the ends of their ranges, their conversions, their clones, and their comparisons.
 
-ghost use Rattle.std.specs.Prelude.{◌≡◌, ◌↔◌, [], false, pos, neg_ℤ, IfOk, IfErr, IsTrue};
+ghost use Rattle.std.specs.Prelude.{◌≡◌, ◌↔◌, [], true, false, pos, neg_ℤ, IfOk, IfErr, IsTrue};
 ghost use Rattle.std.specs.Cmp.Lexicographic.{slice_cmp};
 ghost use Rattle.std.specs.Ordering.{nat_cmp, int_cmp};
 ghost use Rattle.sfv.specs.NumberValues.{integer_of, thousandths_of, seconds_of};
-ghost use Rattle.sfv.specs.BareItems.{bare_value, ref_value, input_value, read_text, is_borrowed_string};
+ghost use Rattle.sfv.specs.BareItems.{bare_value, ref_value, input_value, read_text, holds_bytes, is_borrowed_string};
 ghost use Rattle.sfv.specs.CheckedTexts.{text_of};
 ghost use Rattle.sfv.specs.Maps.{hasher_of};
 ghost use Rattle.sfv.specs.Trees.{item_tree, NeedsNoMemory};
 ghost use Rattle.sfv.specs.Values as values;
 ghost use Rattle.sfv.specs.Values.{integer};
+ghost use Rattle.sfv_examples.specs.Uses.{IsOutOfRange, MayNeedMemory};
 
 use sfv::{
     BareItem, BareItemFromInput, Date, Decimal, Error, Integer, Item, KeyRef, RefBareItem,
@@ -63,9 +64,10 @@ pub fn item_of_byte(v: u8) -> RefBareItem<'static>
 ///
 /// # Errors
 ///
-/// Returns an error if the number is out of range.
+/// Returns the kind `OutOfRange`, without index, if the number has more than fifteen digits. There is no other error.
 pub fn item_of_number(v: i64) -> Result<RefBareItem<'static>, Error>
-    ensures { IfOk result (λ item. ref_value item ≡ integer v) }
+    ensures value { IfOk result (λ item. ref_value item ≡ integer v) }
+    ensures out_of_range { IfErr result (IsOutOfRange v) }
 {
     RefBareItem::try_from(v)
 }
@@ -74,22 +76,25 @@ pub fn item_of_number(v: i64) -> Result<RefBareItem<'static>, Error>
 ///
 /// # Errors
 ///
-/// Returns `AllocError` if memory runs out.
-pub fn copy_of(item: &BareItem) -> Result<BareItem, AllocError>
-    ensures { IfOk result (λ copy. bare_value copy ≡ bare_value item.now) }
+/// Returns `AllocError` if memory runs out. The clone of a number, a date or a boolean requests none.
+pub fn copy_of(value: &BareItem) -> Result<BareItem, AllocError>
+    ensures value { IfOk result (λ copy. bare_value copy ≡ bare_value value.now) }
+    ensures out_of_memory { IfErr result (λ _. holds_bytes (bare_value value.now) ≡ true) }
 {
-    item.clone()
+    value.clone()
 }
 
 /// A clone of a parsed bare item has the same value.
 ///
 /// # Errors
 ///
-/// Returns `AllocError` if memory runs out.
-pub fn copy_of_read<'a>(item: &BareItemFromInput<'a>) -> Result<BareItemFromInput<'a>, AllocError>
-    ensures { IfOk result (λ copy. input_value copy ≡ input_value item.now) }
+/// Returns `AllocError` if memory runs out. The clone of a number, a date, a boolean, a token or a borrowed string
+/// requests none.
+pub fn copy_of_read<'a>(read: &BareItemFromInput<'a>) -> Result<BareItemFromInput<'a>, AllocError>
+    ensures value { IfOk result (λ copy. input_value copy ≡ input_value read.now) }
+    ensures out_of_memory { IfErr result (λ _. MayNeedMemory read.now) }
 {
-    item.clone()
+    read.clone()
 }
 
 /// A clone of a parsed string is borrowed if the string is.

@@ -4,7 +4,7 @@ ghost use Rattle.std.specs.Prelude.{◌≡◌, ⊤, ◌≤◌, IsSome, IfOk, IfE
 ghost use Rattle.sfv.specs.Types.{item_field, dictionary_field, Rfc9651};
 ghost use Rattle.sfv.specs.Grammar.{IsAccepted};
 ghost use Rattle.sfv.specs.EventRuns.{key_in};
-ghost use Rattle.sfv_examples.specs.Uses.{counts, HasMembers, IsCountError, IsMemoryError};
+ghost use Rattle.sfv_examples.specs.Uses.{counts, HasMembers, IsCountError, IsMemoryError, IsReturnedFor, IsCallError};
 
 use sfv::visitor::{Event, MemoryErrors, Visitor, item_visitor_with};
 use sfv::{BareItemFromInput, OutOfMemory, ParseError, Parser};
@@ -69,11 +69,13 @@ impl MemoryErrors<OutOfMemory> for OnlyMemory {
     ghost is_memory = { λ _. ⊤ };
 }
 
-/// Calls a function with the bare item of an item. The function fails only if memory runs out.
+/// Calls a function with the bare item of an item, and returns its result, which is `Some`. The function fails only if
+/// memory runs out.
 ///
 /// # Errors
 ///
-/// Returns the errors of `Parser::parse_item_with_visitor`. For an item, the only error is out of memory.
+/// If a bare item comes first and the function fails for it, returns the function's error. Otherwise, returns the error
+/// of `Parser::parse`. For an item, the only error is out of memory.
 pub fn with_bare_item<
     'de,
     T: Drop,
@@ -81,6 +83,8 @@ pub fn with_bare_item<
 >(alloc: Global, input: &'de [u8], f: F) -> Result<Option<T>, ParseError<OutOfMemory>>
     requires { F.IsAlwaysCallable f }
     ensures read { OnOk result (IsAccepted Rfc9651 item_field input.now) }
+    ensures called { IfOk result (IsReturnedFor F.post f input.now) }
+    ensures failed { IfErr result (IsCallError F.post f input.now) }
     ensures accepted { IsAccepted Rfc9651 item_field input.now → IfErr result (IsMemoryError (λ _. ⊤)) }
 {
     let visitor = item_visitor_with(f).with_memory_errors::<OnlyMemory>();

@@ -133,7 +133,7 @@ fn newer_dictionaries_have(alloc: Global, input: &[u8], wanted: Option<Error>) -
     };
     let is_written = match write_again(alloc, input) {
         Ok(Some(text)) => wanted.is_none() && is_tight(text.capacity(), text.len()),
-        other => error_of(other) == wanted,
+        other => other.err() == wanted,
     };
     (digest == wanted)
         & is_written

@@ -5,7 +5,7 @@ use Rattle.std.proofs.lemmas.Result.{IfOk-weaker}
 use Rattle.sfv.specs.Types.{list_field, Rfc9651, ListBuilder, ListEntry}
 use Rattle.sfv.specs.Statements.{IsParsedAs}
 use Rattle.sfv.specs.Trees.{list_tree}
-use Rattle.sfv.specs.Seeds.{MemberHasSeed, ListHasSeed}
+use Rattle.sfv.specs.Seeds.{ListHasSeed}
 use Rattle.sfv.specs.Builders.{list_state, list_step, ListAdds}
 use Rattle.sfv.proofs.Callers.{list_in_lines, list_after, list_seeded}
 use Rattle.sfv_examples.proofs.Uses.{second_fails}

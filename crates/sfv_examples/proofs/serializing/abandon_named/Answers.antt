@@ -3,8 +3,8 @@ use Rattle.std.proofs.lemmas.List.{append-nil}
 use Rattle.sfv.proofs.Callers.{taken_away, kept_as}
 use Rattle.sfv_examples.proofs.serializing.abandon_named.Goals as goal
 
-pub returns : goal.returns
-returns g c =
+pub returns-clause-kept : goal.returns-clause-kept
+returns-clause-kept g c =
     let s = g.W.Sink in
     let again = g.met.W.Sink.same_again in
     let dictionary = c.args.dictionary.now in

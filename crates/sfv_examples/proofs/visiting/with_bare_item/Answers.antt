@@ -1,10 +1,11 @@
-use Rattle.std.proofs.Common.{refl}
+use Rattle.std.proofs.Common.{refl, ◌∙◌}
 use Rattle.std.specs.Prelude.{⊤}
 use Rattle.std.proofs.lemmas.Result.{IfOk-weaker}
 use Rattle.sfv.specs.Types.{Rfc9651, item_field}
 use Rattle.sfv.proofs.Callers.{never_fails}
 use Rattle.sfv_examples.specs.Uses.{IsMemoryError}
-use Rattle.sfv_examples.proofs.Uses.{of_error_alone}
+use Rattle.sfv_examples.proofs.Called.{called, failed_first}
+use Rattle.sfv_examples.proofs.Uses.{of_error_alone, read_failed}
 use Rattle.sfv_examples.proofs.visiting.with_bare_item.Goals as goal
 
 pub returns-clause-accepted : goal.returns-clause-accepted
@@ -18,3 +19,16 @@ returns-clause-accepted g c a = of_error_alone _ _ c.parse_item_with_visitor.res
 pub returns-clause-read : goal.returns-clause-read
 returns-clause-read g c = IfOk-weaker c.parse_item_with_visitor.result _ _ (λ out h. (h.raw, h.accepted))
     (rw c.new.ensures at c.parse_item_with_visitor.ensures.visited)
+
+pub returns-clause-called : goal.returns-clause-called
+returns-clause-called g c = IfOk-weaker c.parse_item_with_visitor.result _ _
+    (λ out h. called {T = g.row.T.Denot} (goal.F-post g) c.args.f c.with_memory_errors-visitor.result
+    (c.with_memory_errors-visitor.ensures.waiting ∙ c.item_visitor_with.ensures.waiting) c.args.input.now out h)
+    (rw c.new.ensures at c.parse_item_with_visitor.ensures.visited)
+
+pub returns-clause-failed : goal.returns-clause-failed
+returns-clause-failed g c = read_failed _ _ _ item_field c.args.input.now (λ e h. h.0)
+    (λ error h. failed_first {T = g.row.T.Denot} (goal.F-post g) c.args.f c.with_memory_errors-visitor.result
+    (c.with_memory_errors-visitor.ensures.waiting ∙ c.item_visitor_with.ensures.waiting) c.args.input.now error h)
+    c.parse_item_with_visitor.result (rw c.new.ensures at c.parse_item_with_visitor.ensures.syntax)
+    (rw c.new.ensures at c.parse_item_with_visitor.ensures.first)
