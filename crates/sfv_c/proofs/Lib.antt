@@ -1,6 +1,7 @@
 pub mod Places
 pub mod Stops
 pub mod Bytes
+mod Kept
 pub mod Unique
 pub mod Invalid
 pub mod Valid

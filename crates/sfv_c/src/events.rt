@@ -43,6 +43,7 @@ impl<'r, 'a> Collector<'r, 'a> {
 
     /// Counts a row, and writes it if the buffer has a place for it.
     #[inline(always)]
+    #[tactic(auto, using(crate::proofs::Kept::row_kept))]
     fn put(&mut self, row: Row<'a>)
         ensures { IsRowKept self.old (row_parts row.entry) 0 self.new }
     {
