@@ -1,7 +1,8 @@
-use Rattle.std.proofs.Common.{◌≡◌, ℕ, List, [], rules, refl}
+use Rattle.std.proofs.Common.{arith, refl}
+use Rattle.std.proofs.lemmas.Bool.Decides.{nat_tests}
+use Rattle.std.proofs.lemmas.List.{nil_from_length}
 use Rattle.sfv_base64.proofs.encode.Goals as goal
 
 pub returns-then-is_empty-clause-text : goal.returns-then-is_empty-clause-text
 returns-then-is_empty-clause-text c =
-    let none : c.args.bytes.now ≡ [] = search rules in
-    rw (none, c.new.ensures.bytes) refl
+    rw (nil_from_length c.args.bytes.now (grind (arith, nat_tests)), c.new.ensures.bytes) refl
