@@ -1,8 +1,10 @@
 use Rattle.std.proofs.Common.{arith, refl}
 use Rattle.std.proofs.lemmas.Bool.Decides.{nat_tests}
 use Rattle.std.proofs.lemmas.List.{nil_from_length}
+use Rattle.sfv_spec.specs.Base64.{base64_text}
 use Rattle.sfv_base64.proofs.encode.Goals as goal
 
 pub returns-then-is_empty-clause-text : goal.returns-then-is_empty-clause-text
+unfolding base64_text
 returns-then-is_empty-clause-text c =
     rw (nil_from_length c.args.bytes.now (grind (arith, nat_tests)), c.new.ensures.bytes) refl
