@@ -192,30 +192,12 @@ fn put_item(serializer: ItemSerializer<'_>, item: &Item) -> Option<()> {
     Some(())
 }
 
-/// Writes parameters of a member in the same way.
-fn put_params<W: Sink, K>(
-    serializer: ParameterSerializer<'_, SequenceSerializer<W, K>>,
-    params: &Parameters,
-) -> Option<()> {
-    let mut serializer = serializer;
-    let mut params = params.iter();
-    if let Some((key, value)) = params.next() {
-        serializer = serializer
-            .parameter(key.as_key_ref(), value.as_ref_item())
-            .ok()?;
-    }
-    serializer.parameters(params).ok()?.finish();
-    Some(())
-}
-
 /// Writes items in the same way.
 fn put_items<X: Sink>(inner: &mut InnerListSerializer<X>, items: &Vec<Item>) -> Option<()> {
     let mut items = items.iter();
     if let Some(item) = items.next() {
-        put_params(
-            inner.bare_item(item.bare_item.as_ref_item()).ok()?,
-            &item.params,
-        )?;
+        let params = inner.bare_item(item.bare_item.as_ref_item()).ok()?;
+        params.parameters(item.params.iter()).ok()?.finish();
     }
     inner.items(items).ok()
 }
@@ -243,8 +225,14 @@ fn write_item(
 fn put_member<W: Sink>(list: &mut ListSerializer<W>, member: &ListEntry) -> Option<()> {
     match member {
         ListEntry::Item(item) => {
-            let params = list.bare_item(item.bare_item.as_ref_item()).ok()?;
-            put_params(params, &item.params)
+            let mut params = list.bare_item(item.bare_item.as_ref_item()).ok()?;
+            let mut rest = item.params.iter();
+            if let Some((key, value)) = rest.next() {
+                params = params
+                    .parameter(key.as_key_ref(), value.as_ref_item())
+                    .ok()?;
+            }
+            params.parameters(rest).ok()?.finish();
         }
         ListEntry::InnerList(inner_list) => {
             let mut inner = list.inner_list().ok()?;
@@ -252,9 +240,11 @@ fn put_member<W: Sink>(list: &mut ListSerializer<W>, member: &ListEntry) -> Opti
                 inner.abandon();
                 return None;
             }
-            put_params(inner.finish().ok()?, &inner_list.params)
+            let params = inner.finish().ok()?;
+            params.parameters(inner_list.params.iter()).ok()?.finish();
         }
     }
+    Some(())
 }
 
 /// Writes a list in one of four ways. The last one writes it twice.
@@ -300,10 +290,16 @@ fn put_entry<W: Sink>(
 ) -> Option<()> {
     match member {
         ListEntry::Item(item) => {
-            let params = dictionary
+            let mut params = dictionary
                 .bare_item(key, item.bare_item.as_ref_item())
                 .ok()?;
-            put_params(params, &item.params)
+            let mut rest = item.params.iter();
+            if let Some((key, value)) = rest.next() {
+                params = params
+                    .parameter(key.as_key_ref(), value.as_ref_item())
+                    .ok()?;
+            }
+            params.parameters(rest).ok()?.finish();
         }
         ListEntry::InnerList(inner_list) => {
             let mut inner = dictionary.inner_list(key).ok()?;
@@ -311,9 +307,11 @@ fn put_entry<W: Sink>(
                 inner.abandon();
                 return None;
             }
-            put_params(inner.finish().ok()?, &inner_list.params)
+            let params = inner.finish().ok()?;
+            params.parameters(inner_list.params.iter()).ok()?.finish();
         }
     }
+    Some(())
 }
 
 /// Writes a dictionary in one of four ways. The last one writes it twice.
