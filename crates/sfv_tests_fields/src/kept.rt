@@ -8,8 +8,7 @@ use sfv::script::{
 };
 use sfv::{
     DictSerializer, Dictionary, FieldType, InnerListSerializer, Item, ItemSerializer, KeyRef, List,
-    ListEntry, ListSerializer, ParameterSerializer, Parameters, Parser, SequenceSerializer, Sink,
-    Version,
+    ListEntry, ListSerializer, Parser, Sink, Version,
 };
 use sfv_random::texts::filled;
 use sfv_writer::output::{serialize_separator, truncate_to};
@@ -290,16 +289,10 @@ fn put_entry<W: Sink>(
 ) -> Option<()> {
     match member {
         ListEntry::Item(item) => {
-            let mut params = dictionary
+            let params = dictionary
                 .bare_item(key, item.bare_item.as_ref_item())
                 .ok()?;
-            let mut rest = item.params.iter();
-            if let Some((key, value)) = rest.next() {
-                params = params
-                    .parameter(key.as_key_ref(), value.as_ref_item())
-                    .ok()?;
-            }
-            params.parameters(rest).ok()?.finish();
+            params.parameters(item.params.iter()).ok()?.finish();
         }
         ListEntry::InnerList(inner_list) => {
             let mut inner = dictionary.inner_list(key).ok()?;
