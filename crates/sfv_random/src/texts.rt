@@ -117,7 +117,7 @@ impl Random {
         Ok(())
     }
 
-    /// Appends a text of each first letter alone, and one for each letter at each of the first places.
+    /// Appends a text of each first letter alone, and texts that have each letter at each of the first places.
     fn push_places(
         &mut self,
         texts: &mut Vec<String>,
@@ -126,11 +126,14 @@ impl Random {
         for &letter in letters.at(0) {
             self.push_text(texts, letters, (0, letter), 1)?;
         }
-        for place in 0..PLACES {
-            for &letter in letters.at(place) {
-                let len = place.saturating_add(1).saturating_add(self.below(PLACES));
-                self.push_text(texts, letters, (place, letter), len)?;
+        for row in 0..letters.first.len().max(letters.rest.len()) {
+            let mut text = String::new(*texts.allocator());
+            for place in 0..PLACES {
+                let all = letters.at(place);
+                let number = row.saturating_add(place) % all.len().max(1);
+                text.push(all.get(number).copied().unwrap_or('a'))?;
             }
+            texts.push(text)?;
         }
         Ok(())
     }
@@ -152,9 +155,8 @@ impl Random {
         Ok(())
     }
 
-    /// Returns texts of this kind: each letter at each of the first 16 places, with up to 15 letters after it, each first
-    /// letter alone, and each length below 300 and near 512, 1,024 and 2,048. Display strings have each byte of UTF-8 in
-    /// the place of each letter.
+    /// Returns texts of this kind: each letter at each of the first 16 places, each first letter alone, and each length
+    /// below 300 and near 512, 1,024 and 2,048. Display strings have each byte of UTF-8 in the place of each letter.
     pub fn texts(&mut self, alloc: Global, kind: &str) -> Result<Vec<String>, AllocError> {
         let letters = Letters::new(alloc, kind)?;
         let mut texts = Vec::new(alloc);
