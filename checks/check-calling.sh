@@ -12,7 +12,7 @@ for page in docs/CALLING.md README.md; do
         return text
     }
     /^`crates\/.*`:?$/ { file = $0; gsub(/[`:]/, "", file); next }
-    /^```rust$/ { if (file == "") fails("a block without a file"); block = ""; inside = 1; next }
+    /^```(rust|antt)$/ { if (file == "") fails("a block without a file"); block = ""; inside = 1; next }
     inside && /^```$/ {
         inside = 0; blocks++
         if (index(whole(file), block) == 0) fails("not in " file)

@@ -31,7 +31,6 @@ use Rattle.sfv_base.specs.declared.error.Error.{Error}
 use Rattle.sfv_base.specs.Errors.{index_of, kind_of, out_of_memory}
 use Rattle.sfv_tree.specs.Trees.{list_tree, dictionary_tree}
 use Rattle.sfv_tree.specs.Builders.{list_state, list_step, dictionary_state, ListAdds, DictionaryAdds, dictionary_step}
-use Rattle.sfv_tree.specs.Seeds.{MemberHasSeed}
 use Rattle.sfv_tree.specs.declared.hash_seed.HashSeed.{HashSeed}
 use Rattle.sfv_tree.specs.declared.parsed.ListEntry.{ListEntry}
 use Rattle.sfv_tree.specs.declared.visitor.list_builder.ListBuilder.{ListBuilder}
@@ -39,8 +38,10 @@ use Rattle.sfv_tree.specs.declared.visitor.dictionary_builder.DictionaryBuilder.
 use Rattle.sfv_base.specs.declared.error.ParseError.{ParseError}
 use Rattle.sfv_tree.specs.declared.visitor.Visitor.{Ghosts as Visitor}
 use Rattle.sfv.specs.declared.parser.Parser.{Parser}
-use Rattle.sfv.specs.Parsers.{version_of, input_of, IsParseError, IsAnswerBy, IsSyntaxErrorBy, IsVisitorErrorBy}
-use Rattle.sfv.specs.Parsers.{ReceivesFirstBy, ReceivesAsReadBy, ReadsBy, ReadsItemBy}
+use Rattle.sfv.specs.Parsers.{version_of, input_of, IsParseError, IsAnswerBy, IsSyntaxErrorBy}
+use Rattle.sfv.specs.Parsers.{ReceivesAsReadBy, ReadsBy, ReadsItemBy}
+use Rattle.sfv.proofs.Relations.{HasFirst, HasVisitorError, has_visitor_error}
+use Rattle.sfv.proofs.visits.First.{has_first}
 use Rattle.sfv.specs.parser.Visits.{ReturnsAfter}
 use Rattle.sfv.proofs.built.Items.{insert_entry-entered}
 use Rattle.sfv.proofs.built.Lists.{built_list_after}
@@ -79,8 +80,8 @@ pub use Rattle.sfv.proofs.LastRead.{read_back_either}
 -- An abandoned inner list leaves the list's text and state unchanged (`taken_away`). `kept_as` and `more_as` carry the
 -- state of a serializer over the end of a borrow. `written_after` joins texts, `no_less` two steps of a capacity.
 pub use Rattle.sfv_serializer.proofs.Scripts.{taken_away, kept_as, more_as, written_after, no_less}
--- the text of a whole inner list, without a key and after one, from the texts of the calls that wrote it
-pub use Rattle.sfv_serializer.proofs.Scripts.{inner_list_ended, named_list_ended}
+-- the text of a whole inner list after a key, from the texts of the calls that wrote it
+pub use Rattle.sfv_serializer.proofs.Scripts.{named_list_ended}
 -- the text after one more call
 pub use Rattle.sfv_serializer.proofs.Steps.{more_after}
 -- Room. `len_of`: the length of a text. No room after added text means no room for both (`room_after`), and no room for
@@ -124,8 +125,10 @@ pub use Rattle.sfv.proofs.Relations.{Answers, FailsIn, HasSyntax, HasVisitorErro
 -- the bare item of an accepted item is borrowed unless its text has an escape
 pub use Rattle.sfv.proofs.visits.BorrowedBareItem.{first_as_read}
 -- A relation holds for some visitor of the type. Every text is accepted or not (`accepted_or_not`). A visitor's error
--- on an item is one on some item (`item_failed`). It comes at some event, or at the end (`fails_somewhere`).
+-- on an item is one on some item (`item_failed`). It comes at some event, or at the end (`fails_somewhere`). The clause
+-- `visitor` implies this relation (`has_visitor_error`, `fails_in`).
 pub use Rattle.sfv.proofs.Relations.{WithSomeVisitor, accepted_or_not, item_failed, fails_somewhere}
+pub use Rattle.sfv.proofs.Relations.{fails_in, has_visitor_error}
 -- `ExpectItem`: its result is the bare item of the field. It fails at a bare item of another kind, whatever follows
 -- (`expect_first`), or for memory, and nowhere else (`expect_only`). `expect_read`: the result is the bare item as
 -- read.
@@ -140,6 +143,19 @@ pub use Rattle.sfv.proofs.built.Items.{built as item_built, built_fails as item_
 pub use Rattle.sfv.proofs.built.Lists.{built_list as list_built, list_adds, list_seeded, no_list_held}
 pub use Rattle.sfv.proofs.built.Dictionaries.{built_dictionary as dictionary_built, dictionary_adds, dictionary_seeded}
 pub use Rattle.sfv.proofs.built.Dictionaries.{no_entry_held}
+-- An iterator over all members of a list (`members_all`) or a dictionary (`entries_all`), or over all items of an inner
+-- list (`items_all`), writes their text. `one_member`, `one_entry`, `one_inner_item` and `one_parameter`: the text of one
+-- element.
+pub use Rattle.sfv.proofs.Elements.{members_all, items_all, entries_all}
+pub use Rattle.sfv.proofs.Elements.{one_member, one_entry, one_inner_item, one_parameter}
+-- Under RFC 9651, the error of `serialize_for`, `append_member` and `append_inner_list` is out of memory.
+pub use Rattle.sfv.proofs.Elements.{newer_error}
+-- the text of a whole inner list without a key, from the texts of the calls that wrote it
+pub use Rattle.sfv.proofs.Elements.{inner_list_ended}
+-- a test of some element, and a fact of some element, through a function of each element
+pub use Rattle.sfv.proofs.Elements.{list_any-map, Any-map, Any-from_map}
+-- the pairs of a dictionary or of parameters after a removal, and their last pairs: of the removed key, and of another
+pub use Rattle.sfv_tree.proofs.Removed.{member_removed, param_removed, last_of-without_same, last_of-without_other}
 
 -- the member of a key in a parsed dictionary is the last member of the key in the text, with ordered parameters
 pub member_read : (version : Version) (t : List ℕ) (value : List (List ℕ × RawMember)) (key : List ℕ)
@@ -231,16 +247,18 @@ module _ {S O E : Type 0} {v : Visitor S O E} {p : Parser} {kind : FieldKind} {M
   pub made_syntax : WithSomeVisitor Made (ReadsBy v p kind) r → IfErr r (WithSomeVisitor Made (IsSyntaxErrorBy v p kind))
   made_syntax h = IfErr-weaker r _ _ (λ e k. (h.0, h.1, k)) h.2.syntax
 
-  pub made_visitor : WithSomeVisitor Made (ReadsBy v p kind) r → IfErr r (WithSomeVisitor Made (IsVisitorErrorBy v p kind))
-  made_visitor h = IfErr-weaker r _ _ (λ e k. (h.0, h.1, k)) h.2.visitor
+  pub made_visitor : WithSomeVisitor Made (ReadsBy v p kind) r → IfErr r (WithSomeVisitor Made
+      (HasVisitorError v.takes v.fails v.finish_fails (version_of p) kind (input_of p)))
+  made_visitor h = IfErr-weaker r _ _ (λ e k. (h.0, h.1, k)) (has_visitor_error v p kind h.0 r h.2.visitor)
 
 -- the facts of `parse_item` one at a time
 module _ {S O E : Type 0} {v : Visitor S O E} {p : Parser} {Made : S → Type 0} (r : Result O (ParseError E)) where
   pub made_item : WithSomeVisitor Made (ReadsItemBy v p) r → WithSomeVisitor Made (ReadsBy v p item_field) r
   made_item h = (h.0, h.1, h.2.all)
 
-  pub made_first : WithSomeVisitor Made (ReadsItemBy v p) r → IfErr r (WithSomeVisitor Made (ReceivesFirstBy v p))
-  made_first h = IfErr-weaker r _ _ (λ e k. (h.0, h.1, k)) h.2.first
+  pub made_first : WithSomeVisitor Made (ReadsItemBy v p) r
+      → IfErr r (WithSomeVisitor Made (HasFirst v.takes v.fails v.finish_fails (version_of p) (input_of p)))
+  made_first h = IfErr-weaker r _ _ (λ e k. (h.0, h.1, k)) (has_first v p h.0 r h.2.all.before_error h.2.first)
 
   -- the bare item of the field was received as parsed, borrowed unless it has escapes
   pub made_lent : WithSomeVisitor Made (ReadsItemBy v p) r

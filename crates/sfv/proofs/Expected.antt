@@ -6,7 +6,8 @@ use Rattle.std.proofs.lemmas.Option.{same_Some}
 use Rattle.sfv_spec.specs.Values.{BareValue, RawItem}
 use Rattle.sfv_spec.specs.declared.field_kind.FieldKind.TheVariants.{Item as item_field}
 use Rattle.sfv_spec.specs.declared.version.Version.{Version}
-use Rattle.sfv_spec.specs.Grammar.{IsFieldText, BeginsWithLongest, BeginsWithComplete}
+use Rattle.sfv_spec.specs.Grammar.{IsFieldText, BeginsWithLongest}
+use Rattle.sfv_model.proofs.FirstBareItem.{BeginsWithComplete}
 use Rattle.sfv_spec.specs.Events.{TreeEvent, bare_item, parameters_events, item_events}
 use Rattle.std.specs.List.{FoldsTo}
 use Rattle.sfv_base.specs.declared.error.Error.{Error}
@@ -201,7 +202,7 @@ pub expect_read : {T : Type 0} (holds : T → BareValue) (is_of : T → ReadBare
     → IfOk r (WithSomeVisitor (λ (s : ExpectItem T). item_kept s ≡ None)
     (HasBorrowed (OnRead (KeepTakes holds is_of)) (KeepTakes holds is_of) (λ s item. item_kept s ≡ Some item) version t))
     → IfOk r (λ item. (read : ReadBareItem) × is_of item read × (stands : BeginsWithLongest version (input_value read) t)
-    × IsBorrowedIfPlain read stands.first.front)
+    × IsBorrowedIfPlain read stands.front)
 expect_read {T} holds is_of version t (Ok out) h =
     let a = h.2 in
     let first : (item : T) × (holds item ≡ input_value a.0) × is_of item a.0 × (item_kept a.5 ≡ Some item) = rw h.1 at a.6 in

@@ -11,4 +11,5 @@ pub mod Fields
 pub mod Lines
 mod FirstByteFaults
 mod Emptiness
+pub mod Elements
 pub mod Callers

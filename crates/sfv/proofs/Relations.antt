@@ -2,7 +2,7 @@
 -- clause says the same of a visitor and a parser.
 use Rattle.std.proofs.Common.{◌≡◌, ℕ, List, [], ◌∷◌, ◌++◌, take, Some, Result, Ok, Err, refl, sym, subst, inl, inr}
 use Rattle.std.proofs.Common.{arith}
-use Rattle.std.specs.Prelude.{⊤, ◌⊎◌, map}
+use Rattle.std.specs.Prelude.{⊤, ◌⊎◌, IfErr, map}
 use Rattle.std.specs.List.{FoldsTo, Contains}
 use Rattle.std.proofs.lemmas.List.Elements.{Contains-append_right}
 use Rattle.sfv_spec.specs.Values.{RawField, RawItem, BareValue, RawParameters, IsFieldValue}
@@ -10,7 +10,7 @@ use Rattle.sfv_spec.specs.declared.field_kind.FieldKind.{FieldKind}
 use Rattle.sfv_spec.specs.declared.field_kind.FieldKind.TheVariants.{Item as item_field}
 use Rattle.sfv_spec.specs.declared.version.Version.{Version}
 use Rattle.sfv_spec.specs.declared.error_kind.ErrorKind.TheVariants.{TrailingCharactersAfterParsedValue}
-use Rattle.sfv_spec.specs.Grammar.{IsFieldText, IsAccepted, BeginsWithLongest, BeginsWithComplete, HasField}
+use Rattle.sfv_spec.specs.Grammar.{IsFieldText, IsAccepted, BeginsWithLongest, HasField}
 use Rattle.sfv_spec.specs.Reach.{IsReach}
 use Rattle.sfv_spec.specs.Events.{TreeEvent, bare_item, parameters_events, item_events, events}
 use Rattle.sfv_base.specs.declared.error.ParseError.{ParseError}
@@ -18,14 +18,18 @@ use Rattle.sfv_base.specs.declared.error.ParseError.TheVariants.{Syntax, Visitor
 use Rattle.sfv_base.specs.Errors.{error_of, out_of_memory}
 use Rattle.sfv_values.specs.BareItems.{input_value}
 use Rattle.sfv_tree.specs.declared.visitor.Event.{Event}
+use Rattle.sfv_tree.specs.declared.visitor.Visitor.{Ghosts}
 use Rattle.sfv_tree.specs.declared.visitor.Event.TheVariants as event
 use Rattle.sfv_tree.specs.Events.{event_of}
 use Rattle.sfv_tree.specs.ProvidedVisitors.{ReadBareItem}
 use Rattle.sfv_spec.proofs.Valid.{accepted_is_value_lem}
 use Rattle.sfv_model.specs.Reader.{Fault}
 use Rattle.sfv_model.specs.Fields.{read_field}
+use Rattle.sfv_model.proofs.FirstBareItem.{BeginsWithComplete}
 use Rattle.sfv_model.proofs.Theorems.{read_is_accepted}
-use Rattle.sfv.specs.Parsers.{IsParseError, IsBorrowedIfPlain, AreReadFrom}
+use Rattle.sfv.specs.declared.parser.Parser.{Parser}
+use Rattle.sfv.specs.Parsers.{version_of, input_of, IsParseError, IsBorrowedIfPlain, AreReadFrom, FailsOn, at_event}
+use Rattle.sfv.specs.Parsers.{at_end, IsVisitorErrorBy}
 use Rattle.sfv.specs.parser.Visits.{ReturnsAfter}
 
 -- `P` holds of `x` and of some visitor as it is made
@@ -82,7 +86,7 @@ abbrev pub HasBorrowed : {S O : Type 0} → (S → TreeEvent → S → Type 0) �
     → Version → List ℕ → S → O → Type 0
 HasBorrowed {S} takes takes_read finishes version t from out = (read : ReadBareItem) × (parameters : RawParameters)
     × IsFieldText version item_field (record { bare = input_value read; parameters = parameters }) t
-    × (stands : BeginsWithLongest version (input_value read) t) × IsBorrowedIfPlain read stands.first.front
+    × (stands : BeginsWithLongest version (input_value read) t) × IsBorrowedIfPlain read stands.front
     × (s : S) × takes_read from (event.BareItem read) s
     × ReturnsAfter takes finishes s (parameters_events parameters) out
 
@@ -92,6 +96,43 @@ abbrev pub HasEventsRead : {S O : Type 0} → (S → TreeEvent → S → Type 0)
 HasEventsRead {S} takes takes_read finishes version kind t from out = HasField version kind t (λ raw. (es : List Event)
     × (map event_of es ≡ events kind raw) × AreReadFrom version es t
     × (last : S) × FoldsTo (λ s e to. takes s (event_of e) to × takes_read s e to) from es last × finishes last out)
+
+-- the events in the definitions
+pub folded : {S : Type 0} (takes : S → TreeEvent → S → Type 0) (takes_read : S → Event → S → Type 0) (es : List Event)
+    (from to : S) → FoldsTo (λ s e to. takes s (event_of e) to × takes_read s e to) from es to
+    → FoldsTo takes from (map event_of es) to
+folded takes takes_read [] from to h = h
+folded takes takes_read (e ∷ es) from to h = (h.0, h.1.0, folded takes takes_read es h.0 to h.2)
+
+-- the same for an error
+pub fails_in : {S O E : Type 0} (v : Ghosts S O E) (p : Parser) (from : S) (all : List TreeEvent) (may_finish : Type 0)
+    (error : E) → FailsOn v p from all may_finish error
+    → FailsIn v.takes v.fails v.finish_fails from all may_finish error
+fails_in v p from all may_finish error (at_event es e after s split text received failed failed_read) = inl (
+  map event_of es,
+  event_of e,
+  after,
+  s,
+  split,
+  folded v.takes v.takes_read es from s received,
+  failed,
+)
+fails_in v p from all may_finish error (at_end last may run failed) = inr (may, last, run, failed)
+
+-- the clause `visitor` for the relations of the visitor
+pub has_visitor_error : {S O E : Type 0} (v : Ghosts S O E) (p : Parser) (kind : FieldKind) (from : S)
+    (r : Result O (ParseError E)) → IfErr r (IsVisitorErrorBy v p kind from)
+    → IfErr r (HasVisitorError v.takes v.fails v.finish_fails (version_of p) kind (input_of p) from)
+has_visitor_error v p kind from (Ok out) h = tt
+has_visitor_error v p kind from (Err (Syntax e)) h = tt
+has_visitor_error v p kind from (Err (Visitor error)) h = (
+  λ raw accepted. fails_in v p from (events kind raw) ⊤ error (h.0 raw accepted),
+  λ rejected. let some = (h.1 rejected).0 in (
+    (some.0, some.1, fails_in v p from (events kind some.0) (kind ≡ item_field) error some.2),
+    λ n reach. let m = (h.1 rejected).1 n reach in
+        (m.0, m.1, m.2, fails_in v p from (events kind m.0) ((kind ≡ item_field) × (m.1 ≡ [])) error m.3),
+  ),
+)
 
 -- a text is accepted or it isn't: so a visitor's error on a dictionary or a list is one on an accepted text
 pub accepted_or_not : (version : Version) (kind : FieldKind) (t : List ℕ)

@@ -9,6 +9,7 @@ pub mod Chained
 pub mod Begun
 pub mod Received
 pub mod Fields
+pub mod Failed
 pub mod First
 pub mod Whole
 pub mod BorrowedBareItem

@@ -12,7 +12,7 @@ pub use Rattle.sfv_spec.specs.Grammar.{IsFieldText, IsAccepted}
 unfoldable pub use Rattle.sfv_spec.specs.Ordered.{last_of}
 pub use Rattle.sfv_spec.specs.Ordered.{ordered, ordered_member}
 pub use Rattle.sfv_spec.specs.Statements.{IsParsedAs, IsValue, IsSerializedAs}
-pub use Rattle.sfv_spec.specs.Canonical.{canonical}
+pub use Rattle.sfv_spec.specs.Canonical.{canonical, member_text, inner_list_text}
 pub use Rattle.sfv_spec.specs.Values.{Fits}
 pub use Rattle.sfv_spec.specs.Faults.{IsFaultAt}
 pub use Rattle.sfv_spec.specs.declared.error_kind.ErrorKind.{ErrorKind}
@@ -26,9 +26,10 @@ pub use Rattle.sfv_base.specs.Errors.{index_of, kind_of, out_of_memory}
 pub use Rattle.sfv_values.specs.CheckedTexts.{text_of}
 pub use Rattle.sfv_values.specs.BareItems.{bare_value, ref_value, input_value, read_text}
 pub use Rattle.sfv_tree.specs.Builders.{plain_item}
-pub use Rattle.sfv_tree.specs.Trees.{item_tree, member_tree, list_tree, dictionary_tree, pairs_tree}
+pub use Rattle.sfv_tree.specs.Trees.{item_tree, inner_list_tree, member_tree, list_tree, dictionary_tree, pairs_tree}
 -- the results of a parser
 pub use Rattle.sfv.specs.Parsers.{IsParseError, IsAnswerBy, IsSyntaxErrorBy, IsVisitorErrorBy}
+pub use Rattle.sfv.specs.Memory.{NeedsMemory}
 -- writing
 pub use Rattle.sfv_serializer.specs.Scripts.{item_of_calls, member_of_calls, described_list, described_dictionary}
 pub use Rattle.sfv_writer.specs.Written.{AppendsOrKeeps, IsSerialized}

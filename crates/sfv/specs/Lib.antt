@@ -21,7 +21,6 @@ pub use Rattle.sfv_spec.specs.Statements
 pub use Rattle.sfv_spec.specs.Strings
 pub use Rattle.sfv_spec.specs.Texts
 pub use Rattle.sfv_spec.specs.Values
-pub use Rattle.sfv_spec.specs.Visiting
 pub use Rattle.sfv_spec.proofs.Runs as EventRuns
 pub use Rattle.sfv_base.specs.Conversions
 pub use Rattle.sfv_base.specs.Errors
@@ -44,6 +43,7 @@ pub use Rattle.sfv_tree.specs.Trees
 pub use Rattle.sfv_tree.specs.ProvidedVisitors
 pub use Rattle.sfv_writer.specs.Versions
 pub use Rattle.sfv_writer.specs.Written
+pub use Rattle.sfv_writer.specs.SingleMembers
 pub use Rattle.sfv_serializer.specs.Scripts
 pub use Rattle.sfv_serializer.specs.Serializers
 pub use Rattle.sfv_serializer.specs.Texts as LentTexts

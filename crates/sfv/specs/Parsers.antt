@@ -3,7 +3,7 @@ use Rattle.std.specs.Prelude.{◌≡◌, ◌≤◌, ⊤, ℕ, true, List, [], �
 use Rattle.std.specs.Prelude.{◌⊎◌, ◌↔◌, ◌==◌, ◌||◌, if◌then◌else◌, IfOk, IfErr, IsTrue, IsFalse, not}
 use Rattle.std.specs.List.{FoldsTo}
 use Rattle.std.specs.Borrow.{Bor}
-use Rattle.sfv_spec.specs.Values.{RawField, BareValue, boolean, RawItem, IsFieldValue}
+use Rattle.sfv_spec.specs.Values.{RawField, boolean, RawItem, IsFieldValue}
 use Rattle.sfv_spec.specs.declared.field_kind.FieldKind.{FieldKind}
 use Rattle.sfv_spec.specs.declared.field_kind.FieldKind.TheVariants.{Item as item_field, List as list_field}
 use Rattle.sfv_spec.specs.declared.field_kind.FieldKind.TheVariants.{Dictionary as dictionary_field}
@@ -13,19 +13,19 @@ use Rattle.sfv_spec.specs.Texts.{Exactly, RunOf, ◌⨾◌, IsJoining, begins_wi
 use Rattle.sfv_spec.specs.Classes.{is_key_inner}
 use Rattle.sfv_spec.specs.Grammar.{Spaces, Comma, IsBareText, IsKeyText, IsMemberText}
 use Rattle.sfv_spec.specs.Grammar.{IsDictionaryMemberText, IsFieldText, IsEnded, IsAccepted, BeginsWithLongest}
-use Rattle.sfv_spec.specs.Grammar.{BeginsWithComplete, HasField}
+use Rattle.sfv_spec.specs.Grammar.{HasField}
 use Rattle.sfv_spec.specs.Reach.{IsReach}
 use Rattle.sfv_spec.specs.Statements.{IsParsedAs}
 use Rattle.sfv_spec.specs.Events.{TreeEvent, entry, keyed_entry, begins_item, begins_inner_list, bare_item}
 use Rattle.sfv_spec.specs.Events.{parameters_end, inner_list_end, item_events, events}
-use Rattle.sfv_spec.specs.Visiting.{BeginsEventsAfter}
-use Rattle.sfv_spec.specs.Faults.{IsFaultAt}
+use Rattle.sfv_spec.specs.Faults.{IsFaultAt, IsWantedAt}
 use Rattle.sfv_spec.specs.declared.error_kind.ErrorKind.{ErrorKind}
 use Rattle.sfv_spec.specs.declared.error_kind.ErrorKind.TheVariants.{TrailingCharactersAfterParsedValue}
 use Rattle.sfv_base.specs.declared.error.Error.{Error}
 use Rattle.sfv_base.specs.declared.error.ParseError.{ParseError}
 use Rattle.sfv_base.specs.declared.error.ParseError.TheVariants as parse_errors
 use Rattle.sfv_base.specs.Errors.{error_of, out_of_memory}
+use Rattle.sfv_values.specs.CheckedTexts.{text_of}
 use Rattle.sfv_values.specs.BareItems.{input_value, is_borrowed_string, is_borrowed_text}
 use Rattle.sfv_values.specs.declared.bare.GenericBareItem.TheVariants as bare
 use Rattle.indexmap.specs.IndexMap.{IndexMap}
@@ -90,17 +90,22 @@ abbrev pub IsReadAs : Version → ReadBareItem → List ℕ → Type 0
 IsReadAs version read t = (IsBareText version (input_value read) t ⊎ ((input_value read ≡ boolean true) × (t ≡ [])))
     × IsBorrowedIfPlain read t
 
--- the same for the value of an event; an event without a value has no text
+-- a text without a double quote
+abbrev pub HasNoQuote : List ℕ → Type 0
+HasNoQuote = RunOf (λ c. not (c == byte "\""))
+
+-- `t` is the text of the key and the value of this event; an event without them has no text
 abbrev pub IsEventText : Version → Event → List ℕ → Type 0
+IsEventText version (event.KeyedEntry key) t = t ≡ text_of key
 IsEventText version (event.BareItem read) t = IsReadAs version read t
-IsEventText version (event.Parameter key read) t = IsReadAs version read t
+IsEventText version (event.Parameter key read) t = (Exactly (text_of key) ⨾ HasNoQuote ⨾ IsReadAs version read) t
 IsEventText version e t = t ≡ []
 
 -- The texts of these events are in `t`, in this order. No double quote is outside them.
 abbrev pub AreReadFrom : Version → List Event → List ℕ → Type 0
-AreReadFrom version [] t = RunOf (λ c. not (c == byte "\"")) t
-AreReadFrom version (e ∷ es) t = (gap at rest : List ℕ) × (t ≡ gap ++ at ++ rest)
-    × RunOf (λ c. not (c == byte "\"")) gap × IsEventText version e at × AreReadFrom version es rest
+AreReadFrom version [] t = HasNoQuote t
+AreReadFrom version (e ∷ es) t = (gap at rest : List ℕ) × (t ≡ gap ++ at ++ rest) × HasNoQuote gap
+    × IsEventText version e at × AreReadFrom version es rest
 
 -- the text before one more member: *SP, and these members with OWS "," OWS after each
 abbrev pub IsBeforeMember : Version → (kind : FieldKind) → RawField kind → List ℕ → Type 0
@@ -117,34 +122,49 @@ pub data BeginsMember : FieldKind → List TreeEvent → List ℕ → Type 0 whe
   -- a list member: the text is not empty, and does not begin with SP or a tab
   list_member : {t : List ℕ} → IsTrue (begins_with (λ c. not (c == byte " " || c == byte "\t")) t)
       → BeginsMember list_field (entry ∷ first_event t ∷ []) t
-  -- a dictionary member with a key that has ended
-  dictionary_key : {t : List ℕ} (key : List ℕ) → (IsKeyText key ⨾ (λ more. IsFalse (begins_with is_key_inner more))) t
-      → BeginsMember dictionary_field (keyed_entry key ∷ []) t
+  -- a dictionary member with a key that has ended, and no "=" after it: it is true
+  dictionary_key : {t : List ℕ} (key : List ℕ)
+      → (IsKeyText key ⨾ (λ more. IsFalse (begins_with (λ c. is_key_inner c || c == byte "=") more))) t
+      → BeginsMember dictionary_field (keyed_entry key ∷ begins_item ∷ bare_item (boolean true) ∷ []) t
   -- a dictionary member with a key and "="
   dictionary_value : {t : List ℕ} (key more : List ℕ) → (IsKeyText key ⨾ Exactly (codes "=" ++ more)) t
       → BeginsMember dictionary_field (keyed_entry key ∷ first_event more ∷ []) t
+
+-- `t` is a field with the events `es`; or it lacks only the `)` of the last inner list, and they come before its end.
+abbrev pub HasEvents : Version → FieldKind → List TreeEvent → List ℕ → Type 0
+HasEvents version kind es t = (raw : RawField kind) × ((IsFieldText version kind raw t × (events kind raw ≡ es))
+    ⊎ (IsFieldText version kind raw (t ++ codes ")") × (events kind raw ≡ es ++ inner_list_end ∷ parameters_end ∷ [])))
 
 -- `t` follows a text with the events `all`, and a bare item may end there. Before `t` come the events `es`: all of
 -- them, or, if `t` begins with a semicolon, all but the last, which is the end of the parameters that `t` continues.
 abbrev pub AreBefore : List TreeEvent → List TreeEvent → List ℕ → Type 0
 AreBefore all es t = IsEnded t × (all ≡ es ++ (if begins_with (λ c. c == byte ";") t then parameters_end ∷ [] else []))
 
--- the events `es` begin with `first`
-abbrev pub BeginWith : List TreeEvent → List TreeEvent → Type 0
-BeginWith first es = (others : List TreeEvent) × (es ≡ first ++ others)
-
 -- what a visitor in the state `from` does
 module _ {S O E : Type 0} (v : Visitor S O E) (from : S) where
+  -- The visitor may receive these events in this order.
+  abbrev pub Takes : List TreeEvent → Type 0
+  Takes es = (to : S) × FoldsTo v.takes from es to
+
   -- The visitor receives these events in order and returns this result.
   abbrev pub Returns : List TreeEvent → O → Type 0
   Returns es out = (last : S) × FoldsTo v.takes from es last × v.finishes last out
 
-  -- The visitor fails with this error at one of these events, after exactly the events before it. Or, if it may, it
-  -- fails in `finish` after all of them.
-  abbrev pub FailsOn : List TreeEvent → Type 0 → E → Type 0
-  FailsOn es may_finish error = ((before : List TreeEvent) × (e : TreeEvent) × (after : List TreeEvent) × (s : S)
-      × (es ≡ before ++ e ∷ after) × FoldsTo v.takes from before s × v.fails s e error)
-      ⊎ (may_finish × (last : S) × FoldsTo v.takes from es last × v.finish_fails last error)
+  -- The visitor receives these events as read, and then is in this state.
+  abbrev pub Receives : List Event → S → Type 0
+  Receives es to = FoldsTo (λ s e after. v.takes s (event_of e) after × v.takes_read s e after) from es to
+
+-- what a visitor in the state `from` does with the input of this parser
+module _ {S O E : Type 0} (v : Visitor S O E) (p : Parser) (from : S) where
+  -- The visitor fails with this error on these events.
+  pub data FailsOn (all : List TreeEvent) (may_finish : Type 0) (error : E) : Type 0 where
+    -- at one of them, after exactly the events before it: it received these as read, from the first bytes of the input
+    at_event : (es : List Event) (e : Event) (after : List TreeEvent) (s : S) → all ≡ map event_of es ++ event_of e ∷ after
+        → (AreReadFrom (version_of p) (es ++ e ∷ []) ⨾ (λ rest. ⊤)) (input_of p) → Receives v from es s
+        → v.fails s (event_of e) error → v.fails_read s e error → FailsOn all may_finish error
+    -- if it may, in `finish`, after all of them
+    at_end : (last : S) → may_finish → FoldsTo v.takes from all last → v.finish_fails last error
+        → FailsOn all may_finish error
 
 -- how the parser's call for this type of field ends, with this visitor in the state `from`
 module _ {S O E : Type 0} (v : Visitor S O E) (p : Parser) (kind : FieldKind) (from : S) where
@@ -156,8 +176,7 @@ module _ {S O E : Type 0} (v : Visitor S O E) (p : Parser) (kind : FieldKind) (f
   abbrev pub ReceivesAsReadBy : O → Type 0
   ReceivesAsReadBy out = HasField (version_of p) kind (input_of p) (λ raw. (es : List Event)
       × (map event_of es ≡ events kind raw) × AreReadFrom (version_of p) es (input_of p)
-      × (last : S) × FoldsTo (λ s e to. v.takes s (event_of e) to × v.takes_read s e to) from es last
-      × v.finishes last out)
+      × (last : S) × Receives v from es last × v.finishes last out)
 
   -- A syntax error is one that `parse` returns. One for characters after a value comes after the visitor has finished,
   -- and only for an item: no fault of a list or a dictionary has this kind.
@@ -167,25 +186,19 @@ module _ {S O E : Type 0} (v : Visitor S O E) (p : Parser) (kind : FieldKind) (f
       × HasField (version_of p) kind (take n (input_of p)) (λ raw. Returns v from (events kind raw) out))
   IsSyntaxErrorBy (parse_errors.Visitor error) = ⊤
 
-  -- The visitor received these events. On a rejected text, they begin the events of some field that begins with the
-  -- bytes before the reach. `whole`: if the text begins with a field, they begin with the events of that field before
-  -- the rest. `open_inner_list`: so it is if the field lacks only the `)` of its last inner list. `begun`: if a member
-  -- begins after other members, they begin with the events of those members and the first events of this one.
+  -- The visitor may receive these events. `whole`: if the text begins with a field, which may lack the `)` of its last
+  -- inner list, its events before the rest. `expected`: so it is if the error names what is expected there. `begun`: if
+  -- a member begins after other members, the events of those members and the first events of this one.
   pub record ReceivesUpTo : Type 0 where
-    pub es : List TreeEvent
-    pub to : S
-    pub taken : FoldsTo v.takes from es to
-    pub begins : (n : ℕ) → IsReach (version_of p) kind (input_of p) n
-        → BeginsEventsAfter (version_of p) kind (take n (input_of p)) es
-    pub whole : (raw : RawField kind) (first : List TreeEvent)
-        → (IsFieldText (version_of p) kind raw ⨾ AreBefore (events kind raw) first) (input_of p) → BeginWith first es
-    pub open_inner_list : (raw : RawField kind) (all first : List TreeEvent)
-        → ((λ front. IsFieldText (version_of p) kind raw (front ++ codes ")")) ⨾ AreBefore all first) (input_of p)
-        → events kind raw ≡ all ++ inner_list_end ∷ parameters_end ∷ [] → BeginWith first es
+    pub whole : (es first : List TreeEvent)
+        → (HasEvents (version_of p) kind es ⨾ AreBefore es first) (input_of p) → Takes v from first
+    pub expected : (es : List TreeEvent) (fault : ErrorKind) (n : ℕ)
+        → IsWantedAt (version_of p) kind (input_of p) fault n
+        → HasEvents (version_of p) kind es (take n (input_of p)) → Takes v from es
     pub begun : (raw : RawField kind) (first : List TreeEvent) → (IsBeforeMember (version_of p) kind raw
-        ⨾ BeginsMember kind first) (input_of p) → BeginWith (events kind raw ++ first) es
+        ⨾ BeginsMember kind first) (input_of p) → Takes v from (events kind raw ++ first)
 
-  -- A syntax error comes only after the visitor has received the events before it.
+  -- A syntax error comes only if the visitor may receive these events.
   abbrev pub ReceivesBeforeErrorBy : ParseError E → Type 0
   ReceivesBeforeErrorBy (parse_errors.Syntax e) = (e ≡ out_of_memory) ⊎ ReceivesUpTo
   ReceivesBeforeErrorBy (parse_errors.Visitor error) = ⊤
@@ -197,12 +210,12 @@ module _ {S O E : Type 0} (v : Visitor S O E) (p : Parser) (kind : FieldKind) (f
   abbrev pub IsVisitorErrorBy : ParseError E → Type 0
   IsVisitorErrorBy (parse_errors.Syntax e) = ⊤
   IsVisitorErrorBy (parse_errors.Visitor error) = ((raw : RawField kind)
-      → IsFieldText (version_of p) kind raw (input_of p) → FailsOn v from (events kind raw) ⊤ error)
+      → IsFieldText (version_of p) kind raw (input_of p) → FailsOn v p from (events kind raw) ⊤ error)
       × (¬ IsAccepted (version_of p) kind (input_of p) → ((raw : RawField kind) × IsFieldValue kind raw
-      × FailsOn v from (events kind raw) (kind ≡ item_field) error)
+      × FailsOn v p from (events kind raw) (kind ≡ item_field) error)
       × ((n : ℕ) → IsReach (version_of p) kind (input_of p) n → (raw : RawField kind) × (more : List ℕ)
       × IsFieldText (version_of p) kind raw (take n (input_of p) ++ more)
-      × FailsOn v from (events kind raw) ((kind ≡ item_field) × (more ≡ [])) error))
+      × FailsOn v p from (events kind raw) ((kind ≡ item_field) × (more ≡ [])) error))
 
   -- The clauses of `parse_.._with_visitor` for one visitor. They describe its result, the events as read, a syntax
   -- error and the events before it, its own error, and the texts for which memory is allocated.
@@ -216,17 +229,13 @@ module _ {S O E : Type 0} (v : Visitor S O E) (p : Parser) (kind : FieldKind) (f
 
 -- how the parser's call for an item ends, with this visitor in the state `from`
 module _ {S O E : Type 0} (v : Visitor S O E) (p : Parser) (from : S) where
-  -- If a complete bare item comes first in the text, the visitor receives it before any later syntax error. An error
-  -- of the visitor is one on an item with the first bare item of the text, which is the complete one if there is one.
+  -- An error of the visitor is one on an item with the first bare item of the text.
   abbrev pub ReceivesFirstBy : ParseError E → Type 0
-  ReceivesFirstBy (parse_errors.Syntax e) = (e ≡ out_of_memory) ⊎ ((value : BareValue)
-      → BeginsWithComplete (version_of p) value (input_of p) → (s : S) × v.takes from (bare_item value) s)
+  ReceivesFirstBy (parse_errors.Syntax e) = ⊤
   ReceivesFirstBy (parse_errors.Visitor error) = (raw : RawItem)
-      × BeginsWithLongest (version_of p) raw.bare (input_of p)
-      × ((value : BareValue) → BeginsWithComplete (version_of p) value (input_of p) → raw.bare ≡ value)
-      × FailsOn v from (item_events raw) ⊤ error
+      × BeginsWithLongest (version_of p) raw.bare (input_of p) × FailsOn v p from (item_events raw) ⊤ error
 
-  -- The clauses of the call for an item. In addition, the visitor receives the bare item first.
+  -- The clauses of the call for an item. In addition, the visitor fails only if a bare item comes first.
   pub record ReadsItemBy (result : Result O (ParseError E)) : Type 0 where
     pub all : ReadsBy v p item_field from result
     pub first : IfErr result ReceivesFirstBy

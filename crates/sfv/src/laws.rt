@@ -3,7 +3,7 @@
 //!
 //! `docs/DEFINITIONS.md` explains each law. Six concern whole fields:
 //!
-//! - `equal_texts`: two values have the same text if and only if they are equal;
+//! - `equal_texts`: two fields have the same text if and only if they are equal;
 //! - `text_again`: the text of a parsed field parses to the same value and serializes to the same text;
 //! - `older_reads_back`: a value without dates and display strings parses back under RFC 8941, too;
 //! - `newer_accepts`: RFC 9651 accepts every text that RFC 8941 accepts, as the same field;

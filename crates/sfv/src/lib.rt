@@ -24,10 +24,10 @@ pub use sfv_serializer::{
 };
 pub use sfv_spec::field_kind::FieldKind;
 pub use sfv_spec::version::Version;
-pub use sfv_tree::hash_seed::HashSeed;
+pub use sfv_tree::hash_seed::{HashSeed, random_seed};
 pub use sfv_tree::parsed::{
     Dictionary, InnerList, Item, List, ListEntry, Parameters, find_entry, find_param, insert_entry,
-    insert_param,
+    insert_param, remove_entry, remove_param,
 };
 pub use sfv_tree::shorthand::{dictionary, parameters};
 pub use sfv_values::bare::{
@@ -40,4 +40,4 @@ pub use sfv_values::string::String;
 pub use sfv_values::string_ref::StringRef;
 pub use sfv_values::token::Token;
 pub use sfv_values::token_ref::TokenRef;
-pub use sfv_writer::SerializeError;
+pub use sfv_writer::{SerializeError, append_inner_list, append_member};

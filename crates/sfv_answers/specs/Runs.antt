@@ -1,13 +1,11 @@
 -- The requests of the program, and the results of a run.
 use Rattle.std.specs.Prelude.{◌≡◌, ⊤, ℕ, List, [], ◌∷◌, ◌++◌, ◌⊎◌, Option, IfSome, codes}
-use Rattle.std.specs.Int.{from_le_bytes, w64}
 use Rattle.std.specs.Io.KnownBytes.{Keeps, Appends}
 use Rattle.sfv.specs.Types.{Version, item_field, list_field, dictionary_field}
 use Rattle.sfv.specs.Types.versions as version
 use Rattle.sfv.specs.Types.{FieldKind}
 use Rattle.sfv_answers.specs.declared.run.Request.{Request}
 use Rattle.sfv_answers.specs.declared.run.Request.TheVariants as request
-use Rattle.sfv.specs.HashSeeds.{seed_of}
 use Rattle.sfv.specs.Parsers.{IsBuiltUnder}
 use Rattle.sfv.specs.Types.{HashSeed}
 use Rattle.sfv_answers.specs.declared.answer.ToolFault.{ToolFault}
@@ -59,10 +57,6 @@ IsFaultOf (request.Priority version) input fault = IsPriorityFault version input
 abbrev pub NamesFieldType : Request → Type 0
 NamesFieldType (request.Field field reading writing) = ⊤
 NamesFieldType (request.Priority version) = ⊥
-
--- the seed of eight bytes, as a little-endian number
-abbrev pub seed_of_bytes : List ℕ → HashSeed
-seed_of_bytes bytes = seed_of (from_le_bytes w64 bytes)
 
 -- a successful run: the result for the input is appended to the output
 abbrev pub IsAnswered : Request → List ℕ → Option (List ℕ) → Option (List ℕ) → Type 0

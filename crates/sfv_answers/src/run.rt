@@ -8,11 +8,11 @@ ghost use Rattle.std.specs.declared.io.ErrorKind.TheVariants as kinds;
 ghost use Rattle.sfv_answers.specs.declared.run.Failure.TheVariants as failures;
 ghost use Rattle.sfv_answers.specs.Runs.{Names, NamesNothing, Requests, IsAnswered, IsFailed, IsUnread, IsReadFailure, IsOfCommand};
 ghost use Rattle.sfv_answers.specs.Runs.{IsAnswerFor, IsFaultOf, NamesPriority, NamesNoField, NamesNoPriority};
-ghost use Rattle.sfv_answers.specs.Runs.{field_word, version_word, priority_word, seed_of_bytes, NamesFieldType};
+ghost use Rattle.sfv_answers.specs.Runs.{field_word, version_word, priority_word, NamesFieldType};
 ghost use Rattle.sfv_answers.specs.Runs.{failure_text, failure_status, IsBuiltFor};
 
 use crate::answer::{ToolFault, answer, answer_priority};
-use sfv::{FieldKind, HashSeed, Version};
+use sfv::{FieldKind, HashSeed, Version, random_seed};
 use std::alloc::Global;
 use std::io::{ErrorKind, Read, Write};
 use std::random::RandomSource;
@@ -318,31 +318,13 @@ pub fn run<R: Read, W: Write>(
     convert(alloc, seed, request, input, output)
 }
 
-/// Returns the hash seed of these bytes, as a little-endian number.
-fn seed_of_bytes(bytes: [u8; 8]) -> HashSeed
-    ensures { result ≡ seed_of_bytes bytes }
-{
-    HashSeed::new(u64::from_le_bytes(bytes))
-}
-
-/// Returns a random hash seed: the next eight bytes of the source, as a little-endian number.
-///
-/// # Errors
-///
-/// Returns the error of `RandomSource::fill_bytes`.
-pub fn random_seed<S: RandomSource>(random: &S) -> io::Result<HashSeed> {
-    let mut bytes = [0; 8];
-    random.fill_bytes(&mut bytes)?;
-    Ok(seed_of_bytes(bytes))
-}
-
 /// Returns the hash seed for a command. A field has maps, and takes a random seed. The Priority field has none, and
 /// takes no random bytes.
 fn seed_for<S: RandomSource>(random: &S, request: Request) -> io::Result<HashSeed>
     ensures failed { OnErr result (NamesFieldType request) }
 {
     match request {
-        Request::Field { .. } => random_seed(random),
+        Request::Field { .. } => random_seed(|bytes| random.fill_bytes(bytes)),
         Request::Priority(_) => Ok(HashSeed::default()),
     }
 }

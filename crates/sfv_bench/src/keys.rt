@@ -1,6 +1,6 @@
 //! Keys that collide in a map under the library's seed.
 
-use sfv::{Dictionary, HashSeed, KeyRef, Parser};
+use sfv::{Dictionary, HashSeed, KeyRef, Parser, random_seed};
 use std::alloc::{AllocError, Global};
 use std::hash::BuildHasher;
 use std::io;
@@ -81,13 +81,6 @@ fn colliding_field(alloc: Global, count: u64) -> Result<String, AllocError> {
     Ok(text)
 }
 
-/// Returns a random hash seed.
-fn random_seed(rt: &impl RandomSource) -> io::Result<HashSeed> {
-    let mut bytes = [0; 8];
-    rt.fill_bytes(&mut bytes)?;
-    Ok(HashSeed::new(u64::from_le_bytes(bytes)))
-}
-
 /// Returns the number of members of the field, and the time to parse it.
 fn parse_timed(
     rt: &impl Clock,
@@ -109,7 +102,7 @@ pub fn print_keys(rt: &HostRuntime, count: u64) -> io::Result<()> {
     let alloc = rt.alloc();
     let colliding = colliding_field(alloc, count)?;
     let ordinary = ordinary_field(alloc, count)?;
-    let random = random_seed(rt)?;
+    let random = random_seed(|bytes| rt.fill_bytes(bytes))?;
     let rows = [
         (
             "colliding keys under the library's seed",

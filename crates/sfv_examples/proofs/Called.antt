@@ -5,7 +5,6 @@ use Rattle.std.specs.Prelude.{⊤, MatchOption}
 use Rattle.std.specs.List.{FoldsTo}
 use Rattle.sfv.specs.Values.{RawItem}
 use Rattle.sfv.specs.Types.{Rfc9651, item_field, OutOfMemory, ItemVisitorWith}
-use Rattle.sfv.specs.Types.parse_errors.{Visitor}
 use Rattle.sfv.specs.Grammar.{BeginsWithLongest}
 use Rattle.sfv.specs.Events.{TreeEvent, bare_item, parameters_events, item_events}
 use Rattle.sfv.specs.EventValues.{event_of}
@@ -13,24 +12,24 @@ use Rattle.sfv.specs.declared.visitor.Event.{Event}
 use Rattle.sfv.specs.declared.visitor.Event.TheVariants as event
 use Rattle.sfv.specs.BareItems.{input_value}
 use Rattle.sfv.specs.ProvidedVisitors.{ReadBareItem, OnRead, function_waiting, answer_kept, CallTakes, CallFails}
-use Rattle.sfv.proofs.Callers.{Answers, FailsIn, HasFirst}
+use Rattle.sfv.proofs.Callers.{Answers, FailsIn}
 use Rattle.sfv_examples.specs.Uses.{IsReturnedFor, FailsAtFirst}
 
-module _ {F T M : Type 0} (post : F → ReadBareItem → Result T OutOfMemory → Type 0) where
-  abbrev Takes : ItemVisitorWith F T M → TreeEvent → ItemVisitorWith F T M → Type 0
+module _ {F T : Type 0} (post : F → ReadBareItem → Result T OutOfMemory → Type 0) where
+  abbrev Takes : ItemVisitorWith F T → TreeEvent → ItemVisitorWith F T → Type 0
   Takes = OnRead (CallTakes post)
 
-  abbrev Fails : ItemVisitorWith F T M → TreeEvent → OutOfMemory → Type 0
+  abbrev Fails : ItemVisitorWith F T → TreeEvent → OutOfMemory → Type 0
   Fails = OnRead (CallFails post)
 
-  abbrev Finishes : ItemVisitorWith F T M → Option T → Type 0
+  abbrev Finishes : ItemVisitorWith F T → Option T → Type 0
   Finishes s out = out ≡ answer_kept s
 
-  abbrev FinishFails : ItemVisitorWith F T M → OutOfMemory → Type 0
+  abbrev FinishFails : ItemVisitorWith F T → OutOfMemory → Type 0
   FinishFails s error = ⊥
 
   -- after the call, an event changes nothing
-  idle : (s after : ItemVisitorWith F T M) (read : Event) → function_waiting s ≡ None → CallTakes post s read after
+  idle : (s after : ItemVisitorWith F T) (read : Event) → function_waiting s ≡ None → CallTakes post s read after
       → after ≡ s
   idle s after (event.BareItem item) none h = subst (λ (o : Option F). MatchOption o (after ≡ s) (λ f. (out : T)
       × post f item (Ok out) × (answer_kept after ≡ Some out) × (function_waiting after ≡ None))) none h
@@ -42,7 +41,7 @@ module _ {F T M : Type 0} (post : F → ReadBareItem → Result T OutOfMemory �
   idle s after event.ParametersEnd none h = h
   idle s after event.InnerListEnd none h = h
 
-  stays : (es : List TreeEvent) (s last : ItemVisitorWith F T M) → function_waiting s ≡ None → FoldsTo Takes s es last
+  stays : (es : List TreeEvent) (s last : ItemVisitorWith F T) → function_waiting s ≡ None → FoldsTo Takes s es last
       → last ≡ s
   stays [] s last none run = sym run
   stays (e ∷ es) s last none run =
@@ -50,7 +49,7 @@ module _ {F T M : Type 0} (post : F → ReadBareItem → Result T OutOfMemory �
       stays es run.0 last (ap function_waiting same ∙ none) run.2 ∙ same
 
   -- and the visitor does not fail
-  never : (s : ItemVisitorWith F T M) (read : Event) (error : OutOfMemory) → function_waiting s ≡ None
+  never : (s : ItemVisitorWith F T) (read : Event) (error : OutOfMemory) → function_waiting s ≡ None
       → CallFails post s read error → ⊥
   never s (event.BareItem item) error none h = rw none at h
   never s event.Entry error none h = h
@@ -61,9 +60,9 @@ module _ {F T M : Type 0} (post : F → ReadBareItem → Result T OutOfMemory �
   never s event.ParametersEnd error none h = h
   never s event.InnerListEnd error none h = h
 
-  module _ (f : F) (from : ItemVisitorWith F T M) (waits : function_waiting from ≡ Some f) where
+  module _ (f : F) (from : ItemVisitorWith F T) (waits : function_waiting from ≡ Some f) where
     -- the bare item calls the function
-    calls : (read : Event) (raw : RawItem) (after : ItemVisitorWith F T M) → event_of read ≡ bare_item raw.bare
+    calls : (read : Event) (raw : RawItem) (after : ItemVisitorWith F T) → event_of read ≡ bare_item raw.bare
         → CallTakes post from read after
         → (item : ReadBareItem) × (input_value item ≡ raw.bare) × (out : T) × post f item (Ok out)
         × (answer_kept after ≡ Some out) × (function_waiting after ≡ None)
@@ -117,9 +116,9 @@ module _ {F T M : Type 0} (post : F → ReadBareItem → Result T OutOfMemory �
             absurd (never h.3 fails.0 error (ap function_waiting same ∙ k.5) fails.2)
     fails_for raw error (inr h) = absurd h.3
 
-    pub failed_first : (t : List ℕ) (error : OutOfMemory)
-        → HasFirst Takes Fails FinishFails Rfc9651 t from (Visitor error)
+    pub failed_first : (t : List ℕ) (raw : RawItem) (error : OutOfMemory) → BeginsWithLongest Rfc9651 raw.bare t
+        → FailsIn Takes Fails FinishFails from (item_events raw) ⊤ error
         → FailsAtFirst (λ read error. post f read (Err error)) t error
-    failed_first t error h =
-        let k = fails_for h.0 error h.3 in
-        (k.0, subst (λ b. BeginsWithLongest Rfc9651 b t) (sym k.1) h.1, k.2)
+    failed_first t raw error first fails =
+        let k = fails_for raw error fails in
+        (k.0, subst (λ b. BeginsWithLongest Rfc9651 b t) (sym k.1) first, k.2)

@@ -12,7 +12,7 @@ use Rattle.sfv.specs.Types.{FieldKind, item_field, dictionary_field, Rfc9651, Er
 use Rattle.sfv.specs.Types.{ExpectItem, StringFromInput}
 use Rattle.sfv.specs.Events.{TreeEvent, entry, keyed_entry, begins_item, begins_inner_list, bare_item, parameter}
 use Rattle.sfv.specs.Events.{parameters_end, inner_list_end, events}
-use Rattle.sfv.specs.Grammar.{IsFieldText, IsAccepted, BeginsWithLongest, BeginsWithComplete}
+use Rattle.sfv.specs.Grammar.{IsFieldText, IsAccepted, BeginsWithLongest}
 use Rattle.sfv.specs.Ordered.{last_of, ordered_member}
 use Rattle.sfv.specs.Statements.{IsParsedAs}
 use Rattle.sfv.specs.Parsers.{IsParseError, IsBorrowedIfPlain}
@@ -26,7 +26,7 @@ use Rattle.sfv.specs.Types.item_faults as item_faults
 use Rattle.sfv.specs.Types.parse_errors.{Syntax, Visitor}
 use Rattle.sfv.proofs.Callers.{runs_fold, key_in, keys_in_events, member_read, last_of-collapse, expect_answers}
 use Rattle.sfv.proofs.Callers.{expect_fails, expect_first, begins_with_its, accepted_error}
-use Rattle.sfv_examples.specs.Uses.{integer_or, param_in, counts, HasMembers, IsCountError, IsExpectError, IsTokenError}
+use Rattle.sfv_examples.specs.Uses.{BeginsWithComplete, integer_or, param_in, counts, HasMembers, IsCountError, IsExpectError, IsTokenError}
 use Rattle.sfv_examples.specs.Uses.{IsReadError, IsErrorOfLines, IsLentString}
 use Rattle.sfv_examples.specs.declared.visiting.MemberCounter.{MemberCounter}
 use Rattle.sfv_examples.specs.declared.visiting.TooMany.{TooMany}
@@ -178,7 +178,7 @@ module _ {T : Type 0} (holds : T → BareValue) (is_of : T → ReadBareItem → 
   pub expected_first : (t : List ℕ) (r : Result T (ParseError ItemFault))
       → IfOk r (WithSomeVisitor Waits (Answers (OnRead (KeepTakes holds is_of)) Keeps Rfc9651 item_field t))
       → IfErr r (WithSomeVisitor Waits (HasFirst (OnRead (KeepTakes holds is_of)) (OnRead (KeepFails fails)) KeepsNone Rfc9651 t))
-      → (value : BareValue) → BeginsWithComplete Rfc9651 value t → ((held : T) → ¬ (holds held ≡ value))
+      → (value : BareValue) → BeginsWithComplete value t → ((held : T) → ¬ (holds held ≡ value))
       → MatchResult r (λ _. ⊥) (IsExpectError fails value)
   expected_first t (Ok held) h k value begins none =
       let read = expect_answers holds is_of fails Rfc9651 t (Ok held) h in
@@ -190,13 +190,13 @@ module _ {T : Type 0} (holds : T → BareValue) (is_of : T → ReadBareItem → 
 -- a string that was kept is the one that was read
 pub lent_string : {E : Type 0} (t : List ℕ) (r : Result StringFromInput E)
     → IfOk r (λ text. (read : ReadBareItem) × (read ≡ bare_items.String text)
-    × (stands : BeginsWithLongest Rfc9651 (input_value read) t) × IsBorrowedIfPlain read stands.first.front)
+    × (stands : BeginsWithLongest Rfc9651 (input_value read) t) × IsBorrowedIfPlain read stands.front)
     → IfOk r (λ text. IsLentString text t)
 lent_string t (Ok text) h =
     let k : (stands : BeginsWithLongest Rfc9651 (input_value (bare_items.String text)) t)
-    × IsBorrowedIfPlain (bare_items.String text) stands.first.front =
+    × IsBorrowedIfPlain (bare_items.String text) stands.front =
     subst (λ (read : ReadBareItem). (stands : BeginsWithLongest Rfc9651 (input_value read) t)
-    × IsBorrowedIfPlain read stands.first.front) h.1 (h.2, h.3) in
+    × IsBorrowedIfPlain read stands.front) h.1 (h.2, h.3) in
     (k.0, k.1)
 lent_string t (Err e) h = tt
 

@@ -14,7 +14,8 @@ use Rattle.sfv.specs.Types.{FieldKind, item_field, list_field, dictionary_field,
 use Rattle.sfv.specs.Types.{Error, ErrorKind, ItemFault, Version, SerializeError}
 use Rattle.sfv.specs.Types.error_kinds.{OutOfRange}
 use Rattle.sfv.specs.Types.serialize_errors as errors
-use Rattle.sfv.specs.Grammar.{IsFieldText, IsAccepted, BeginsWithLongest, BeginsWithComplete}
+use Rattle.sfv.specs.Texts.{◌⨾◌}
+use Rattle.sfv.specs.Grammar.{Spaces, IsBareText, IsEnded, IsFieldText, IsAccepted, BeginsWithLongest}
 use Rattle.sfv.specs.Ordered.{ordered, last_of}
 use Rattle.sfv.specs.Statements.{IsParsedAs, IsSerializedAs}
 use Rattle.sfv.specs.KeyText.{KeyRef}
@@ -37,11 +38,6 @@ use Rattle.sfv.specs.Types.bare_item_types as kinds
 use Rattle.sfv.specs.Types.bare_items as bare_items
 use Rattle.sfv.specs.Types.{GenericBareItem, StringFromInput}
 use Rattle.sfv.specs.Messages.{message_of}
-
--- the text parses to a dictionary, and the line is its serialization
-abbrev pub IsWrittenAgain : List ℕ → Option (String Global) → Type 0
-IsWrittenAgain t line = (value : List (List ℕ × RawMember)) × IsParsedAs Rfc9651 dictionary_field t value
-    × IsSerializedAs Rfc9651 dictionary_field value (option_map string_bytes line)
 
 -- a caret at the index of the syntax error, and its message
 pub record IsExplained (t text : List ℕ) : Type 0 where
@@ -207,10 +203,14 @@ abbrev pub ExpectsItem : {T : Type 0} → (T → BareValue) → (ReadBareItem �
 ExpectsItem holds fails t result = (raw : RawItem) → IsFieldText Rfc9651 item_field raw t
     → MatchResult result (λ item. holds item ≡ raw.bare) (IsExpectError fails raw.bare)
 
+-- after spaces, a text of this bare value, and a bare item may end there; the bytes after that may be anything
+abbrev pub BeginsWithComplete : BareValue → List ℕ → Type 0
+BeginsWithComplete value = Spaces ⨾ IsBareText Rfc9651 value ⨾ IsEnded
+
 -- if a complete bare item that the type cannot have comes first in the text, the type rejects it
 abbrev pub RejectsOther : {T : Type 0} → (T → BareValue) → (ReadBareItem → ItemFault → Type 0) → List ℕ
     → Result T (ParseError ItemFault) → Type 0
-RejectsOther {T} holds fails t result = (value : BareValue) → BeginsWithComplete Rfc9651 value t
+RejectsOther {T} holds fails t result = (value : BareValue) → BeginsWithComplete value t
     → ((item : T) → ¬ (holds item ≡ value)) → MatchResult result (λ _. ⊥) (IsExpectError fails value)
 
 -- memory ran out, or the value is no token
@@ -230,7 +230,7 @@ RefusesOther value result =
 -- the string comes first in the text, and is borrowed from it if and only if it has no escape there
 abbrev pub IsLentString : StringFromInput → List ℕ → Type 0
 IsLentString text t = (stands : BeginsWithLongest Rfc9651 (string (read_text text)) t)
-    × (IsTrue (is_borrowed_string text) ↔ RunOf (λ c. not (c == byte "\\")) stands.first.front)
+    × (IsTrue (is_borrowed_string text) ↔ RunOf (λ c. not (c == byte "\\")) stands.front)
 
 -- a syntax error is the error of `parse`; otherwise a bare item of another kind comes first in the text
 abbrev pub IsStringError : List ℕ → ParseError ItemFault → Type 0

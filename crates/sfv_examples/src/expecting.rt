@@ -3,14 +3,15 @@
 ghost use Rattle.std.specs.Prelude.{◌≡◌, ⊤, IfOk, IfErr, MatchResult};
 ghost use Rattle.sfv.specs.Values.{BareValue, RawItem};
 ghost use Rattle.sfv.specs.Types.{item_field, list_field, dictionary_field, Rfc9651};
-ghost use Rattle.sfv.specs.Grammar.{IsFieldText, BeginsWithComplete};
+ghost use Rattle.sfv.specs.Grammar.{IsFieldText};
 ghost use Rattle.sfv.specs.Statements.{IsParsedAs};
 ghost use Rattle.sfv.specs.Trees.{item_tree, list_tree, dictionary_tree};
 ghost use Rattle.sfv.specs.HashSeeds.{library_seed};
 ghost use Rattle.sfv.specs.Seeds.{ItemHasSeed, ListHasSeed, DictionaryHasSeed};
 ghost use Rattle.sfv.specs.Types.item_faults as item_faults;
 ghost use Rattle.sfv_examples.specs.Uses.{ExpectsItem, RejectsOther, HasBareItem, FailsAtFirst, IsReadError};
-ghost use Rattle.sfv_examples.specs.Uses.{IsExpectError, GivesToken, RefusesOther, IsLentString, IsStringError};
+ghost use Rattle.sfv_examples.specs.Uses.{BeginsWithComplete, IsExpectError, GivesToken, RefusesOther, IsLentString};
+ghost use Rattle.sfv_examples.specs.Uses.{IsStringError};
 
 use sfv::visitor::{ExpectedItem, ItemFault};
 use sfv::{Dictionary, Item, List, OutOfMemory, ParseError, Parser, StringFromInput, TokenRef};
@@ -42,7 +43,7 @@ pub fn expect<'de, T: ExpectedItem<'de>>(
 /// whatever follows the bare item. Otherwise, if the input is not an item, returns the error of `Parser::parse`.
 pub fn token<'de>(alloc: Global, input: &'de [u8]) -> Result<TokenRef<'de>, ParseError<ItemFault>>
     ensures of_an_item { (raw : RawItem) → IsFieldText Rfc9651 item_field raw input.now → GivesToken raw.bare result }
-    ensures of_another_kind { (value : BareValue) → BeginsWithComplete Rfc9651 value input.now
+    ensures of_another_kind { (value : BareValue) → BeginsWithComplete value input.now
         → RefusesOther value result }
 {
     expect::<TokenRef>(alloc, input)

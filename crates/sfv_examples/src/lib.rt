@@ -4,6 +4,7 @@
 pub mod expecting;
 pub mod foo;
 pub mod lookups;
+pub mod member_integers;
 pub mod reading;
 pub mod rows;
 pub mod serializing;

@@ -65,19 +65,24 @@ impl<'de> ListReader<'de> for LastRow {
 
     type Items = Row;
 
-    ghost keeps = { λ kept head ps. row_value kept ≡ row_in head };
+    ghost keeps = { λ _ kept head ps. row_value kept ≡ row_in head };
 
-    ghost reads = { λ s members. row_value s.row ≡ fold (λ before m. row_of m) None members };
+    ghost reads = { λ _ s members. row_value s.row ≡ fold (λ before m. row_of m) None members };
 
-    fn item(_item: BareItemFromInput<'de>) -> Option<Row> {
+    fn item(&self, _item: BareItemFromInput<'de>) -> Option<Row> {
         None
     }
 
-    fn inner_list(items: Row) -> Option<Row> {
+    fn inner_list(&self, items: Row) -> Option<Row> {
         Some(items)
     }
 
-    fn parameter(_member: &mut Option<Row>, _key: KeyRef<'de>, _value: BareItemFromInput<'de>) {}
+    fn parameter(
+        &self,
+        _member: &mut Option<Row>,
+        _key: KeyRef<'de>,
+        _value: BareItemFromInput<'de>,
+    ) {}
 
     fn member(&mut self, member: Option<Row>) -> Result<(), OutOfMemory> {
         self.row = member;

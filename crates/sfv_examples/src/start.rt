@@ -1,10 +1,8 @@
 //! The first example of the README.
 
 ghost use Rattle.std.specs.Prelude.{IfOk, IfErr};
-ghost use Rattle.sfv.specs.Types.{dictionary_field, Rfc9651};
-ghost use Rattle.sfv.specs.Parsers.{IsParseError};
-ghost use Rattle.sfv.specs.Memory.{NeedsMemory};
-ghost use Rattle.sfv_examples.specs.Uses.{IsWrittenAgain};
+ghost use Rattle.sfv.specs.Field.{dictionary_field, Rfc9651, IsParseError, NeedsMemory};
+ghost use Rattle.sfv_examples.specs.Start.{IsWrittenAgain};
 
 use sfv::{Dictionary, Error, FieldType, Parser};
 use std::alloc::Global;

@@ -6,7 +6,7 @@ ghost use Rattle.sfv.specs.Grammar.{IsAccepted};
 ghost use Rattle.sfv.specs.EventRuns.{key_in};
 ghost use Rattle.sfv_examples.specs.Uses.{counts, HasMembers, IsCountError, IsMemoryError, IsReturnedFor, IsCallError};
 
-use sfv::visitor::{Event, MemoryErrors, Visitor, item_visitor_with};
+use sfv::visitor::{Event, Visitor, item_visitor_with};
 use sfv::{BareItemFromInput, OutOfMemory, ParseError, Parser};
 use std::alloc::Global;
 use std::convert::Infallible;
@@ -61,14 +61,6 @@ pub fn each_key<F: FnMut(&str) + Drop>(
     Parser::new(input).parse_dictionary_with_visitor(alloc, EachKey { visit })
 }
 
-/// A classification of errors: `OutOfMemory`, the function's error, always means out of memory.
-#[derive(Drop)]
-struct OnlyMemory;
-
-impl MemoryErrors<OutOfMemory> for OnlyMemory {
-    ghost is_memory = { λ _. ⊤ };
-}
-
 /// Calls a function with the bare item of an item, and returns its result, which is `Some`. The function fails only if
 /// memory runs out.
 ///
@@ -87,8 +79,7 @@ pub fn with_bare_item<
     ensures failed { IfErr result (IsCallError F.post f input.now) }
     ensures accepted { IsAccepted Rfc9651 item_field input.now → IfErr result (IsMemoryError (λ _. ⊤)) }
 {
-    let visitor = item_visitor_with(f).with_memory_errors::<OnlyMemory>();
-    Parser::new(input).parse_item_with_visitor(alloc, visitor)
+    Parser::new(input).parse_item_with_visitor(alloc, item_visitor_with(f))
 }
 
 /// The error that a dictionary has more members than the limit.

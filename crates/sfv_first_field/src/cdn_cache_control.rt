@@ -20,12 +20,12 @@ impl<'de> DictionaryReader<'de> for MaxAge {
 
     type Items = IgnoredItems;
 
-    ghost text = { λ _. codes "max-age" };
+    ghost text = { λ _ _. codes "max-age" };
 
-    ghost reads = { λ found members.
+    ghost reads = { λ _ found members.
         option_map integer_of found.seconds ≡ age_of (last_of (codes "max-age") members) };
 
-    fn key(key: KeyRef<'de>) -> Option<()> {
+    fn key(&self, key: KeyRef<'de>) -> Option<()> {
         if key.as_str() == "max-age" {
             Some(())
         } else {

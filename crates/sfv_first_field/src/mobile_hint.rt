@@ -1,7 +1,8 @@
 //! The field Sec-CH-UA-Mobile (User-Agent Client Hints): the user agent prefers a page for a mobile device.
 
-ghost use Rattle.std.specs.Prelude.{IfOk, IfErr};
+ghost use Rattle.std.specs.Prelude.{◌≡◌, IfOk, IfErr};
 ghost use Rattle.sfv_first_field.specs.MobileHint.{IsMobileHint, IsHintError};
+ghost use Rattle.sfv_first_field.specs.declared.mobile_hint.HintError.TheVariants as errors;
 
 use sfv::{Error, Item, Parser};
 use std::alloc::Global;
@@ -15,6 +16,14 @@ pub enum HintError {
     WrongType,
 }
 
+impl From<Error> for HintError {
+    ghost from_gives = { λ error hint. hint ≡ errors.Parse error };
+
+    fn from(error: Error) -> HintError {
+        HintError::Parse(error)
+    }
+}
+
 /// Parses the field. Returns its Boolean. Ignores parameters.
 ///
 /// # Errors
@@ -25,10 +34,7 @@ pub fn is_mobile(alloc: Global, input: &[u8]) -> Result<bool, HintError>
     ensures read { IfOk result (IsMobileHint input.now) }
     ensures failed { IfErr result (IsHintError input.now) }
 {
-    let item = match Parser::new(input).parse::<Item>(alloc) {
-        Ok(item) => item,
-        Err(error) => return Err(HintError::Parse(error)),
-    };
+    let item = Parser::new(input).parse::<Item>(alloc)?;
     let Some(mobile) = item.bare_item.as_boolean() else {
         return Err(HintError::WrongType);
     };

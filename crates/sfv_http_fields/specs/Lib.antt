@@ -1,3 +1,4 @@
+pub mod AcceptCh
 pub mod CacheStatus
 pub mod CacheStatusSteps
 pub mod ContentDigests

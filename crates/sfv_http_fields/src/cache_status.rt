@@ -67,13 +67,13 @@ impl<'de> ListReader<'de> for LastHit {
 
     type Items = IgnoredItems;
 
-    ghost keeps = { λ kept head ps. kept_value kept ≡ kept_of head ps };
+    ghost keeps = { λ _ kept head ps. kept_value kept ≡ kept_of head ps };
 
-    ghost reads = { λ s members. hit_value s.found ≡ last_hit_of members };
+    ghost reads = { λ _ s members. hit_value s.found ≡ last_hit_of members };
 
     ghost may_fail = { ⊥ };
 
-    fn item(item: BareItemFromInput<'de>) -> Cache {
+    fn item(&self, item: BareItemFromInput<'de>) -> Cache {
         Cache {
             is_named: names_cache(item.as_ref_item()),
             hit: false,
@@ -81,7 +81,7 @@ impl<'de> ListReader<'de> for LastHit {
         }
     }
 
-    fn inner_list(_items: IgnoredItems) -> Cache {
+    fn inner_list(&self, _items: IgnoredItems) -> Cache {
         Cache {
             is_named: false,
             hit: false,
@@ -89,7 +89,7 @@ impl<'de> ListReader<'de> for LastHit {
         }
     }
 
-    fn parameter(member: &mut Cache, key: KeyRef<'de>, value: BareItemFromInput<'de>) {
+    fn parameter(&self, member: &mut Cache, key: KeyRef<'de>, value: BareItemFromInput<'de>) {
         if key.as_str() == "hit" {
             member.hit = true_of(value.as_ref_item());
         } else if key.as_str() == "ttl" {

@@ -26,8 +26,6 @@ impl<'de, 'a> Visitor<'de> for Tracing<'a> {
 
     ghost finish_fails = { λ _ _. ⊥ };
 
-    ghost is_memory = { λ _. ⊥ };
-
     fn event(&mut self, event: Event<'de>) -> Result<(), Error> {
         let digit = match &event {
             Event::Entry => 1,

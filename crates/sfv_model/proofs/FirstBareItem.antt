@@ -1,35 +1,46 @@
 -- A bare item that stands first in the text of an item is read, whatever follows where it ends.
-use Rattle.std.proofs.Common.{◌≡◌, List, [], ◌++◌, length, take, drop, Ok, ℕ, refl, sym, ap, ◌∙◌, append_assoc, arith}
+use Rattle.std.proofs.Common.{◌≡◌, List, [], ◌++◌, length, take, drop, Result, Ok, ℕ, ◌<◌, ◌+◌, refl, sym, ap, subst, ◌∙◌, arith}
+use Rattle.std.proofs.Common.{append_assoc}
 use Rattle.std.proofs.lemmas.List.{append-nil, take_at, take-append-drop, length-append, length-take-le}
 use Rattle.sfv_spec.proofs.Marks.{space, is_space}
 use Rattle.sfv_spec.specs.Values.{BareValue}
 use Rattle.sfv_spec.specs.declared.version.Version.{Version}
-use Rattle.sfv_spec.specs.Texts.{IsLongestBeginning}
-use Rattle.sfv_spec.specs.Grammar.{IsBareText, BeginsWithComplete}
-use Rattle.sfv_model.specs.Reader.{span}
+use Rattle.sfv_spec.specs.Texts.{IsLongestBeginning, ◌⨾◌}
+use Rattle.sfv_spec.specs.Grammar.{Spaces, IsBareText, IsEnded, BeginsWithLongest}
+use Rattle.sfv_model.specs.Reader.{Fault, span}
 use Rattle.sfv_model.specs.Bare.{bare_at}
 use Rattle.sfv_model.specs.Items.{item_of}
 use Rattle.sfv_model.specs.Claims.{BeginsWithBare}
-use Rattle.sfv_model.proofs.LongestBareItem.{ended_apart}
+use Rattle.sfv_model.proofs.LongestBareItem.{ended_apart, bare_is_exact}
 use Rattle.sfv_model.proofs.complete.Combinators.{span_complete}
 use Rattle.sfv_model.proofs.complete.Bare.{bare_complete}
 use Rattle.sfv_model.proofs.complete.Items.{item_no}
 
+-- after spaces, a text of this bare value, and a bare item may end there
+abbrev pub BeginsWithComplete : Version → BareValue → List ℕ → Type 0
+BeginsWithComplete version value = Spaces ⨾ IsBareText version value ⨾ IsEnded
+
+-- the spaces before a bare item
+spaces_read : (version : Version) (value : BareValue) (t spaces front rest : List ℕ) → t ≡ spaces ++ front ++ rest
+    → Spaces spaces → IsBareText version value front → span is_space t ≡ Ok (spaces, front ++ rest)
+spaces_read version value t spaces front rest text blank means =
+    ap (span is_space) (text ∙ append_assoc spaces front rest)
+    ∙ span_complete is_space spaces (front ++ rest) blank
+    (item_no space version (item_of value []) front rest refl (record {
+      front = front;
+      back = [];
+      text = sym (append-nil front);
+      first = means;
+      second = record { pieces = []; text = refl; each = tt };
+    }))
+
 pub first_bare : (version : Version) (value : BareValue) (t : List ℕ) (h : BeginsWithComplete version value t)
-    → (span is_space t ≡ Ok (h.first.spaces, h.first.front ++ h.first.rest))
-    × (bare_at version (h.first.front ++ h.first.rest) ≡ Ok (value, h.first.rest))
+    → (span is_space t ≡ Ok (h.front, h.back)) × (bare_at version h.back ≡ Ok (value, h.second.back))
 first_bare version value t h =
-    let f = h.first in (
-      ap (span is_space) (f.text ∙ append_assoc f.spaces f.front f.rest)
-          ∙ span_complete is_space f.spaces (f.front ++ f.rest) f.blank
-          (item_no space version (item_of value []) f.front f.rest refl (record {
-            front = f.front;
-            back = [];
-            text = sym (append-nil f.front);
-            first = f.means;
-            second = record { pieces = []; text = refl; each = tt };
-          })),
-      bare_complete version value f.front f.rest f.means (ended_apart f.rest h.ended),
+    let k = h.second in (
+      spaces_read version value t h.front k.front k.back (h.text ∙ ap (λ (l : List ℕ). h.front ++ l) k.text ∙ sym (append_assoc h.front k.front k.back)) h.first
+          k.first ∙ ap (λ (l : List ℕ). Ok (h.front, l)) (sym k.text),
+      ap (bare_at version) k.text ∙ bare_complete version value k.front k.back k.first (ended_apart k.back k.second),
     )
 
 -- and what is read is the longest text of one
@@ -44,3 +55,26 @@ longest_read version t value rest h = record {
       (h.text ∙ sym (take-append-drop m (h.front ++ rest))) some in
       omega (arith, more, short, length-take-le m (h.front ++ rest) within);
 }
+
+-- a complete bare item is the longest one
+pub complete_is_longest : (version : Version) (value other : BareValue) (t : List ℕ) → BeginsWithComplete version value t
+    → BeginsWithLongest version other t → other ≡ value
+complete_is_longest version value other t h l =
+    let read = first_bare version value t h in
+    let spaced = spaces_read version other t l.spaces l.front l.rest l.text l.blank l.means in
+    let here : h.back ≡ l.front ++ l.rest =
+    (let both : Result (List ℕ × List ℕ) Fault = Ok (h.front, h.back) in
+    let same : both ≡ Ok (l.spaces, l.front ++ l.rest) = sym read.0 ∙ spaced in
+    let parts : ◌≡◌ {A = List ℕ × List ℕ} (h.front, h.back) (l.spaces, l.front ++ l.rest) = cc in
+    ap (λ (p : List ℕ × List ℕ). p.1) parts) in
+    let b = bare_is_exact.0 version h.back value h.second.back read.1 in
+    let no_longer = b.longest l.front l.rest here (other, l.means) in
+    let whole : l.front ++ l.rest ≡ b.front ++ h.second.back = sym here ∙ b.text in
+    let size : length (l.front ++ l.rest) ≡ length b.front + length (h.second.back) =
+    ap (length {A = ℕ}) whole ∙ length-append b.front h.second.back in
+    let no_shorter : ¬ (length l.front < length b.front) = λ less. l.longest.longest (length b.front) less
+    (omega (arith, size)) (value, rw (whole, take_at b.front h.second.back (length b.front) refl) b.means) in
+    let n : length l.front ≡ length b.front = omega (arith, no_longer, no_shorter) in
+    let same : l.front ≡ b.front = sym (take_at l.front l.rest (length l.front) refl)
+    ∙ ap (take (length l.front)) whole ∙ take_at b.front h.second.back (length l.front) (sym n) in
+    b.only other (subst (IsBareText version other) same l.means)

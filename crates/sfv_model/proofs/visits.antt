@@ -5,3 +5,4 @@ pub mod EventsBeforeRuleAlike
 pub mod EventsBeforeRule
 pub mod BareFaultOffReach
 pub mod EventsBeforeReach
+pub mod EventsExpected

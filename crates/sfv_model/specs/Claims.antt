@@ -10,7 +10,6 @@ use Rattle.sfv_spec.specs.declared.version.Version.{Version}
 use Rattle.sfv_spec.specs.Grammar.{IsBareText, IsFieldText, IsEnded}
 use Rattle.sfv_spec.specs.Events.{events}
 use Rattle.sfv_spec.specs.Reach.{IsReach}
-use Rattle.sfv_spec.specs.Visiting.{BeginsEventsAfter}
 use Rattle.sfv_spec.specs.Base64.{IsBase64Text, symbols}
 use Rattle.sfv_spec.specs.declared.error_kind.ErrorKind.TheVariants.{TrailingComma, UnterminatedByteSequence}
 use Rattle.sfv_model.specs.Commas.{IsTrailingComma}
@@ -18,7 +17,7 @@ use Rattle.sfv_model.specs.Reader.{has_rule, Fault, by_rule, visited}
 use Rattle.sfv_model.specs.Content.{valid_from, bytes_of, fault_place, HasNoColon, content_fault}
 use Rattle.sfv_model.specs.Bare.{bare_at}
 use Rattle.sfv_model.specs.Fields.{whole_field_at, read_field}
-use Rattle.sfv_model.specs.Visits.{BeginsEvents}
+use Rattle.sfv_model.specs.Visits.{BeginsEvents, BeginsEventsAfter}
 
 -- A fault is at the reach, or its index has a rule. The events before it are a prefix of the events of some field.
 pub record IsPlacedFault (version : Version) (kind : FieldKind) (t : List ℕ) (e : Fault) : Type 0 where

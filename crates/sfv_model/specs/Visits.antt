@@ -1,8 +1,10 @@
 -- A visitor and the events of a reader's result. As in the trait `Visitor`: `takes s e after`, `fails s e fault`.
-use Rattle.std.specs.Prelude.{◌≡◌, List, ◌∷◌, ◌++◌}
+use Rattle.std.specs.Prelude.{◌≡◌, ℕ, List, ◌∷◌, ◌++◌}
 use Rattle.std.specs.List.{FoldsTo}
 use Rattle.sfv_spec.specs.Values.{RawField, IsFieldValue}
 use Rattle.sfv_spec.specs.declared.field_kind.FieldKind.{FieldKind}
+use Rattle.sfv_spec.specs.declared.version.Version.{Version}
+use Rattle.sfv_spec.specs.Grammar.{IsFieldText}
 use Rattle.sfv_spec.specs.Events.{TreeEvent, events}
 use Rattle.sfv_model.specs.Reader.{Answer, visited}
 
@@ -28,3 +30,11 @@ pub record BeginsEvents (kind : FieldKind) (es : List TreeEvent) : Type 0 where
   pub is_value : IsFieldValue kind raw
   pub more : List TreeEvent
   pub all : events kind raw ≡ es ++ more
+
+-- es is a prefix of the events of some field of this type whose text begins with u
+pub record BeginsEventsAfter (version : Version) (kind : FieldKind) (u : List ℕ) (es : List TreeEvent) : Type 0 where
+  pub raw : RawField kind
+  pub more : List ℕ
+  pub accepted : IsFieldText version kind raw (u ++ more)
+  pub others : List TreeEvent
+  pub all : events kind raw ≡ es ++ others

@@ -14,13 +14,17 @@ use Rattle.sfv_readers.specs.Steps.{WithinKey, DictionaryTakes}
 use Rattle.sfv_readers.proofs.Puts.{put_all, all_put, collapse-over}
 use Rattle.sfv_readers.proofs.Runs.{split_run, items_known, on_none, on_some}
 
-module _ {R K I : Type 0} (inner : I → List RawItem → Type 0) (text : K → List ℕ)
-    (reads : R → List (List ℕ × RawMember) → Type 0) where
+module _ {R K I : Type 0} (inner : I → List RawItem → Type 0) (text : R → K → List ℕ)
+    (from : R → R → List (List ℕ × RawMember) → Type 0) (start : R) where
+  -- the state after these members, from this start
+  abbrev reads : R → List (List ℕ × RawMember) → Type 0
+  reads s ms = from start s ms
+
   abbrev Visitor : Type 0
   Visitor = DictionaryVisitor R K I
 
   abbrev Takes : Visitor → TreeEvent → Visitor → Type 0
-  Takes s e after = DictionaryTakes inner text reads s e after
+  Takes s e after = DictionaryTakes inner text from s e after
 
   -- Within a member whose key does not matter, and within an inner list, the reader is unchanged.
   module _ (r : R) (o : Option K) where
@@ -54,7 +58,7 @@ module _ {R K I : Type 0} (inner : I → List RawItem → Type 0) (text : K → 
         parameters_passed ps run.0 to (passed.0 ∙ h.0, passed.1, passed.2 ∙ h.2) run.2
 
     abbrev InItems : Visitor → List RawItem → Type 0
-    InItems s xs = Idle s × WithinKey inner text reads s xs
+    InItems s xs = Idle s × WithinKey inner text from s xs
 
     begins : (s after : Visitor) (xs : List RawItem) → InItems s xs → Takes s begins_item after → InItems after xs
     begins s after xs h same = subst (λ (s : Visitor). InItems s xs) (sym same) h
@@ -63,7 +67,7 @@ module _ {R K I : Type 0} (inner : I → List RawItem → Type 0) (text : K → 
         → InItems after (xs ++ raw_item b [] ∷ [])
     bare s after xs b h taken =
         let idle : Idle s = h.0 in
-        let there : WithinKey inner text reads s xs = h.1 in
+        let there : WithinKey inner text from s xs = h.1 in
         (idle_bare s after xs b idle taken, on_some _ _ s.items there.0 there.1 (on_none _ _ s.key idle.1 taken).1 xs there.2)
 
     entered : (s after : Visitor) (xs : List RawItem) (b : BareValue) (ps : RawParameters) (k : List ℕ) (v : BareValue)
@@ -71,7 +75,7 @@ module _ {R K I : Type 0} (inner : I → List RawItem → Type 0) (text : K → 
         → InItems after (xs ++ raw_item b (put ps k v) ∷ [])
     entered s after xs b ps k v h taken =
         let idle : Idle s = h.0 in
-        let there : WithinKey inner text reads s (xs ++ raw_item b ps ∷ []) = h.1 in (
+        let there : WithinKey inner text from s (xs ++ raw_item b ps ∷ []) = h.1 in (
           idle_entered s after xs b ps k v idle taken,
           on_some _ _ s.items there.0 there.1 (on_none _ _ s.key idle.1 taken).1 xs b ps there.2,
         )
@@ -85,13 +89,13 @@ module _ {R K I : Type 0} (inner : I → List RawItem → Type 0) (text : K → 
 
   -- parameters of a member whose key matters
   parameters_read : (key : K) (head : Head) (ps done : RawParameters) (ms : List (List ℕ × RawMember)) (s to : Visitor)
-      → s.key ≡ Some key → reads s.reader (put ms (text key) (member_of head done))
-      → FoldsTo Takes s (parameters_events ps) to → reads to.reader (put ms (text key) (member_of head (put_all done ps)))
+      → s.key ≡ Some key → reads s.reader (put ms (text start key) (member_of head done))
+      → FoldsTo Takes s (parameters_events ps) to → reads to.reader (put ms (text start key) (member_of head (put_all done ps)))
   parameters_read key head [] done ms s to k h run =
-      subst (λ (s : Visitor). reads s.reader (put ms (text key) (member_of head done))) (sym run.1 ∙ run.2) h
+      subst (λ (s : Visitor). reads s.reader (put ms (text start key) (member_of head done))) (sym run.1 ∙ run.2) h
   parameters_read key head (p ∷ ps) done ms s to k h run =
       let step = on_some _ _ s.key key k run.1 in
-      parameters_read key head ps (put done p.0 p.1) ms run.0 to (step.0 ∙ k) (step.1 ms head done h) run.2
+      parameters_read key head ps (put done p.0 p.1) ms run.0 to (step.0 ∙ k) (step.1 start ms head done h) run.2
 
   member_passed : (m : RawMember) (s to : Visitor) → s.key ≡ None → FoldsTo Takes s (member_events m) to
       → to.reader ≡ s.reader
@@ -112,28 +116,28 @@ module _ {R K I : Type 0} (inner : I → List RawItem → Type 0) (text : K → 
 
   member_read : (key : K) (m : RawMember) (ms : List (List ℕ × RawMember)) (s to : Visitor)
       → s.key ≡ Some key → reads s.reader ms → FoldsTo Takes s (member_events m) to
-      → reads to.reader (put ms (text key) (ordered_member m))
+      → reads to.reader (put ms (text start key) (ordered_member m))
   member_read key (item i) ms s to k h run =
       let there = ap (λ (s : Visitor). s.key) run.1 ∙ k in
       let bare = on_some _ _ run.0.key key there run.2.1 in
       let read = parameters_read key (of_item i.bare) i.parameters [] ms run.2.0 to (bare.0 ∙ there)
-      (bare.1 ms (subst (λ (s : Visitor). reads s.reader ms) (sym run.1) h)) run.2.2 in
-      subst (λ (ps : RawParameters). reads to.reader (put ms (text key) (item (raw_item i.bare ps)))) (all_put i.parameters)
+      (bare.1 start ms (subst (λ (s : Visitor). reads s.reader ms) (sym run.1) h)) run.2.2 in
+      subst (λ (ps : RawParameters). reads to.reader (put ms (text start key) (item (raw_item i.bare ps)))) (all_put i.parameters)
       read
   member_read key (inner_list l) ms s to k h run =
       let begun = run.1 in
       let parts = split_run Takes (flat_map inner_item_events l.items) (inner_list_end ∷ parameters_events l.parameters)
       run.0 to run.2 in
-      let empty : WithinKey inner text reads run.0 [] = on_some _ _ s.key key k begun.3 in
+      let empty : WithinKey inner text from run.0 [] = on_some _ _ s.key key k begun.3 in
       let inside = items_read s.reader (Some key) l.items run.0 parts.0 ((begun.0, begun.1, begun.2 ∙ k), empty) parts.1 in
       let idle : Idle s.reader (Some key) parts.0 = inside.0 in
-      let there : WithinKey inner text reads parts.0 (map ordered_item l.items) = inside.1 in
+      let there : WithinKey inner text from parts.0 (map ordered_item l.items) = inside.1 in
       let end = parts.2.1 in
       let taken = on_some _ _ parts.0.items there.0 there.1 (on_some _ _ parts.0.outer key idle.2 end.1) in
       let read = parameters_read key (of_inner_list (map ordered_item l.items)) l.parameters [] ms parts.2.0 to
-      (end.0 ∙ idle.2) (taken ms (map ordered_item l.items) there.2 (subst (λ (r : R). reads r ms) (sym idle.0) h))
+      (end.0 ∙ idle.2) (taken start ms (map ordered_item l.items) there.2 (subst (λ (r : R). reads r ms) (sym idle.0) h))
       parts.2.2 in
-      subst (λ (ps : RawParameters). reads to.reader (put ms (text key) (inner_list (record {
+      subst (λ (ps : RawParameters). reads to.reader (put ms (text start key) (inner_list (record {
         items = map ordered_item l.items;
         parameters = ps;
       })))) (all_put l.parameters) read
@@ -148,11 +152,11 @@ module _ {R K I : Type 0} (inner : I → List RawItem → Type 0) (text : K → 
 
       by : (o : Option K) → begun.key ≡ o → reads to.reader (put ms k (ordered_member m))
       by None e =
-          let ignored : IsIgnored reads k = on_none _ _ begun.key e taken.1 in
+          let ignored : IsIgnored from s.reader k = on_none _ _ begun.key e taken.1 in
           subst (λ (r : R). reads r (put ms k (ordered_member m))) (sym (member_passed m begun to e run))
-          (ignored begun.reader ms (ordered_member m) there)
+          (subst (λ (r : R). reads r (put ms k (ordered_member m))) (sym taken.0) (ignored start ms (ordered_member m) h))
       by (Some key) e =
-          let named : text key ≡ k = on_some _ _ begun.key key e taken.1 in
+          let named : text start key ≡ k = on_some _ _ begun.key key e taken.1 start ms h in
           subst (λ (k : List ℕ). reads to.reader (put ms k (ordered_member m))) named
           (member_read key m ms begun to e there run)
 

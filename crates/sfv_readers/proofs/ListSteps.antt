@@ -13,13 +13,17 @@ use Rattle.sfv_readers.specs.Steps.{Keeps, Within, ListTakes}
 use Rattle.sfv_readers.proofs.Puts.{put_all, all_put}
 use Rattle.sfv_readers.proofs.Runs.{split_run, items_known, head_there, parameters_there, on_none, on_some}
 
-module _ {R M I : Type 0} (inner : I → List RawItem → Type 0) (keeps : M → Head → RawParameters → Type 0)
-    (reads : R → List RawMember → Type 0) where
+module _ {R M I : Type 0} (inner : I → List RawItem → Type 0) (keeps : R → M → Head → RawParameters → Type 0)
+    (from : R → R → List RawMember → Type 0) (start : R) where
+  -- the state after these members, from this start
+  abbrev reads : R → List RawMember → Type 0
+  reads s ms = from start s ms
+
   abbrev Visitor : Type 0
   Visitor = ListVisitor R M I
 
   abbrev Takes : Visitor → TreeEvent → Visitor → Type 0
-  Takes s e after = ListTakes inner keeps reads s e after
+  Takes s e after = ListTakes inner keeps from s e after
 
   -- between members
   abbrev Read : Visitor → List RawMember → Type 0
@@ -27,12 +31,12 @@ module _ {R M I : Type 0} (inner : I → List RawItem → Type 0) (keeps : M →
 
   -- within a member, in this state
   abbrev InMember : Visitor → Head → RawParameters → List RawMember → Type 0
-  InMember s head ps ms = (s.items ≡ None) × Keeps inner keeps reads s head ps × reads s.reader ms
+  InMember s head ps ms = (s.items ≡ None) × Keeps inner keeps from s head ps × reads s.reader ms
 
   -- within an inner list, after these items
   module _ (r : R) where
     abbrev InItems : Visitor → List RawItem → Type 0
-    InItems s xs = (s.reader ≡ r) × Within inner keeps reads s xs
+    InItems s xs = (s.reader ≡ r) × Within inner keeps from s xs
 
     begins : (s after : Visitor) (xs : List RawItem) → InItems s xs → Takes s begins_item after → InItems after xs
     begins s after xs h same = subst (λ (s : Visitor). InItems s xs) (sym same) h
@@ -40,19 +44,19 @@ module _ {R M I : Type 0} (inner : I → List RawItem → Type 0) (keeps : M →
     bare : (s after : Visitor) (xs : List RawItem) (b : BareValue) → InItems s xs → Takes s (bare_item b) after
         → InItems after (xs ++ raw_item b [] ∷ [])
     bare s after xs b h taken =
-        let there : Within inner keeps reads s xs = h.1 in
+        let there : Within inner keeps from s xs = h.1 in
         (taken.0 ∙ h.0, on_some _ _ s.items there.0 there.1 taken.1 xs there.2)
 
     entered : (s after : Visitor) (xs : List RawItem) (b : BareValue) (ps : RawParameters) (k : List ℕ) (v : BareValue)
         → InItems s (xs ++ raw_item b ps ∷ []) → Takes s (parameter k v) after
         → InItems after (xs ++ raw_item b (put ps k v) ∷ [])
     entered s after xs b ps k v h taken =
-        let there : Within inner keeps reads s (xs ++ raw_item b ps ∷ []) = h.1 in
+        let there : Within inner keeps from s (xs ++ raw_item b ps ∷ []) = h.1 in
         (taken.0 ∙ h.0, on_some _ _ s.items there.0 there.1 taken.1 xs b ps there.2)
 
     ends : (s after : Visitor) (xs : List RawItem) → InItems s xs → Takes s parameters_end after → InItems after xs
     ends s after xs h taken =
-        let there : Within inner keeps reads s xs = h.1 in
+        let there : Within inner keeps from s xs = h.1 in
         subst (λ (s : Visitor). InItems s xs) (sym (on_some _ _ s.items there.0 there.1 taken)) h
 
     items_read : (items : List RawItem) (s to : Visitor) → InItems s []
@@ -64,10 +68,10 @@ module _ {R M I : Type 0} (inner : I → List RawItem → Type 0) (keeps : M →
       → Read to (ms ++ member_of head (put_all done ps) ∷ [])
   parameters_read head [] done ms s to h run =
       let end = on_none _ _ s.items h.0 run.1 in
-      let kept : Keeps inner keeps reads s (head_of (member_of head done)) (parameters_of (member_of head done)) =
+      let kept : Keeps inner keeps from s (head_of (member_of head done)) (parameters_of (member_of head done)) =
       rw (head_there head done, parameters_there head done) (h.1) in
       subst (λ (s : Visitor). Read s (ms ++ member_of head done ∷ [])) run.2
-      (end.0, end.1 (member_of head done) ms kept h.2)
+      (end.0, end.1 start (member_of head done) ms kept h.2)
   parameters_read head (p ∷ ps) done ms s to h run =
       let step = on_none _ _ s.items h.0 run.1.1 in
       parameters_read head ps (put done p.0 p.1) ms run.0 to
@@ -85,7 +89,7 @@ module _ {R M I : Type 0} (inner : I → List RawItem → Type 0) (keeps : M →
       let parts = split_run Takes (flat_map inner_item_events l.items) (inner_list_end ∷ parameters_events l.parameters)
       run.0 to run.2 in
       let inside = items_read s.reader l.items run.0 parts.0 run.1 parts.1 in
-      let there : Within inner keeps reads parts.0 (map ordered_item l.items) = inside.1 in
+      let there : Within inner keeps from parts.0 (map ordered_item l.items) = inside.1 in
       let end = on_some _ _ parts.0.items there.0 there.1 parts.2.1 in
       let read = parameters_read (of_inner_list (map ordered_item l.items)) l.parameters [] ms parts.2.0 to (
         end.1,

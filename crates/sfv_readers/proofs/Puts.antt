@@ -76,6 +76,11 @@ pub last_of_put : {A : Type 0} (key : List ℕ) (ps : List (List ℕ × A)) (k :
     → last_of key (put ps k v) ≡ cond (bytes_eq k key) (Some v) (last_of key ps)
 last_of_put key ps k v = of_put (λ o. o) key ps k v
 
+-- the pair with this key, where the key is known at run time
+pub last_of_same : {A : Type 0} (key : List ℕ) (ps : List (List ℕ × A)) (v : A) → last_of key (put ps key v) ≡ Some v
+last_of_same {A} key ps v = last_of_put key ps key v
+    ∙ ap (λ (b : Bool). cond b (Some v) (last_of key ps)) ((bytes_eq-Decides key key).1 refl)
+
 -- a fold over one more element
 pub fold_more : {A B : Type 0} (f : B → A → B) (x : B) (ys : List A) (y : A) → fold f x (ys ++ y ∷ []) ≡ f (fold f x ys) y
 fold_more f x ys y = fold-append f x ys (y ∷ [])

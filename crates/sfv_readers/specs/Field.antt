@@ -5,6 +5,7 @@ pub use Rattle.sfv.specs.Field.{display_string, RawParameters, RawItem, RawInner
 pub use Rattle.sfv.specs.Field.{RawField, IsFieldValue, HasMember, IsFieldText, IsAccepted}
 unfoldable pub use Rattle.sfv.specs.Field.{last_of}
 pub use Rattle.sfv.specs.Field.{ordered, ordered_member, IsParsedAs, IsValue, IsSerializedAs, canonical, Fits}
+pub use Rattle.sfv.specs.Field.{member_text, inner_list_text, inner_list_tree, NeedsMemory}
 pub use Rattle.sfv.specs.Field.{ErrorKind, IsFaultAt, TreeEvent, entry, keyed_entry, begins_item, begins_inner_list}
 pub use Rattle.sfv.specs.Field.{bare_item, parameter, parameters_end, inner_list_end, parameters_events, member_events}
 pub use Rattle.sfv.specs.Field.{entry_events, keyed_events, events, integer_of, thousandths_of, seconds_of, index_of}

@@ -4,15 +4,15 @@ use Rattle.sfv_spec.specs.Values.{BareValue, RawItem, RawParameters, RawMember}
 use Rattle.sfv_spec.specs.Events.{TreeEvent, entry, keyed_entry, begins_item, begins_inner_list, bare_item, parameter}
 use Rattle.sfv_spec.specs.Events.{parameters_end, inner_list_end}
 use Rattle.sfv_readers.specs.Words.{Head, of_item, of_inner_list, member_of, head_of, parameters_of, raw_item, put}
-use Rattle.sfv_readers.specs.Words.{IsIgnored}
+use Rattle.sfv_readers.specs.Words.{IsKeyFor}
 use Rattle.sfv_readers.specs.declared.list.ListVisitor.{ListVisitor}
 use Rattle.sfv_readers.specs.declared.dictionary.DictionaryVisitor.{DictionaryVisitor}
 
-module _ {R M I : Type 0} (inner : I → List RawItem → Type 0) (keeps : M → Head → RawParameters → Type 0)
-    (reads : R → List RawMember → Type 0) where
+module _ {R M I : Type 0} (inner : I → List RawItem → Type 0) (keeps : R → M → Head → RawParameters → Type 0)
+    (reads : R → R → List RawMember → Type 0) where
   -- the visitor keeps the state of a member with this head and these parameters
   abbrev pub Keeps : ListVisitor R M I → Head → RawParameters → Type 0
-  Keeps s head ps = (m : M) × (s.member ≡ Some m) × keeps m head ps
+  Keeps s head ps = (m : M) × (s.member ≡ Some m) × keeps s.reader m head ps
 
   -- within an inner list, after these items
   abbrev pub Within : ListVisitor R M I → List RawItem → Type 0
@@ -35,8 +35,8 @@ module _ {R M I : Type 0} (inner : I → List RawItem → Type 0) (keeps : M →
   -- reader.
   abbrev pub TakesEnd : ListVisitor R M I → ListVisitor R M I → Type 0
   TakesEnd s after = MatchOption s.items
-      ((after.items ≡ None) × ((m : RawMember) (ms : List RawMember) → Keeps s (head_of m) (parameters_of m)
-      → reads s.reader ms → reads after.reader (ms ++ m ∷ [])))
+      ((after.items ≡ None) × ((start : R) (m : RawMember) (ms : List RawMember)
+      → Keeps s (head_of m) (parameters_of m) → reads start s.reader ms → reads start after.reader (ms ++ m ∷ [])))
       (λ i. after ≡ s)
 
   -- the end of the items of an inner list, which are now the head of the member
@@ -55,8 +55,8 @@ module _ {R M I : Type 0} (inner : I → List RawItem → Type 0) (keeps : M →
   ListTakes s (keyed_entry k) after = after ≡ s
   ListTakes s begins_item after = after ≡ s
 
-module _ {R K I : Type 0} (inner : I → List RawItem → Type 0) (text : K → List ℕ)
-    (reads : R → List (List ℕ × RawMember) → Type 0) where
+module _ {R K I : Type 0} (inner : I → List RawItem → Type 0) (text : R → K → List ℕ)
+    (reads : R → R → List (List ℕ × RawMember) → Type 0) where
   -- within an inner list whose key matters, after these items
   abbrev pub WithinKey : DictionaryVisitor R K I → List RawItem → Type 0
   WithinKey s xs = (i : I) × (s.items ≡ Some i) × inner i xs
@@ -67,7 +67,7 @@ module _ {R K I : Type 0} (inner : I → List RawItem → Type 0) (text : K → 
 
   -- the start of a member: the visitor keeps its key, or the member is ignored
   abbrev pub TakesKey : DictionaryVisitor R K I → List ℕ → DictionaryVisitor R K I → Type 0
-  TakesKey s k after = (after.reader ≡ s.reader) × MatchOption after.key (IsIgnored reads k) (λ key. text key ≡ k)
+  TakesKey s k after = (after.reader ≡ s.reader) × IsKeyFor reads text s.reader k after.key
 
   -- the start of an inner list: the visitor has no item yet, if the key matters
   abbrev pub TakesItems : DictionaryVisitor R K I → DictionaryVisitor R K I → Type 0
@@ -80,23 +80,23 @@ module _ {R K I : Type 0} (inner : I → List RawItem → Type 0) (text : K → 
   TakesBare s b after = MatchOption s.key
       (Passes s after × MatchOption s.items ⊤ (λ i. (xs : List RawItem) → inner i xs
       → WithinKey after (xs ++ raw_item b [] ∷ [])))
-      (λ key. (after.key ≡ s.key) × ((ms : List (List ℕ × RawMember)) → reads s.reader ms
-      → reads after.reader (put ms (text key) (member_of (of_item b) []))))
+      (λ key. (after.key ≡ s.key) × ((start : R) (ms : List (List ℕ × RawMember)) → reads start s.reader ms
+      → reads start after.reader (put ms (text start key) (member_of (of_item b) []))))
 
   -- A parameter: if its key matters, the member has one more. Within an inner list, its last item has one more.
   abbrev pub TakesParam : DictionaryVisitor R K I → List ℕ → BareValue → DictionaryVisitor R K I → Type 0
   TakesParam s k v after = MatchOption s.key
       (Passes s after × MatchOption s.items ⊤ (λ i. (xs : List RawItem) (b : BareValue) (ps : RawParameters)
       → inner i (xs ++ raw_item b ps ∷ []) → WithinKey after (xs ++ raw_item b (put ps k v) ∷ [])))
-      (λ key. (after.key ≡ s.key) × ((ms : List (List ℕ × RawMember)) (head : Head) (ps : RawParameters)
-      → reads s.reader (put ms (text key) (member_of head ps))
-      → reads after.reader (put ms (text key) (member_of head (put ps k v)))))
+      (λ key. (after.key ≡ s.key) × ((start : R) (ms : List (List ℕ × RawMember)) (head : Head) (ps : RawParameters)
+      → reads start s.reader (put ms (text start key) (member_of head ps))
+      → reads start after.reader (put ms (text start key) (member_of head (put ps k v)))))
 
   -- the end of the items of an inner list: if its key matters, the member is now the inner list without parameters
   abbrev pub TakesEndOfItems : DictionaryVisitor R K I → DictionaryVisitor R K I → Type 0
   TakesEndOfItems s after = (after.key ≡ s.outer) × MatchOption s.outer (after.reader ≡ s.reader) (λ key.
-      MatchOption s.items ⊤ (λ i. (ms : List (List ℕ × RawMember)) (xs : List RawItem) → inner i xs → reads s.reader ms
-      → reads after.reader (put ms (text key) (member_of (of_inner_list xs) []))))
+      MatchOption s.items ⊤ (λ i. (start : R) (ms : List (List ℕ × RawMember)) (xs : List RawItem) → inner i xs
+      → reads start s.reader ms → reads start after.reader (put ms (text start key) (member_of (of_inner_list xs) []))))
 
   -- the step of the visitor of a dictionary at each event; the end of parameters changes nothing
   abbrev pub DictionaryTakes : DictionaryVisitor R K I → TreeEvent → DictionaryVisitor R K I → Type 0

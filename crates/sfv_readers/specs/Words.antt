@@ -1,5 +1,5 @@
 -- Definitions for readers: the head of a member, its parameters, and a pair that is put into a map.
-use Rattle.std.specs.Prelude.{◌≡◌, ℕ, List, [], ◌∷◌, ◌++◌, ◌⊎◌}
+use Rattle.std.specs.Prelude.{◌≡◌, ℕ, List, [], ◌∷◌, ◌++◌, ◌⊎◌, Option, MatchOption}
 use Rattle.sfv_spec.specs.Values.{RawField, BareValue, RawItem, RawParameters, RawMember, item, inner_list}
 use Rattle.sfv_spec.specs.declared.field_kind.FieldKind.{FieldKind}
 use Rattle.sfv_spec.specs.declared.version.Version.{Version}
@@ -66,30 +66,42 @@ AddsParameter keeps old new key value =
     (head : Head) (ps : RawParameters) → keeps old head ps → keeps new head (put ps key value)
 
 -- the list with one more member
-abbrev pub AddsMember : {R M : Type 0} → (R → List RawMember → Type 0) → (M → Head → RawParameters → Type 0) → R → R
-    → M → Type 0
-AddsMember reads keeps old new member = (m : RawMember) (ms : List RawMember)
-    → keeps member (head_of m) (parameters_of m) → reads old ms → reads new (ms ++ m ∷ [])
+abbrev pub AddsMember : {R M : Type 0} → (R → R → List RawMember → Type 0) → (R → M → Head → RawParameters → Type 0)
+    → R → R → M → Type 0
+AddsMember {R} reads keeps old new member = (start : R) (m : RawMember) (ms : List RawMember)
+    → keeps old member (head_of m) (parameters_of m) → reads start old ms → reads start new (ms ++ m ∷ [])
 
 -- the members of a dictionary with their keys
 abbrev pub Members : Type 0
 Members = List (List ℕ × RawMember)
 
 -- a member with this key changes nothing
-abbrev pub IsIgnored : {R : Type 0} → (R → Members → Type 0) → List ℕ → Type 0
-IsIgnored {R} reads key = (s : R) (ms : Members) (m : RawMember) → reads s ms → reads s (put ms key m)
+abbrev pub IsIgnored : {R : Type 0} → (R → R → Members → Type 0) → R → List ℕ → Type 0
+IsIgnored {R} reads s key =
+    (start : R) (ms : Members) (m : RawMember) → reads start s ms → reads start s (put ms key m)
+
+-- this key has this text
+abbrev pub IsNamed : {R K : Type 0} → (R → R → Members → Type 0) → (R → K → List ℕ) → R → List ℕ → K → Type 0
+IsNamed {R} reads text s name key = (start : R) (ms : Members) → reads start s ms → text start key ≡ name
+
+-- The answer for the key of a member: a key with this text; or none, if the member changes nothing.
+abbrev pub IsKeyFor : {R K : Type 0} → (R → R → Members → Type 0) → (R → K → List ℕ) → R → List ℕ → Option K → Type 0
+IsKeyFor reads text s name found = MatchOption found (IsIgnored reads s name) (IsNamed reads text s name)
 
 -- the member with this key is now an item without parameters
-abbrev pub PutsItem : {R : Type 0} → (R → Members → Type 0) → R → R → List ℕ → BareValue → Type 0
-PutsItem reads old new key b = (ms : Members) → reads old ms → reads new (put ms key (member_of (of_item b) []))
+abbrev pub PutsItem : {R K : Type 0} → (R → R → Members → Type 0) → (R → K → List ℕ) → R → R → K → BareValue → Type 0
+PutsItem {R} reads text old new key b = (start : R) (ms : Members) → reads start old ms
+    → reads start new (put ms (text start key) (member_of (of_item b) []))
 
 -- the member with this key is now the inner list of these items, without parameters
-abbrev pub PutsInnerList : {R I : Type 0} → (R → Members → Type 0) → (I → List RawItem → Type 0) → R → R → List ℕ → I
-    → Type 0
-PutsInnerList reads inner old new key items = (ms : Members) (xs : List RawItem) → inner items xs → reads old ms
-    → reads new (put ms key (member_of (of_inner_list xs) []))
+abbrev pub PutsInnerList : {R K I : Type 0} → (R → R → Members → Type 0) → (R → K → List ℕ)
+    → (I → List RawItem → Type 0) → R → R → K → I → Type 0
+PutsInnerList {R} reads text inner old new key items = (start : R) (ms : Members) (xs : List RawItem) → inner items xs
+    → reads start old ms → reads start new (put ms (text start key) (member_of (of_inner_list xs) []))
 
 -- one more parameter of the member with this key
-abbrev pub PutsParameter : {R : Type 0} → (R → Members → Type 0) → R → R → List ℕ → List ℕ → BareValue → Type 0
-PutsParameter reads old new key name value = (ms : Members) (head : Head) (ps : RawParameters)
-    → reads old (put ms key (member_of head ps)) → reads new (put ms key (member_of head (put ps name value)))
+abbrev pub PutsParameter : {R K : Type 0} → (R → R → Members → Type 0) → (R → K → List ℕ) → R → R → K → List ℕ
+    → BareValue → Type 0
+PutsParameter {R} reads text old new key name value = (start : R) (ms : Members) (head : Head) (ps : RawParameters)
+    → reads start old (put ms (text start key) (member_of head ps))
+    → reads start new (put ms (text start key) (member_of head (put ps name value)))

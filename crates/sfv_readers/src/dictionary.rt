@@ -1,10 +1,10 @@
 //! Readers of dictionaries.
 
-ghost use Rattle.std.specs.Prelude.{◌≡◌, ⊤, ℕ, List, [], MatchOption};
+ghost use Rattle.std.specs.Prelude.{◌≡◌, ⊤, ℕ, List, []};
 ghost use Rattle.sfv_spec.specs.Values.{RawItem, RawParameters, RawMember};
 ghost use Rattle.sfv_values.specs.CheckedTexts.{text_of};
 ghost use Rattle.sfv_values.specs.BareItems.{input_value};
-ghost use Rattle.sfv_readers.specs.Words.{Members, IsIgnored, PutsItem, PutsInnerList, PutsParameter};
+ghost use Rattle.sfv_readers.specs.Words.{Members, IsKeyFor, PutsItem, PutsInnerList, PutsParameter};
 
 use crate::inner_list::InnerListReader;
 use sfv_base::error::OutOfMemory;
@@ -24,27 +24,27 @@ pub trait DictionaryReader<'de>: Drop {
     /// The reader of the items of an inner list: `IgnoredItems` if they do not matter.
     type Items: InnerListReader<'de>;
 
-    /// The text of a key.
-    ghost text: { Self.Key → List ℕ };
+    /// `text start key`: the text of a key, for a reader that was `start` before any member.
+    ghost text: { Self → Self.Key → List ℕ };
 
-    /// `reads reader members`: `reader` is the state after these members. No key is repeated.
-    ghost reads: { Self → Members → Type 0 };
+    /// `reads start reader members`: `reader` is the state after these members, from `start`. No key is repeated.
+    ghost reads: { Self → Self → Members → Type 0 };
 
     /// Returns the `Key` of a key, or `None` if its member changes nothing.
-    fn key(key: KeyRef<'de>) -> Option<Self::Key>
-        ensures { MatchOption result (IsIgnored reads (text_of key.entry)) (λ found. text found ≡ text_of key.entry) };
+    fn key(&self, key: KeyRef<'de>) -> Option<Self::Key>
+        ensures { IsKeyFor reads text self.now (text_of key.entry) result };
 
     /// Receives the bare item of a member that is an item. The member replaces an earlier one with the same key.
     fn item(&mut self, key: Self::Key, item: BareItemFromInput<'de>)
-        ensures { PutsItem reads self.old self.new (text key) (input_value item.entry) };
+        ensures { PutsItem reads text self.old self.new key (input_value item.entry) };
 
     /// Receives the items of a member that is an inner list. The member replaces an earlier one with the same key.
     fn inner_list(&mut self, key: Self::Key, items: Self::Items)
-        ensures { PutsInnerList reads Self.Items.reads self.old self.new (text key) items };
+        ensures { PutsInnerList reads text Self.Items.reads self.old self.new key items };
 
     /// Receives a parameter of the member. It replaces an earlier one with the same name.
     fn parameter(&mut self, key: Self::Key, name: KeyRef<'de>, value: BareItemFromInput<'de>)
-        ensures { PutsParameter reads self.old self.new (text key) (text_of name.entry) (input_value value.entry) };
+        ensures { PutsParameter reads text self.old self.new key (text_of name.entry) (input_value value.entry) };
 }
 
 /// A visitor that passes the parts of a dictionary to a reader.
@@ -95,12 +95,10 @@ impl<
 
     ghost finish_fails = { λ _ _. ⊥ };
 
-    ghost is_memory = { λ _. ⊤ };
-
     #[inline(always)]
     fn event(&mut self, event: Event<'de>) -> Result<(), OutOfMemory> {
         match event {
-            Event::KeyedEntry(key) => self.key = R::key(key),
+            Event::KeyedEntry(key) => self.key = self.reader.key(key),
             Event::InnerList => {
                 self.outer = self.key;
                 if self.key.is_some() {

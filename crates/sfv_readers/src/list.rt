@@ -24,27 +24,27 @@ pub trait ListReader<'de>: Drop {
     /// The reader of the items of an inner list: `IgnoredItems` if they do not matter.
     type Items: InnerListReader<'de>;
 
-    /// `keeps member head params`: `member` is the state of a member with this head and these parameters. No key is
-    /// repeated.
-    ghost keeps: { Self.Member → Head → RawParameters → Type 0 };
+    /// `keeps reader member head params`: before `reader` receives it, `member` is the state of a member with this head
+    /// and these parameters. No key is repeated.
+    ghost keeps: { Self → Self.Member → Head → RawParameters → Type 0 };
 
-    /// `reads reader members`: `reader` is the state after these members.
-    ghost reads: { Self → List RawMember → Type 0 };
+    /// `reads start reader members`: `reader` is the state after these members, from `start`.
+    ghost reads: { Self → Self → List RawMember → Type 0 };
 
     /// `member` may run out of memory. Default: it may.
     ghost may_fail: { Type 0 } = { ⊤ };
 
     /// Receives the bare item of a member that is an item.
-    fn item(item: BareItemFromInput<'de>) -> Self::Member
-        ensures { keeps result (of_item (input_value item.entry)) [] };
+    fn item(&self, item: BareItemFromInput<'de>) -> Self::Member
+        ensures { keeps self.now result (of_item (input_value item.entry)) [] };
 
     /// Receives the items of a member that is an inner list.
-    fn inner_list(items: Self::Items) -> Self::Member
-        ensures { (xs : List RawItem) → Self.Items.reads items xs → keeps result (of_inner_list xs) [] };
+    fn inner_list(&self, items: Self::Items) -> Self::Member
+        ensures { (xs : List RawItem) → Self.Items.reads items xs → keeps self.now result (of_inner_list xs) [] };
 
     /// Receives a parameter of the member. It replaces an earlier one with the same key.
-    fn parameter(member: &mut Self::Member, key: KeyRef<'de>, value: BareItemFromInput<'de>)
-        ensures { AddsParameter keeps member.old member.new (text_of key.entry) (input_value value.entry) };
+    fn parameter(&self, member: &mut Self::Member, key: KeyRef<'de>, value: BareItemFromInput<'de>)
+        ensures { AddsParameter (keeps self.now) member.old member.new (text_of key.entry) (input_value value.entry) };
 
     /// Receives the member after its last parameter.
     ///
@@ -98,26 +98,24 @@ impl<'de, M: Drop, I: InnerListReader<'de>, R: ListReader<'de, Member = M, Items
 
     ghost finish_fails = { λ _ _. ⊥ };
 
-    ghost is_memory = { λ _. ⊤ };
-
     #[inline(always)]
     fn event(&mut self, event: Event<'de>) -> Result<(), OutOfMemory> {
         match event {
             Event::InnerList => self.items = Some(I::new(self.alloc)),
             Event::InnerListEnd => {
                 if let Some(items) = self.items.take() {
-                    self.member = Some(R::inner_list(items));
+                    self.member = Some(self.reader.inner_list(items));
                 }
             }
             Event::BareItem(item) => match &mut self.items {
                 Some(items) => items.item(item)?,
-                None => self.member = Some(R::item(item)),
+                None => self.member = Some(self.reader.item(item)),
             },
             Event::Parameter(key, value) => match &mut self.items {
                 Some(items) => items.parameter(key, value)?,
                 None => {
                     if let Some(member) = &mut self.member {
-                        R::parameter(member, key, value);
+                        self.reader.parameter(member, key, value);
                     }
                 }
             },

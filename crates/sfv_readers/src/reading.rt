@@ -25,8 +25,8 @@ pub fn read_list<'de, R: ListReader<'de>>(
     version: Version,
     reader: R,
 ) -> Result<R, Error>
-    requires { R.reads reader [] }
-    ensures read { IfOk result (IsReadBy version list_field R.reads input.now) }
+    requires { R.reads reader reader [] }
+    ensures read { IfOk result (IsReadBy version list_field (R.reads reader) input.now) }
     ensures rejected { IfErr result (IsParseError version list_field input.now) }
     ensures memory { IfErr result (NeedsMarkUnless (R.Items.may_fail ⊎ R.may_fail) input.now) }
 {
@@ -52,8 +52,8 @@ pub fn read_dictionary<'de, R: DictionaryReader<'de>>(
     version: Version,
     reader: R,
 ) -> Result<R, Error>
-    requires { R.reads reader [] }
-    ensures read { IfOk result (IsReadBy version dictionary_field R.reads input.now) }
+    requires { R.reads reader reader [] }
+    ensures read { IfOk result (IsReadBy version dictionary_field (R.reads reader) input.now) }
     ensures rejected { IfErr result (IsParseError version dictionary_field input.now) }
     ensures memory { IfErr result (NeedsMarkUnless R.Items.may_fail input.now) }
 {

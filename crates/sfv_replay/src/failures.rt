@@ -38,8 +38,6 @@ impl<'de, 'a> Visitor<'de> for Watched<'a> {
 
     ghost finish_fails = { λ _ _. ⊤ };
 
-    ghost is_memory = { λ _. ⊥ };
-
     fn event(&mut self, _event: Event<'de>) -> Result<(), u64> {
         self.call()
     }

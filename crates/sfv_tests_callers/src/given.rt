@@ -4,8 +4,8 @@ ghost use Rattle.std.specs.Prelude.{⊤};
 
 use crate::common::has_text;
 use sfv::visitor::{
-    DictionaryBuilder, Event, ExpectItem, Ignored, ItemFault, MakeItemVisitor, NoMemoryError,
-    Visitor, item_visitor_with, parameter_visitor_with,
+    DictionaryBuilder, Event, ExpectItem, Ignored, ItemFault, MakeItemVisitor, Visitor,
+    item_visitor_with, parameter_visitor_with,
 };
 use sfv::{
     BareItemFromInput, BareItemType, Date, Decimal, Dictionary, HashSeed, Integer, ParseError,
@@ -337,7 +337,7 @@ fn functions_are_called_on_the_first_item(rt: HostRuntime) {
             "{input}"
         );
     }
-    let visitor = item_visitor_with(integer_of).with_memory_errors::<NoMemoryError>();
+    let visitor = item_visitor_with(integer_of);
     let answer = Parser::new(b"4").parse_item_with_visitor(rt.alloc(), visitor);
     assert!(rt; answer.ok() == Some(Some(integer(4))));
 }

@@ -2,6 +2,8 @@
 #![tactic(auto)]
 
 #[cfg(test)]
+mod accept_ch;
+#[cfg(test)]
 mod cache_status;
 #[cfg(test)]
 mod common;

@@ -4,6 +4,7 @@ ghost use Rattle.std.specs.Prelude.{⊤, codes};
 
 use crate::common::has_text;
 use sfv::{BareItemFromInput, KeyRef, OutOfMemory, Version};
+use sfv_examples::member_integers::integer_of_member;
 use sfv_examples::rows::last_row;
 use sfv_first_field::cdn_cache_control::max_age;
 use sfv_readers::{DictionaryReader, InnerListReader, ListReader, read_dictionary, read_list};
@@ -54,6 +55,34 @@ fn last_ages_are_found(rt: HostRuntime) {
     ];
     for &(input, expected) in rows {
         assert!(rt; has_age(rt.alloc(), input, expected));
+    }
+}
+
+// Returns `true` if the member of this key has this integer.
+fn has_integer(alloc: Global, input: &str, key: &str, expected: Option<i64>) -> bool {
+    match integer_of_member(alloc, input.as_bytes(), Version::Rfc9651, key) {
+        Ok(found) => found.map(|found| found.to_i64()) == expected,
+        Err(_) => false,
+    }
+}
+
+#[test]
+fn members_of_keys_known_at_run_time_are_found(rt: HostRuntime) {
+    let rows = &[
+        ("a=1, b=2", "a", Some(1)),
+        ("a=1, b=2", "b", Some(2)),
+        ("a=1, b=2", "c", None),
+        ("a=1, b=2, a=3;b=4", "a", Some(3)),
+        ("a=1, a", "a", None),
+        ("a=1, a=(2)", "a", None),
+        ("b=(1;a=2);a=3", "a", None),
+        ("", "a", None),
+    ];
+    for &(input, key, expected) in rows {
+        assert!(rt;
+            has_integer(rt.alloc(), input, key, expected),
+            "{input} {key}"
+        );
     }
 }
 
@@ -110,15 +139,15 @@ impl<'de> ListReader<'de> for Teller {
 
     type Items = Teller;
 
-    ghost keeps = { λ _ _ _. ⊤ };
+    ghost keeps = { λ _ _ _ _. ⊤ };
 
-    ghost reads = { λ _ _. ⊤ };
+    ghost reads = { λ _ _ _. ⊤ };
 
-    fn item(_item: BareItemFromInput<'de>) {}
+    fn item(&self, _item: BareItemFromInput<'de>) {}
 
-    fn inner_list(_items: Teller) {}
+    fn inner_list(&self, _items: Teller) {}
 
-    fn parameter(_member: &mut (), _key: KeyRef<'de>, _value: BareItemFromInput<'de>) {}
+    fn parameter(&self, _member: &mut (), _key: KeyRef<'de>, _value: BareItemFromInput<'de>) {}
 
     fn member(&mut self, _member: ()) -> Result<(), OutOfMemory> {
         Ok(())
@@ -130,11 +159,11 @@ impl<'de> DictionaryReader<'de> for Teller {
 
     type Items = Teller;
 
-    ghost text = { λ _. codes "a" };
+    ghost text = { λ _ _. codes "a" };
 
-    ghost reads = { λ _ _. ⊤ };
+    ghost reads = { λ _ _ _. ⊤ };
 
-    fn key(key: KeyRef<'de>) -> Option<()> {
+    fn key(&self, key: KeyRef<'de>) -> Option<()> {
         if key.as_str() == "a" { Some(()) } else { None }
     }
 

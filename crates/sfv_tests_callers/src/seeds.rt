@@ -2,7 +2,8 @@
 //! parse under that seed, and fast under another one.
 
 use crate::common::of_size;
-use sfv_answers::run::{random_seed, run, run_with_random_seed};
+use sfv::random_seed;
+use sfv_answers::run::{run, run_with_random_seed};
 use sfv_random::keys::{colliding_keys, joined};
 use std::io;
 use std::random::RandomSource;
@@ -39,7 +40,7 @@ fn time_of(
         let mut input = text.as_bytes();
         let start = Instant::now(rt)?;
         let outcome = if is_seed_given {
-            let seed = random_seed(&random)?;
+            let seed = random_seed(|bytes| random.fill_bytes(bytes))?;
             run(alloc, seed, args, &mut input, &mut output)
         } else {
             run_with_random_seed(alloc, &random, args, &mut input, &mut output)
@@ -81,7 +82,7 @@ const TRIES: u32 = 8;
 #[test]
 fn the_random_seed_is_that_of_all_maps(rt: HostRuntime) -> Result<(), Fail> {
     let alloc = rt.alloc();
-    let keys = colliding_keys(alloc, random_seed(&Always(1))?)?;
+    let keys = colliding_keys(alloc, random_seed(|bytes| Always(1).fill_bytes(bytes))?)?;
     let long = of_size(alloc, (";z=\"", "a", "", "\""), 100_000)?;
     for &(words, begin, separator, is_long) in FIELDS {
         let mut args = Vec::new(alloc);

@@ -1,9 +1,9 @@
 //! Runs of the program `sfv_tool` over memory.
 
 use crate::common::{ladder, of_size};
-use sfv::{FieldKind, HashSeed, Version};
+use sfv::{FieldKind, HashSeed, Version, random_seed};
 use sfv_answers::answer::{answer, answer_priority};
-use sfv_answers::run::{random_seed, report, run, run_with_random_seed};
+use sfv_answers::run::{report, run, run_with_random_seed};
 use sfv_random::Random;
 use std::alloc::Global;
 use std::cell::Cell;
@@ -497,7 +497,7 @@ fn is_seed_of(bytes: [u8; 8], number: u64) -> bool {
         bytes,
         is_taken: Cell::new(false),
     };
-    match random_seed(&source) {
+    match random_seed(|bytes| source.fill_bytes(bytes)) {
         Ok(seed) => {
             seed.build_hasher().finish() == HashSeed::new(number).build_hasher().finish()
         }

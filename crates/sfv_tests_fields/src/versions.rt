@@ -2,8 +2,8 @@
 
 use crate::common::{has_text, is_text, value};
 use sfv::{
-    BareItemType, Dictionary, Error, FieldType, Item, ItemSerializer, List, ListSerializer, Parser,
-    SerializeError, Version,
+    BareItemType, Dictionary, Error, FieldType, Item, ItemSerializer, List, ListEntry,
+    ListSerializer, Parser, SerializeError, Version, append_inner_list, append_member,
 };
 use std::alloc::Global;
 
@@ -83,6 +83,38 @@ fn a_field_that_the_version_lacks_is_not_appended(rt: HostRuntime) {
         all &= is_left_by_field::<Dictionary>(alloc, dictionary) == Some(true);
     }
     assert!(rt; all);
+}
+
+/// Appends a member, and an inner list again without its entry. Appends an exclamation mark for each date.
+fn append_alone(member: &ListEntry, text: &mut String) -> Option<()> {
+    text.push('|').ok()?;
+    if append_member(Version::Rfc8941, member, text) == Err(DATE) {
+        text.push('!').ok()?;
+    }
+    if let ListEntry::InnerList(list) = member {
+        text.push('=').ok()?;
+        if append_inner_list(Version::Rfc8941, list, text) == Err(DATE) {
+            text.push('!').ok()?;
+        }
+    }
+    Some(())
+}
+
+/// Returns the texts of the members of a list.
+fn members_alone(alloc: Global, input: &str) -> Option<String> {
+    let list = Parser::new(input.as_bytes()).parse::<List>(alloc).ok()?;
+    let mut text = String::new(alloc);
+    for member in list.iter() {
+        append_alone(member, &mut text)?;
+    }
+    Some(text)
+}
+
+#[test]
+fn members_are_appended_alone(rt: HostRuntime) {
+    let input = "a;x, (1  \"b\";y);z=?0, @1, (1;d=@2), ()";
+    let wanted = "|a;x|(1 \"b\";y);z=?0=(1 \"b\";y);z=?0|!|!=!|()=()";
+    assert!(rt; has_text(members_alone(rt.alloc(), input), wanted));
 }
 
 /// Returns `true` if a failed item leaves the text unchanged.

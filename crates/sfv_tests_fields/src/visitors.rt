@@ -31,8 +31,6 @@ impl<'de, A: Allocator> Visitor<'de> for Teller<A> {
 
     ghost finish_fails = { λ _ _. ⊤ };
 
-    ghost is_memory = { λ _. ⊤ };
-
     fn event(&mut self, event: Event<'de>) -> Result<(), AllocError> {
         tell(&mut self.text, &event)
     }
@@ -98,8 +96,6 @@ impl<'de> Visitor<'de> for Texts {
     ghost finishes = { λ _ _. ⊤ };
 
     ghost finish_fails = { λ _ _. ⊤ };
-
-    ghost is_memory = { λ _. ⊤ };
 
     fn event(&mut self, event: Event<'de>) -> Result<(), AllocError> {
         match &event {
@@ -266,8 +262,6 @@ impl<'de> Visitor<'de> for Stopper {
     ghost finishes = { λ _ _. ⊤ };
 
     ghost finish_fails = { λ _ _. ⊤ };
-
-    ghost is_memory = { λ _. ⊤ };
 
     fn event(&mut self, _event: Event<'de>) -> Result<(), AllocError> {
         if self.left == 0 {

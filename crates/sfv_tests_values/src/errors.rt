@@ -161,6 +161,9 @@ fn want_of_memory_becomes_an_error_that_says_so(rt: HostRuntime) {
     assert!(rt; prints(alloc, &OutOfMemory, text));
     assert!(rt; OutOfMemory::from(AllocError) == OutOfMemory);
     assert!(rt; OutOfMemory::from(AllocFailed { value: 1u8 }) == OutOfMemory);
+    assert!(rt; SerializeError::from(AllocError) == SerializeError::OutOfMemory);
+    let unwritten = SerializeError::from(AllocFailed { value: 1u8 });
+    assert!(rt; unwritten == SerializeError::OutOfMemory);
     let failed = Error::from(AllocFailed { value: 1u8 });
     for error in [Error::from(OutOfMemory), Error::from(AllocError), failed] {
         assert!(rt; error.is_out_of_memory() && prints(alloc, &error, text));

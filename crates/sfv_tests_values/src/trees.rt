@@ -1,9 +1,10 @@
-//! Items, inner lists, lists and dictionaries: their constructors, insertions, clones and comparisons.
+//! Items, inner lists, lists and dictionaries: their constructors, insertions, removals, clones and
+//! comparisons.
 
 use crate::common::has_text;
 use sfv::{
     BareItem, Dictionary, FieldType, InnerList, Item, KeyRef, List, ListEntry, Parameters, Parser,
-    find_entry, find_param, insert_entry, insert_param, key_ref,
+    find_entry, find_param, insert_entry, insert_param, key_ref, remove_entry, remove_param,
 };
 use std::alloc::Global;
 
@@ -140,4 +141,44 @@ fn parameters_are_found_and_entered_where_their_key_stood_or_last(rt: HostRuntim
     let alloc = rt.alloc();
     assert!(rt; has_text(text_with_param(alloc, key_ref("b"), true), "1;b=7;a=2"));
     assert!(rt; has_text(text_with_param(alloc, key_ref("c"), false), "1;b=5;a=2;c=7"));
+}
+
+/// Returns the text of a dictionary after the removal of a key, if `had` says whether the key had a member.
+fn text_without_member(alloc: Global, key: KeyRef<'_>, had: bool) -> Option<String> {
+    let parser = Parser::new(b"b=5, a=6, c=(7)");
+    let mut members = parser.parse::<Dictionary>(alloc).ok()?;
+    if remove_entry(&mut members, key).is_some() == had {
+        members.serialize(alloc).unwrap_or(None)
+    } else {
+        None
+    }
+}
+
+/// Returns the text of an item after the removal of a parameter, if `had` says whether the key had a value.
+fn text_without_param(alloc: Global, key: KeyRef<'_>, had: bool) -> Option<String> {
+    let mut item = Parser::new(b"1;b=5;a=2;c").parse::<Item>(alloc).ok()?;
+    if remove_param(&mut item.params, key).is_some() == had {
+        item.serialize(alloc).ok()
+    } else {
+        None
+    }
+}
+
+#[test]
+fn members_and_parameters_are_removed_and_the_others_keep_their_order(rt: HostRuntime) {
+    let alloc = rt.alloc();
+    assert!(rt; has_text(text_without_member(alloc, key_ref("b"), true), "a=6, c=(7)"));
+    assert!(rt;
+        has_text(
+            text_without_member(alloc, key_ref("d"), false),
+            "b=5, a=6, c=(7)"
+        )
+    );
+    assert!(rt; has_text(text_without_param(alloc, key_ref("b"), true), "1;a=2;c"));
+    assert!(rt;
+        has_text(
+            text_without_param(alloc, key_ref("d"), false),
+            "1;b=5;a=2;c"
+        )
+    );
 }

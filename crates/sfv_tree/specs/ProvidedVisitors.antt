@@ -47,22 +47,22 @@ abbrev pub GivesAfter : {V F A R : Type 0} → (V → A → Type 0) → (F → A
 GivesAfter {A = A} finishes gives s r = (out : A) × finishes (visitor_within s) out × gives (function_after s) out r
 
 -- `ItemVisitorWith`: the function that waits for a bare item, until it is called
-abbrev pub function_waiting : {F T M : Type 0} → ItemVisitorWith F T M → Option F
+abbrev pub function_waiting : {F T : Type 0} → ItemVisitorWith F T → Option F
 function_waiting s = s.f
 
 -- `ItemVisitorWith`: the result of the function, after it was called
-abbrev pub answer_kept : {F T M : Type 0} → ItemVisitorWith F T M → Option T
+abbrev pub answer_kept : {F T : Type 0} → ItemVisitorWith F T → Option T
 answer_kept s = s.kept
 
 -- The first bare item calls the function and keeps its result. Every other event changes nothing.
-abbrev pub CallTakes : {F T M E : Type 0} → (F → ReadBareItem → Result T E → Type 0) → ItemVisitorWith F T M → Event
-    → ItemVisitorWith F T M → Type 0
+abbrev pub CallTakes : {F T E : Type 0} → (F → ReadBareItem → Result T E → Type 0) → ItemVisitorWith F T → Event
+    → ItemVisitorWith F T → Type 0
 CallTakes {T = T} gives s (event.BareItem item) after = MatchOption (function_waiting s) (after ≡ s) (λ f.
     (out : T) × gives f item (Ok out) × (answer_kept after ≡ Some out) × (function_waiting after ≡ None))
 CallTakes gives s e after = after ≡ s
 
 -- the visitor fails if the function fails
-abbrev pub CallFails : {F T M E : Type 0} → (F → ReadBareItem → Result T E → Type 0) → ItemVisitorWith F T M → Event → E
+abbrev pub CallFails : {F T E : Type 0} → (F → ReadBareItem → Result T E → Type 0) → ItemVisitorWith F T → Event → E
     → Type 0
 CallFails gives s (event.BareItem item) error = MatchOption (function_waiting s) ⊥ (λ f. gives f item (Err error))
 CallFails gives s e error = ⊥

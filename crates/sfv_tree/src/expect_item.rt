@@ -249,8 +249,6 @@ impl<'de, T: ExpectedItem<'de>> Visitor<'de> for ExpectItem<T> {
 
     ghost finish_fails = { λ s fault. (item_kept s ≡ None) × (fault ≡ faults.NoItem) };
 
-    ghost is_memory = { λ fault. fault ≡ faults.OutOfMemory };
-
     #[inline(always)]
     fn event(&mut self, event: Event<'de>) -> Result<(), ItemFault> {
         let Event::BareItem(item) = event else {

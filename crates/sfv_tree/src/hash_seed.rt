@@ -1,7 +1,8 @@
 //! The seed of the maps' hash.
 
-ghost use Rattle.std.specs.Prelude.{◌≡◌, Some, codes};
-ghost use Rattle.sfv_tree.specs.HashSeeds.{library_seed, seed_of};
+ghost use Rattle.std.specs.Prelude.{◌≡◌, Some, Ok, Err, IfOk, IfErr, codes};
+ghost use Rattle.std.specs.Fn.{FnOnceReturnsAtMut};
+ghost use Rattle.sfv_tree.specs.HashSeeds.{library_seed, seed_of, eight_zeros, IsSeedFrom, FailsToFill};
 
 use std::fmt;
 use std::hash::{BuildHasher, FoldHasher, Hasher};
@@ -57,4 +58,22 @@ impl BuildHasher for HashSeed {
     fn build_hasher(&self) -> FoldHasher {
         self.initial
     }
+}
+
+/// Returns the seed of the eight bytes that `fill` writes, as a little-endian number.
+///
+/// A program that parses untrusted fields creates one seed at start, and passes it to every parser:
+/// `random_seed(|bytes| rt.fill_bytes(bytes))`.
+///
+/// # Errors
+///
+/// Returns the error of `fill`.
+pub fn random_seed<E, F: FnOnce(&mut [u8; 8]) -> Result<(), E>>(fill: F) -> Result<HashSeed, E>
+    requires { F.IsAlwaysCallable fill }
+    ensures seed { IfOk result (IsSeedFrom (FnOnceReturnsAtMut F.FnOnce fill eight_zeros (Ok tt))) }
+    ensures failed { IfErr result (FailsToFill (FnOnceReturnsAtMut F.FnOnce fill eight_zeros)) }
+{
+    let mut bytes = [0; 8];
+    fill(&mut bytes)?;
+    Ok(HashSeed::new(u64::from_le_bytes(bytes)))
 }

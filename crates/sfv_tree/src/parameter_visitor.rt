@@ -65,8 +65,6 @@ impl<
     ghost finish_fails = { λ s fault.
         V.finish_fails (visitor_within s) fault ⊎ GivesAfter V.finishes F.post s (Err fault) };
 
-    ghost is_memory = { V.is_memory };
-
     #[inline(always)]
     fn event(&mut self, event: Event<'de>) -> Result<(), E> {
         self.visitor.event(event)

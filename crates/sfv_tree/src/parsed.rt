@@ -1,9 +1,9 @@
 //! Lists, dictionaries, inner lists, parameters and items (RFC 9651, sections 3.1 to 3.3).
 
 ghost use Rattle.std.specs.Prelude.{◌≡◌, ◌≢◌, ◌+◌, ◌<◌, ◌≤◌, [], IsOk, IfOk, IfErr, OnOk, OnErr, None, map, bytes_eq};
-ghost use Rattle.std.specs.Prelude.{option_copied};
-ghost use Rattle.indexmap.specs.IndexMap.{get, hasher_of, insert_entry, spare, IsUnique};
-ghost use Rattle.sfv_spec.specs.Ordered.{last_of};
+ghost use Rattle.std.specs.Prelude.{option_copied, option_map};
+ghost use Rattle.indexmap.specs.IndexMap.{get, hasher_of, insert_entry, shift_remove_entry, spare, IsUnique};
+ghost use Rattle.sfv_spec.specs.Ordered.{last_of, without};
 ghost use Rattle.sfv_values.specs.BareItems.{bare_value};
 ghost use Rattle.sfv_values.specs.CheckedTexts.{text_of};
 ghost use Rattle.sfv_spec.specs.Values.{item, inner_list};
@@ -323,4 +323,44 @@ pub fn insert_param(
     ensures distinct { IsUnique bytes_eq params.new }
 {
     Ok(params.insert(key, value)?)
+}
+
+/// Removes the member of a key from a dictionary (RFC 9651, section 3.2), and returns it, or `None`. The other members
+/// keep their order. Does not allocate.
+///
+/// The same as `dict.shift_remove(key)`, in linear time.
+pub fn remove_entry(dict: &mut Dictionary, key: KeyRef<'_>) -> Option<ListEntry>
+    ensures value { result ≡ get bytes_eq dict.old (text_of key.entry) }
+    ensures last { option_map member_tree result ≡ last_of (text_of key.entry) (dictionary_tree dict.old.entries) }
+    ensures gone { last_of (text_of key.entry) (dictionary_tree dict.new.entries) ≡ None }
+    ensures others { dictionary_tree dict.new.entries
+        ≡ without (text_of key.entry) (dictionary_tree dict.old.entries) }
+    ensures entries { dict.new.entries
+        ≡ shift_remove_entry (bytes_eq (text_of key.entry)) dict.old.entries }
+    ensures seed { hasher_of dict.new ≡ hasher_of dict.old }
+    ensures spare { spare dict.old ≤ spare dict.new }
+    ensures distinct { IsUnique bytes_eq dict.new }
+{
+    // The call of `len` has the clause that the keys are unique.
+    dict.len();
+    dict.shift_remove(key)
+}
+
+/// Removes a parameter (RFC 9651, section 3.1.2), and returns its value, or `None`. The other parameters keep their
+/// order. Does not allocate.
+///
+/// The same as `params.shift_remove(key)`, in linear time.
+pub fn remove_param(params: &mut Parameters, key: KeyRef<'_>) -> Option<BareItem>
+    ensures value { result ≡ get bytes_eq params.old (text_of key.entry) }
+    ensures last { option_map bare_value result ≡ last_of (text_of key.entry) (pairs_tree params.old.entries) }
+    ensures gone { last_of (text_of key.entry) (pairs_tree params.new.entries) ≡ None }
+    ensures others { pairs_tree params.new.entries ≡ without (text_of key.entry) (pairs_tree params.old.entries) }
+    ensures entries { params.new.entries ≡ shift_remove_entry (bytes_eq (text_of key.entry)) params.old.entries }
+    ensures seed { hasher_of params.new ≡ hasher_of params.old }
+    ensures spare { spare params.old ≤ spare params.new }
+    ensures distinct { IsUnique bytes_eq params.new }
+{
+    // The call of `len` has the clause that the keys are unique.
+    params.len();
+    params.shift_remove(key)
 }

@@ -88,9 +88,6 @@ pub trait Visitor<'de>: Drop {
     /// `finish_fails s error`: in state `s` the visitor may fail to finish, with `error`.
     ghost finish_fails: { Self → Self.Error → Type 0 };
 
-    /// `is_memory error`: `error` means out of memory. Default: no error does.
-    ghost is_memory: { Self.Error → Type 0 } = { λ _. ⊥ };
-
     /// Receives an event.
     ///
     /// # Errors

@@ -1,14 +1,16 @@
 -- What is written is read back.
-use Rattle.std.proofs.Common.{◌≡◌, ◌++◌, ◌∙◌, ℕ, List, [], ap, sym, subst, refl}
+use Rattle.std.proofs.Common.{◌≡◌, ◌++◌, ◌∙◌, ℕ, List, [], ◌∷◌, ap, sym, subst, refl, append-nil}
 use Rattle.std.specs.Prelude.{Option, Some, None}
-use Rattle.sfv_spec.specs.Values.{RawField, IsFieldValue, HasMember, bare_values, Fits}
+use Rattle.sfv_spec.specs.Values.{RawField, RawMember, IsFieldValue, IsMember, HasMember, bare_values, member_values}
+use Rattle.sfv_spec.specs.Values.{Fits, AllFit}
 use Rattle.sfv_spec.specs.declared.field_kind.FieldKind.{FieldKind}
+use Rattle.sfv_spec.specs.declared.field_kind.FieldKind.TheVariants.{List as list_field}
 use Rattle.sfv_spec.specs.declared.version.Version.{Version}
 use Rattle.sfv_spec.specs.declared.version.Version.TheVariants.{Rfc8941, Rfc9651}
-use Rattle.sfv_spec.specs.Ordered.{ordered}
+use Rattle.sfv_spec.specs.Ordered.{ordered, ordered_member}
 use Rattle.sfv_spec.specs.Grammar.{IsFieldText}
 use Rattle.sfv_spec.specs.Statements.{IsValue, IsParsedAs, IsSerializedAs}
-use Rattle.sfv_spec.specs.Canonical.{canonical}
+use Rattle.sfv_spec.specs.Canonical.{canonical, member_text}
 use Rattle.sfv_spec.proofs.Fields.{all_fit_newer}
 use Rattle.sfv_spec.proofs.Laws.{round_trip_lem}
 use Rattle.sfv_spec.proofs.Structure.{one_field_lem}
@@ -32,6 +34,13 @@ pub value_read_back : (version : Version) (kind : FieldKind) (value : RawField k
     → Fits version kind value → IsParsedAs version kind (canonical kind value) value
 value_read_back version kind value v fits = subst (IsParsedAs version kind (canonical kind value))
     v.distinct (read_back version kind value v.parts fits)
+
+-- a member as the list with this one member
+pub member_read_back : (version : Version) (m : RawMember) → IsMember m × (ordered_member m ≡ m)
+    → AllFit version (member_values m) → IsParsedAs version list_field (member_text m) (m ∷ [])
+member_read_back version m valid fits = value_read_back version list_field (m ∷ [])
+    (record { parts = (valid.0, tt); distinct = ap (λ (n : RawMember). n ∷ []) valid.1 })
+    (subst (AllFit version) (sym (append-nil (member_values m))) fits)
 
 -- the canonical text of a value that fits a version is read back by it as this value
 abbrev pub IsWritten : Version → (kind : FieldKind) → RawField kind → List ℕ → Type 0

@@ -21,5 +21,6 @@ pub mod version_check;
 pub use dictionary::{append_dictionary, dictionary_text};
 pub use item::{append_item, item_text, serialize_item};
 pub use list::{append_list, list_text};
+pub use member::{append_inner_list, append_member};
 pub use serialize_error::SerializeError;
 pub use version_check::{check_dictionary, check_item, check_list};

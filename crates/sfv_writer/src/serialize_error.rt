@@ -6,11 +6,13 @@ ghost use Rattle.sfv_writer.specs.declared.serialize_error.SerializeError.TheVar
 
 use sfv_base::error::OutOfMemory;
 use sfv_values::bare::BareItemType;
+use std::alloc::{AllocError, AllocFailed};
 use std::fmt;
 
 /// An error of serialization: the version lacks a value, or memory ran out.
 ///
-/// `Display` prints the kind that RFC 8941 does not support, or `out of memory`.
+/// `Display` prints the kind that RFC 8941 does not support, or `out of memory`. `OutOfMemory` and the allocator's
+/// errors convert to `SerializeError::OutOfMemory`.
 #[derive(Clone, Copy, Debug, PartialEq, Eq)]
 pub enum SerializeError {
     /// The version lacks bare items of this kind: `Date` or `DisplayString`, under RFC 8941.
@@ -36,6 +38,22 @@ impl From<OutOfMemory> for SerializeError {
     ghost from_gives = { λ _ error. error ≡ errors.OutOfMemory };
 
     fn from(_error: OutOfMemory) -> SerializeError {
+        SerializeError::OutOfMemory
+    }
+}
+
+impl From<AllocError> for SerializeError {
+    ghost from_gives = { λ _ error. error ≡ errors.OutOfMemory };
+
+    fn from(_error: AllocError) -> SerializeError {
+        SerializeError::OutOfMemory
+    }
+}
+
+impl<T: Drop> From<AllocFailed<T>> for SerializeError {
+    ghost from_gives = { λ _ error. error ≡ errors.OutOfMemory };
+
+    fn from(_error: AllocFailed<T>) -> SerializeError {
         SerializeError::OutOfMemory
     }
 }

@@ -130,7 +130,7 @@ fn check_items(version: Version, items: &[Item]) -> Result<(), SerializeError>
 }
 
 /// Checks that `version` has every value of an inner list.
-fn check_inner_list(version: Version, list: &InnerList) -> Result<(), SerializeError>
+pub(crate) fn check_inner_list(version: Version, list: &InnerList) -> Result<(), SerializeError>
     ensures { ChecksVersion version (member_values (inner_list (inner_list_tree list.now))) result }
 {
     check_items(version, &list.items)?;

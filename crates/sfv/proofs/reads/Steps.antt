@@ -22,14 +22,14 @@ use Rattle.sfv_spec.specs.declared.error_kind.ErrorKind.TheVariants.{ExpectedDig
 use Rattle.sfv_spec.specs.declared.error_kind.ErrorKind.TheVariants.{TooManyDigitsBeforeDecimalPoint}
 use Rattle.sfv_spec.specs.declared.error_kind.ErrorKind.TheVariants.{TooManyDigitsAfterDecimalPoint}
 use Rattle.sfv_spec.specs.declared.error_kind.ErrorKind.TheVariants.{TrailingDecimalPoint}
-use Rattle.sfv_model.specs.Reader.{Answer, Reader, led, led_answer, give, fail, ruled, ◌>>=◌, branch, ahead, at_start}
+use Rattle.sfv_model.specs.Reader.{Answer, Reader, led, give, fail, ruled, ◌>>=◌, branch, ahead, at_start}
 use Rattle.sfv_model.specs.Reader.{back, up_to, span, byte, Apart}
 use Rattle.sfv_model.specs.Bare.{is_number_start, bare_at, boolean_at, as_date, date_at, quoted_at, sign_at, long_at}
 use Rattle.sfv_model.specs.Bare.{decimal_at, fraction_at, point_at, whole_at, number_at, token_at}
 use Rattle.sfv_model.specs.Quoted.{string_at, display_at}
 use Rattle.sfv_model.specs.Content.{bytes_at}
 use Rattle.sfv_model.specs.Items.{key_at, value_at, parameter_at, parameters_at, item_of, item_at}
-use Rattle.sfv_spec.specs.Events.{TreeEvent, bare_item}
+use Rattle.sfv_spec.specs.Events.{bare_item}
 use Rattle.sfv_model.proofs.complete.Combinators.{branch_past, branch_take, ahead_past, ahead_take, bind_complete}
 use Rattle.sfv_model.proofs.complete.Combinators.{led_complete, span_complete}
 use Rattle.sfv.proofs.reads.Errors.{fault_bind}

@@ -4,7 +4,7 @@ use Rattle.std.specs.Prelude.{IsTrue}
 use Rattle.std.specs.List.{Contains}
 use Rattle.std.proofs.lemmas.List.{take-append-drop}
 use Rattle.std.proofs.lemmas.List.Elements.{Contains-append_right}
-use Rattle.sfv_spec.proofs.Marks.{double_quote, percent_sign, semicolon}
+use Rattle.sfv_spec.proofs.Marks.{double_quote, percent_sign}
 use Rattle.sfv_spec.specs.Classes.{is_token_start}
 use Rattle.sfv_spec.specs.Values.{BareValue}
 use Rattle.sfv_spec.specs.declared.field_kind.FieldKind.TheVariants.{Item as item_field}

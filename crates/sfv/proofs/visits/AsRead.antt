@@ -1,13 +1,12 @@
--- The visitor receives the events as read: by the parts of a reading.
+-- The results of parsing functions with a visitor that receives the events as read: by the parts of a reading.
 use Rattle.std.proofs.Common.{◌≡◌, ℕ, true, false, Bool, List, [], ◌∷◌, ◌++◌, Result, Ok, Err, Some, None, refl, sym}
-use Rattle.std.proofs.Common.{ap, subst, ◌∙◌, append_assoc, flat_map, inl, inr}
-use Rattle.std.specs.Prelude.{OnOk, IfOk, map, is_some}
+use Rattle.std.proofs.Common.{ap, subst, ◌∙◌, ◌<◌, append_assoc, flat_map, length, inl, inr}
+use Rattle.std.specs.Prelude.{OnOk, IfOk, IfErr, ⊤, map, is_some}
 use Rattle.std.proofs.lemmas.List.{append-nil}
-use Rattle.std.proofs.lemmas.Result.{on_ok_weaker}
 use Rattle.std.specs.List.{FoldsTo}
 use Rattle.std.specs.declared.alloc.Global.{Global}
 use Rattle.sfv_spec.proofs.Marks.{semicolon, equals_sign, left_parenthesis, is_space}
-use Rattle.sfv_spec.specs.Values.{boolean}
+use Rattle.sfv_spec.specs.Values.{boolean, RawField}
 use Rattle.sfv_spec.specs.declared.field_kind.FieldKind.{FieldKind}
 use Rattle.sfv_spec.specs.declared.field_kind.FieldKind.TheVariants.{Item as item_field}
 use Rattle.sfv_spec.specs.declared.version.Version.{Version}
@@ -16,7 +15,12 @@ use Rattle.sfv_spec.specs.Events.{inner_list_end, parameters_events, item_events
 use Rattle.sfv_spec.specs.Events.{keyed_events, events}
 use Rattle.sfv_spec.proofs.Structure.{one_field_lem}
 use Rattle.sfv_base.specs.declared.error.Error.{Error}
+use Rattle.sfv_spec.specs.declared.error_kind.ErrorKind.TheVariants.{UnterminatedInnerList}
+use Rattle.sfv_spec.specs.declared.error_kind.ErrorKind.TheVariants.{TrailingCharactersAfterParsedValue}
 use Rattle.sfv_base.specs.declared.error.ParseError.{ParseError}
+use Rattle.sfv_base.specs.declared.error.ParseError.TheVariants.{Syntax, Visitor}
+use Rattle.sfv_base.specs.Errors.{error_of}
+use Rattle.sfv_values.specs.KeyText.{KeyRef}
 use Rattle.sfv_values.specs.CheckedTexts.{text_of}
 use Rattle.sfv_values.specs.BareItems.{input_value}
 use Rattle.sfv_values.specs.declared.bare.GenericBareItem.TheVariants as bare
@@ -30,29 +34,39 @@ use Rattle.sfv_model.specs.Bare.{bare_at}
 use Rattle.sfv_model.specs.Items.{key_at, parameter_at, parameters_at, item_at}
 use Rattle.sfv_model.specs.Members.{inner_items_at, inner_at, member_at, member_value_at, keyed_at}
 use Rattle.sfv_model.specs.Fields.{members_at}
+use Rattle.sfv_model.specs.Fields.{read_field}
 use Rattle.sfv_model.proofs.LongestBareItem.{bare_is_exact}
+use Rattle.sfv_model.proofs.sound.Combinators.{sound_at}
+use Rattle.sfv_model.proofs.sound.Items.{Sound-key}
 use Rattle.sfv_model.proofs.Theorems.{read_is_accepted}
 use Rattle.sfv.specs.declared.parser.Parser.{Parser}
 use Rattle.sfv.specs.declared.parser.cursor.Cursor.{Cursor}
 use Rattle.sfv.specs.declared.parser.item.ReadParameter.{ReadParameter}
-use Rattle.sfv.specs.Parsers.{version_of, input_of, AreReadFrom, IsEventText, ReceivesAsReadBy}
-use Rattle.sfv.specs.parser.AsRead.{HasNoQuote, Passes, IsNextValue, TakesNext, Never, ReadsEvents}
-use Rattle.sfv.specs.parser.Cursor.{kept, kept_version, version, rest, ReadsOrOutOfMemory, TakesIf}
-use Rattle.sfv.specs.parser.Members.{after_begin, member_parts, one_member_at, field_of}
+use Rattle.sfv.specs.Parsers.{version_of, input_of, HasNoQuote, AreReadFrom, IsEventText, Receives, ReceivesAsReadBy}
+use Rattle.sfv.specs.parser.AsRead.{Passes, IsNextValue, IsNextParameter, IsNextEvent, TakesNext, FailsNext}
+use Rattle.sfv.specs.parser.AsRead.{VisitsAsRead, VisitsFieldAsRead}
+use Rattle.sfv.specs.parser.Cursor.{kept, kept_version, version, rest, input, ReadsOrOutOfMemory, TakesIf, IsErrorOf}
+use Rattle.sfv.specs.parser.Cursor.{IsFaultOf}
+use Rattle.sfv.specs.parser.Members.{after_begin, member_parts, one_member_at, field_of, MemberValue}
 use Rattle.sfv.specs.parser.Quoted.{IsBorrowedUnlessEscaped}
 use Rattle.sfv.specs.parser.Values.{read_pair}
-use Rattle.sfv.specs.parser.Visits.{Visits, VisitsAnswer, VisitsField}
-use Rattle.sfv.proofs.visits.InnerLists.{inner_list_visits, list_member_visits, item_member_visits}
-use Rattle.sfv.proofs.visits.Keyed.{value_visits, true_visits, keyed_visits}
+use Rattle.sfv.specs.parser.Visits.{Visits, VisitsAnswer, IsOfVisitor}
+use Rattle.sfv.proofs.visits.InnerLists.{inner_list_visits, list_member_visits, item_member_visits, items_fail}
+use Rattle.sfv.proofs.visits.InnerLists.{end_fails, list_begin_fails, item_begin_fails}
+use Rattle.sfv.proofs.visits.Keyed.{value_visits, true_visits, keyed_visits, true_begin_fails, true_bare_fails}
+use Rattle.sfv.proofs.visits.Keyed.{key_fails, keyed_fails}
 use Rattle.sfv.proofs.visits.BorrowedBareItem.{lent_front}
 use Rattle.sfv.proofs.visits.Loops.{Loop, VisitedSoFar, Wants, IsFirst, begun, more, ended as loop_ended, all_events}
-use Rattle.sfv.proofs.visits.Parameters.{VisitedParameters, visited_none, visited_more, end_visits, item_visits}
-use Rattle.sfv.proofs.visits.Parts.{led_visits, start_visits}
-use Rattle.sfv.proofs.visits.Fields.{members_finish}
-use Rattle.sfv.proofs.visits.Whole.{field_done}
+use Rattle.sfv.proofs.visits.Loops.{first_fails, one_fails, delimiter_fails, shorter}
+use Rattle.sfv.proofs.visits.Parameters.{VisitedParameters, visited_none, visited_more, visited_error, end_visits}
+use Rattle.sfv.proofs.visits.Parameters.{parameter_failed, of_visitor, item_visits, bare_faulty, bare_failed}
+use Rattle.sfv.proofs.visits.Parts.{led_visits, led_fails, start_visits}
+use Rattle.sfv.proofs.visits.Taken.{no_items_visited}
+use Rattle.sfv.proofs.visits.Fields.{item_fails, finish_failed, finished_at, took_whole, members_fail, members_finish}
+use Rattle.sfv.proofs.visits.Whole.{field_done, field_trailing_error}
 use Rattle.sfv.proofs.reads.Delimiters.{at_end}
 use Rattle.sfv.proofs.visits.Passed.{Passing, passes, passes_none, passes_same, passes_then, passes_if, then_if}
-use Rattle.sfv.proofs.visits.Passed.{passes_spaces, Passing-key}
+use Rattle.sfv.proofs.visits.Passed.{passes_spaces}
 
 -- ---- the text of a value
 
@@ -107,64 +121,137 @@ value_next before middle after (Ok read) same takes parsed lent =
     (bare_next read middle after parsed.0 lent))
 value_next before middle after (Err e) same takes parsed lent = tt
 
--- the value of a parameter: after the semicolon, spaces and the key
-pub parameter_next : (version version' : Version) (read : ReadBareItem) (t t1 t2 t3 q s key : List ℕ)
-    → version' ≡ version → TakesIf (byte semicolon) true t t1 → span is_space t1 ≡ Ok (s, t2)
-    → key_at t2 ≡ Ok (key, t3) → IsNextValue version' read t3 q → IsNextValue version read t q
-parameter_next version version' read t t1 t2 t3 q s key same takes skipped keyed next =
-    next_after version read t t3 q (passes_then t t1 t3 (passes_if (byte semicolon) true t t1 refl takes)
-    (passes_then t1 t2 t3 (passes_spaces t1 s t2 skipped) (passes key_at t2 t3 key Passing-key keyed)))
-    (subst (λ v. IsNextValue v read t3 q) same next)
+-- a key that was just consumed
+pub key_text : (t q key : List ℕ) → key_at t ≡ Ok (key, q) → t ≡ key ++ q
+key_text t q key read =
+    let h = sound_at Sound-key t (Ok (key, q)) read in
+    h.1 ∙ ap (λ (l : List ℕ). l ++ q) h.2.1
 
-module _ {S : Type 0} (takes : S → TreeEvent → S → Type 0) (takes_read : S → Event → S → Type 0) where
+-- a parameter: after the semicolon and spaces, the key and its value
+pub parameter_next : (version version' : Version) (key : KeyRef) (read : ReadBareItem) (t t1 t2 t3 q s : List ℕ)
+    → version' ≡ version → TakesIf (byte semicolon) true t t1 → span is_space t1 ≡ Ok (s, t2)
+    → key_at t2 ≡ Ok (text_of key, t3) → IsNextValue version' read t3 q → IsNextParameter version key read t q
+parameter_next version version' key read t t1 t2 t3 q s same takes skipped keyed next =
+    let h = passes_then t t1 t2 (passes_if (byte semicolon) true t t1 refl takes) (passes_spaces t1 s t2 skipped) in
+    record {
+      gap = h.0;
+      after = t3;
+      text = h.1 ∙ ap (λ (l : List ℕ). h.0 ++ l) (key_text t2 t3 (text_of key) keyed)
+          ∙ sym (append_assoc h.0 (text_of key) t3);
+      quiet = h.2;
+      value = subst (λ v. IsNextValue v read t3 q) same next;
+    }
+
+-- the same as the text of an event
+parameter_event_next : (version : Version) (key : KeyRef) (read : ReadBareItem) (t r q : List ℕ) → Passes t r
+    → IsNextParameter version key read r q → IsNextEvent version (event.Parameter key read) t q
+parameter_event_next version key read t r q h n =
+    let m = n.value in
+    let all = passes_then t r (text_of key ++ n.after) h
+    (n.gap, n.text ∙ append_assoc n.gap (text_of key) n.after, n.quiet) in
+    let at : List ℕ = text_of key ++ (m.gap ++ m.at) in
+    let same : text_of key ++ n.after ≡ at ++ q = ap (λ (l : List ℕ). text_of key ++ l) m.text
+    ∙ sym (append_assoc (text_of key) (m.gap ++ m.at) q) in (
+      all.0,
+      at,
+      all.1 ∙ ap (λ (l : List ℕ). all.0 ++ l) same ∙ sym (append_assoc all.0 at q),
+      all.2,
+      record {
+        front = text_of key;
+        back = m.gap ++ m.at;
+        text = refl;
+        first = refl;
+        second = record { front = m.gap; back = m.at; text = refl; first = m.quiet; second = m.means };
+      },
+    )
+
+-- ---- results
+
+-- a result is an error, or its value has this property
+always : {A E P : Type 0} (r : Result A E) → P → OnOk r P
+always (Ok x) p = p
+always (Err e) p = tt
+
+module _ {S O E : Type 0} (v : Ghosts S O E) where
   abbrev Next : Version → S × List ℕ → TreeEvent → S × List ℕ → Type 0
-  Next version = TakesNext takes takes_read version
+  Next version = TakesNext v version
+
+  abbrev Stop : Version → S × List ℕ → TreeEvent → E → Type 0
+  Stop version = FailsNext v version
+
+  -- an event whose text comes next
+  step_next : (version : Version) (read : Event) (from to : S) (t r : List ℕ) → IsNextEvent version read t r
+      → v.takes from (event_of read) to → v.takes_read from read to → Next version (from, t) (event_of read) (to, r)
+  step_next version read from to t r n taken taken_read = (read, refl, taken, taken_read, n)
 
   -- an event without a text
   step : (version : Version) (read : Event) (from to : S) (t : List ℕ) → IsEventText version read []
-      → takes from (event_of read) to → takes_read from read to → Next version (from, t) (event_of read) (to, t)
-  step version read from to t none taken taken_read = (read, refl, taken, taken_read, ([], [], refl, refl, none))
+      → v.takes from (event_of read) to → v.takes_read from read to → Next version (from, t) (event_of read) (to, t)
+  step version read from to t none taken taken_read =
+      step_next version read from to t t ([], [], refl, refl, none) taken taken_read
 
-  -- an event whose text comes next
-  step_item : (version : Version) (read : ReadBareItem) (from to : S) (t r : List ℕ) → IsNextValue version read t r
-      → takes from (bare_item (input_value read)) to → takes_read from (event.BareItem read) to
-      → Next version (from, t) (bare_item (input_value read)) (to, r)
-  step_item version read from to t r n taken taken_read =
-      (event.BareItem read, refl, taken, taken_read, (n.gap, n.at, n.text, n.quiet, n.means))
+  -- the visitor fails at an event whose text comes next
+  stop_next : (version : Version) (read : Event) (from : S) (t r : List ℕ) (error : ParseError E)
+      → IsNextEvent version read t r → IsOfVisitor (v.fails from (event_of read)) error
+      → IsOfVisitor (v.fails_read from read) error → IsOfVisitor (Stop version (from, t) (event_of read)) error
+  stop_next version read from t r (Syntax e) n failed failed_read = absurd failed
+  stop_next version read from t r (Visitor fault) n failed failed_read = (read, refl, failed, failed_read, r, n)
+
+  -- the same at an event without a text
+  stop : (version : Version) (read : Event) (from : S) (t : List ℕ) (error : ParseError E) → IsEventText version read []
+      → IsOfVisitor (v.fails from (event_of read)) error → IsOfVisitor (v.fails_read from read) error
+      → IsOfVisitor (Stop version (from, t) (event_of read)) error
+  stop version read from t error none failed failed_read =
+      stop_next version read from t t error ([], [], refl, refl, none) failed failed_read
 
   -- by a cursor that has kept its parser
-  kept_events : {A : Type 0} (parts : A → List TreeEvent) (f : Version → Reader A) (middle after : Cursor)
-      (from to : S × List ℕ) (j : Parser × Global) → kept middle ≡ j
-      → Visits (Next (version middle)) Never parts middle after from to (Ok tt) f
-      → VisitsAnswer (Next (kept_version j)) Never parts j after from to (Ok tt) (f (kept_version j) (rest middle))
-  kept_events parts f middle after from to j same h =
-      subst (λ (k : Parser × Global). VisitsAnswer (Next (kept_version k)) Never parts k after from to (Ok tt)
+  kept_next : {A : Type 0} (parts : A → List TreeEvent) (f : Version → Reader A) (middle after : Cursor)
+      (from to : S × List ℕ) (j : Parser × Global) (r : Result (Unit {0}) (ParseError E)) → kept middle ≡ j
+      → Visits (Next (version middle)) (Stop (version middle)) parts middle after from to r f
+      → VisitsAnswer (Next (kept_version j)) (Stop (kept_version j)) parts j after from to r
+      (f (kept_version j) (rest middle))
+  kept_next parts f middle after from to j r same h =
+      subst (λ (k : Parser × Global). VisitsAnswer (Next (kept_version k)) (Stop (kept_version k)) parts k after from to r
       (f (kept_version k) (rest middle))) same h
 
   under : {A : Type 0} (parts : A → List TreeEvent) (f : Version → Reader A) (middle after : Cursor)
-      (from to : S × List ℕ) (v : Version) → version middle ≡ v
-      → Visits (Next (version middle)) Never parts middle after from to (Ok tt) f
-      → Visits (Next v) Never parts middle after from to (Ok tt) f
-  under parts f middle after from to v same h =
-      subst (λ v. Visits (Next v) Never parts middle after from to (Ok tt) f) same h
+      (from to : S × List ℕ) (r : Result (Unit {0}) (ParseError E)) (w : Version) → version middle ≡ w
+      → Visits (Next (version middle)) (Stop (version middle)) parts middle after from to r f
+      → Visits (Next w) (Stop w) parts middle after from to r f
+  under parts f middle after from to r w same h =
+      subst (λ w. Visits (Next w) (Stop w) parts middle after from to r f) same h
 
-  abbrev Reads : {A : Type 0} → (A → List TreeEvent) → Cursor → Cursor → S → S → (Version → Reader A) → Type 0
-  Reads parts before after from to f = ReadsEvents takes takes_read parts before after from to f
+  abbrev Reads : {A : Type 0} → (A → List TreeEvent) → Cursor → Cursor → S → S → Result (Unit {0}) (ParseError E)
+      → (Version → Reader A) → Type 0
+  Reads parts before after from to r f = VisitsAsRead v parts before after from to r f
 
   -- an event without a text, and then a reading
-  pub led_reads : {A E : Type 0} (read : Event) (parts : A → List TreeEvent) (f : Version → Reader A)
+  pub led_reads : {A : Type 0} (read : Event) (parts : A → List TreeEvent) (f : Version → Reader A)
       (before after : Cursor) (from middle to : S) (r : Result (Unit {0}) (ParseError E))
-      → IsEventText (version before) read [] → takes from (event_of read) middle → takes_read from read middle
-      → OnOk r (Reads parts before after middle to f)
-      → OnOk r (Reads (λ v. event_of read ∷ parts v) before after from to (λ v. led (event_of read ∷ []) (f v)))
-  led_reads read parts f before after from middle to r none taken taken_read h =
-      on_ok_weaker r (λ h t pass. let k = h t pass in (
+      → IsEventText (version before) read [] → v.takes from (event_of read) middle → v.takes_read from read middle
+      → Reads parts before after middle to r f
+      → Reads (λ x. event_of read ∷ parts x) before after from to r (λ version. led (event_of read ∷ []) (f version))
+  led_reads read parts f before after from middle to r none taken taken_read h t pass =
+      let k = h t pass in (
         k.0,
         k.1,
-        led_visits (Next (version before)) Never (event_of read) parts (f (version before)) (rest before) (from, t)
-            (middle, t) (to, k.0) (kept before) after (Ok tt)
+        led_visits (Next (version before)) (Stop (version before)) (event_of read) parts (f (version before)) (rest before)
+            (from, t) (middle, t) (to, k.0) (kept before) after r
             (step (version before) read from middle t none taken taken_read) k.2,
-      )) h
+      )
+
+  -- the visitor fails at this event
+  pub led_stops : {A : Type 0} (read : Event) (parts : A → List TreeEvent) (f : Version → Reader A)
+      (before after : Cursor) (from to : S) (error : ParseError E) → IsEventText (version before) read []
+      → IsOfVisitor (v.fails from (event_of read)) error → IsOfVisitor (v.fails_read from read) error
+      → Reads (λ x. event_of read ∷ parts x) before after from to (Err error)
+      (λ version. led (event_of read ∷ []) (f version))
+  led_stops read parts f before after from to error none failed failed_read t pass = (
+    t,
+    tt,
+    led_fails (Next (version before)) (Stop (version before)) (event_of read) parts (f (version before)) (rest before)
+        (from, t) (to, t) (kept before) after error (stop (version before) read from t error none failed failed_read),
+  )
 
   -- ---- parameters and items
 
@@ -179,60 +266,136 @@ module _ {S : Type 0} (takes : S → TreeEvent → S → Type 0) (takes_read : S
   pub read_more : (version version' : Version) (start now r : List ℕ) (p : ReadParameter) (from middle to : S)
       → version' ≡ version
       → ReadParameters version start now from middle → parameter_at version now ≡ Ok (Some (read_pair p), r)
-      → takes middle (event_of (event.Parameter p.key p.value)) to
-      → takes_read middle (event.Parameter p.key p.value) to
-      → IsNextValue version' p.value now r → ReadParameters version start r from to
+      → v.takes middle (event_of (event.Parameter p.key p.value)) to
+      → v.takes_read middle (event.Parameter p.key p.value) to
+      → IsNextParameter version' p.key p.value now r → ReadParameters version start r from to
   read_more version version' start now r p from middle to same h parsed taken taken_read next t pass =
-      let k = h t pass in
-      let n = next_after version p.value k.0 now r k.1 (subst (λ v. IsNextValue v p.value now r) same next) in (
+      let k = h t pass in (
         r,
         passes_none r,
         visited_more (Next version) version start now r (text_of p.key) (input_value p.value) (from, t) (middle, k.0)
-            (to, r) k.2 parsed (
-              event.Parameter p.key p.value,
-              refl,
-              taken,
-              taken_read,
-              (n.gap, n.at, n.text, n.quiet, n.means),
-            ),
+            (to, r) k.2 parsed (step_next version (event.Parameter p.key p.value) middle to k.0 r
+            (parameter_event_next version p.key p.value k.0 now r k.1
+            (subst (λ w. IsNextParameter w p.key p.value now r) same next)) taken taken_read),
+      )
+
+  -- a parameter is faulty
+  pub parameter_error : (before now after : Cursor) (from middle : S) (e : Error) → kept now ≡ kept before
+      → ReadParameters (version before) (rest before) (rest now) from middle
+      → IsErrorOf (input now) e (parameter_at (version now) (rest now))
+      → Reads parameters_events before after from middle (Err (Syntax e)) parameters_at
+  parameter_error before now after from middle e same h error t pass =
+      let k = h t pass in (
+        k.0,
+        tt,
+        visited_error (Next (version before)) (rest before) (rest now) (from, t) (middle, k.0) (kept now) (kept before) e
+            same k.2 error,
+      )
+
+  -- the visitor fails at a parameter
+  pub parameter_stops : (before after : Cursor) (version' : Version) (now r : List ℕ) (p : ReadParameter)
+      (from middle to : S) (error : ParseError E) → version' ≡ version before
+      → ReadParameters (version before) (rest before) now from middle
+      → parameter_at (version before) now ≡ Ok (Some (read_pair p), r)
+      → IsOfVisitor (v.fails middle (event_of (event.Parameter p.key p.value))) error
+      → IsOfVisitor (v.fails_read middle (event.Parameter p.key p.value)) error
+      → IsNextParameter version' p.key p.value now r
+      → Reads parameters_events before after from to (Err error) parameters_at
+  parameter_stops before after version' now r p from middle to error same h parsed failed failed_read next t pass =
+      let k = h t pass in
+      let read = event.Parameter p.key p.value in
+      let next = parameter_event_next (version before) p.key p.value k.0 now r k.1
+      (subst (λ w. IsNextParameter w p.key p.value now r) same next) in (
+        t,
+        tt,
+        of_visitor (Next (version before)) (Stop (version before)) parameters_events (kept before) after (from, t) (to, t)
+            (Stop (version before) (middle, k.0) (event_of read)) error (parameters_at (version before) (rest before))
+            (stop_next (version before) read middle k.0 r error next failed failed_read)
+            (λ fault failed. parameter_failed (Next (version before)) (Stop (version before)) (version before)
+            (rest before) now r (text_of p.key) (input_value p.value) (from, t) (middle, k.0) fault k.2 parsed failed),
       )
 
   -- after the last parameter
-  pub end_reads : {E : Type 0} (before after : Cursor) (now : List ℕ) (from middle to : S)
+  pub end_reads : (before after : Cursor) (now : List ℕ) (from middle to : S)
       (r : Result (Unit {0}) (ParseError E)) → ReadParameters (version before) (rest before) now from middle
       → parameter_at (version before) now ≡ Ok (None, rest after) → rest after ≡ now → kept after ≡ kept before
-      → OnOk r (takes middle parameters_end to) → OnOk r (takes_read middle event.ParametersEnd to)
-      → OnOk r (Reads parameters_events before after from to parameters_at)
-  end_reads before after now from middle to (Ok u) h parsed same keeps taken taken_read =
-      λ t pass. let k = h t pass in (
+      → OnOk r (v.takes middle parameters_end to) → OnOk r (v.takes_read middle event.ParametersEnd to)
+      → IfErr r (IsOfVisitor (v.fails middle parameters_end))
+      → IfErr r (IsOfVisitor (v.fails_read middle event.ParametersEnd))
+      → Reads parameters_events before after from to r parameters_at
+  end_reads before after now from middle to r h parsed same keeps taken taken_read failed failed_read t pass =
+      let k = h t pass in (
         k.0,
-        passes_then k.0 now (rest after) k.1 (passes_same now (rest after) same),
-        end_visits (Next (version before)) Never (version before) (rest before) now (from, t) (middle, k.0) (to, k.0)
-            (kept before) after (Ok tt) k.2 parsed keeps
-            (step (version before) event.ParametersEnd middle to k.0 refl taken taken_read) tt,
+        always r (passes_then k.0 now (rest after) k.1 (passes_same now (rest after) same)),
+        end_visits (Next (version before)) (Stop (version before)) (version before) (rest before) now (from, t)
+            (middle, k.0) (to, k.0) (kept before) after r k.2 parsed keeps (on_ok r k.0 taken taken_read)
+            (on_err r k.0 failed failed_read),
       )
-  end_reads before after now from middle to (Err e) h parsed same keeps taken taken_read = tt
+    where
+      on_ok : (r : Result (Unit {0}) (ParseError E)) (q : List ℕ) → OnOk r (v.takes middle parameters_end to)
+          → OnOk r (v.takes_read middle event.ParametersEnd to)
+          → OnOk r (Next (version before) (middle, q) parameters_end (to, q))
+      on_ok (Ok u) q taken taken_read = step (version before) event.ParametersEnd middle to q refl taken taken_read
+      on_ok (Err e) q taken taken_read = tt
+
+      on_err : (r : Result (Unit {0}) (ParseError E)) (q : List ℕ) → IfErr r (IsOfVisitor (v.fails middle parameters_end))
+          → IfErr r (IsOfVisitor (v.fails_read middle event.ParametersEnd))
+          → IfErr r (IsOfVisitor (Stop (version before) (middle, q) parameters_end))
+      on_err (Ok u) q failed failed_read = tt
+      on_err (Err e) q failed failed_read = stop (version before) event.ParametersEnd middle q e refl failed failed_read
+
+  -- the text of a bare item that was just consumed, as that of an event
+  item_next : (before between : Cursor) (read : ReadBareItem) (t : List ℕ) → Passes t (rest before)
+      → bare_at (version before) (rest before) ≡ Ok (input_value read, rest between)
+      → IsBorrowedUnlessEscaped read before between
+      → IsNextEvent (version before) (event.BareItem read) t (rest between)
+  item_next before between read t pass here lent =
+      let n = next_after (version before) read t (rest before) (rest between) pass (bare_next read before between here lent)
+      in (n.gap, n.at, n.text, n.quiet, n.means)
+
+  -- the bare item is faulty
+  pub item_error : (before after : Cursor) (from : S) (e : Error)
+      → IsErrorOf (input before) e (bare_at (version before) (rest before))
+      → Reads item_events before after from from (Err (Syntax e)) item_at
+  item_error before after from e h t pass =
+      (t, tt, bare_faulty (Next (version before)) (version before) (rest before) (input before) e (from, t) h)
+
+  -- the visitor fails at the bare item
+  pub item_stops : (before between after : Cursor) (read : ReadBareItem) (from to : S) (error : ParseError E)
+      → bare_at (version before) (rest before) ≡ Ok (input_value read, rest between)
+      → IsBorrowedUnlessEscaped read before between → IsOfVisitor (v.fails from (bare_item (input_value read))) error
+      → IsOfVisitor (v.fails_read from (event.BareItem read)) error
+      → Reads item_events before after from to (Err error) item_at
+  item_stops before between after read from to error here lent failed failed_read t pass = (
+    t,
+    tt,
+    of_visitor (Next (version before)) (Stop (version before)) item_events (kept before) after (from, t) (to, t)
+        (Stop (version before) (from, t) (bare_item (input_value read))) error (item_at (version before) (rest before))
+        (stop_next (version before) (event.BareItem read) from t (rest between) error
+        (item_next before between read t pass here lent) failed failed_read)
+        (λ fault failed. bare_failed (Next (version before)) (Stop (version before)) (version before) (rest before)
+        (rest between) (input_value read) (from, t) fault here failed),
+  )
 
   -- a bare item and its parameters
-  pub item_reads : {E : Type 0} (before between after : Cursor) (read : ReadBareItem) (from middle to : S)
+  pub item_reads : (before between after : Cursor) (read : ReadBareItem) (from middle to : S)
       (r : Result (Unit {0}) (ParseError E)) → kept between ≡ kept before
       → bare_at (version before) (rest before) ≡ Ok (input_value read, rest between)
-      → IsBorrowedUnlessEscaped read before between → takes from (bare_item (input_value read)) middle
-      → takes_read from (event.BareItem read) middle
-      → OnOk r (Reads parameters_events between after middle to parameters_at)
-      → OnOk r (Reads item_events before after from to item_at)
-  item_reads before between after read from middle to r same here lent taken taken_read h =
-      on_ok_weaker r (λ h t pass. let k = h (rest between) (passes_none (rest between)) in (
+      → IsBorrowedUnlessEscaped read before between → v.takes from (bare_item (input_value read)) middle
+      → v.takes_read from (event.BareItem read) middle
+      → Reads parameters_events between after middle to r parameters_at
+      → Reads item_events before after from to r item_at
+  item_reads before between after read from middle to r same here lent taken taken_read h t pass =
+      let k = h (rest between) (passes_none (rest between)) in (
         k.0,
         k.1,
-        item_visits (Next (version before)) Never (version before) (rest before) (rest between) (input_value read)
-            (from, t) (middle, rest between) (to, k.0) (kept before) after (Ok tt) here
-            (step_item (version before) read from middle t (rest between)
-            (next_after (version before) read t (rest before) (rest between) pass
-            (bare_next read before between here lent)) taken taken_read)
-            (kept_events parameters_events parameters_at between after (middle, rest between) (to, k.0) (kept before)
+        item_visits (Next (version before)) (Stop (version before)) (version before) (rest before) (rest between)
+            (input_value read) (from, t) (middle, rest between) (to, k.0) (kept before) after r here
+            (step_next (version before) (event.BareItem read) from middle t (rest between)
+            (item_next before between read t pass here lent) taken taken_read)
+            (kept_next parameters_events parameters_at between after (middle, rest between) (to, k.0) (kept before) r
             same k.2),
-      )) h
+      )
 
   -- ---- loops
 
@@ -243,20 +406,38 @@ module _ {S : Type 0} (takes : S → TreeEvent → S → Type 0) (takes_read : S
 
   module _ {A : Type 0} (l : Loop A) (start : Cursor) (total : Answer (List A)) where
     abbrev First : Cursor → Type 0
-    First middle = IsFirst {E = Unit {0}} (Next (version start)) Never l start total middle
+    First middle = IsFirst {E = Unit {0}} (Next (version start)) (λ s e _. ⊤) l start total middle
+
+    -- the result of the loop
+    abbrev Ends : Cursor → S → S → Result (Unit {0}) (ParseError E) → Type 0
+    Ends after from to r = (t : List ℕ) → Passes t (rest start) → (q : List ℕ) × OnOk r (Passes q (rest after))
+        × VisitsAnswer (Next (version start)) (Stop (version start)) (all_events l.parts) (kept start) after (from, t)
+        (to, q) r total
 
     pub begun_reads : (middle after : Cursor) (from to : S) → Passes (rest start) (rest middle) → First middle
-        → Reads l.parts middle after from to l.one → ReadSoFar l start total after from to
+        → Reads l.parts middle after from to (Ok tt) l.one → ReadSoFar l start total after from to
     begun_reads middle after from to skipped first h t pass =
         let k = h t (passes_then t (rest start) (rest middle) pass skipped) in (
           k.0,
           k.1,
-          begun (Next (version start)) Never l start total middle after (from, t) (to, k.0) first
-              (under l.parts l.one middle after (from, t) (to, k.0) (version start) (ap kept_version first.1) k.2),
+          begun (Next (version start)) (Stop (version start)) l start total middle after (from, t) (to, k.0) first
+              (under l.parts l.one middle after (from, t) (to, k.0) (Ok tt) (version start) (ap kept_version first.1) k.2),
+        )
+
+    -- the first part ends with an error
+    pub first_stops : (middle after : Cursor) (from to : S) (error : ParseError E) → Passes (rest start) (rest middle)
+        → First middle → Reads l.parts middle after from to (Err error) l.one → Ends after from to (Err error)
+    first_stops middle after from to error skipped first h t pass =
+        let k = h t (passes_then t (rest start) (rest middle) pass skipped) in (
+          k.0,
+          tt,
+          first_fails (Next (version start)) (Stop (version start)) l start total middle after (from, t) (to, k.0) error
+              first (under l.parts l.one middle after (from, t) (to, k.0) (Err error) (version start)
+              (ap kept_version first.1) k.2),
         )
 
     pub more_reads : (now middle after : Cursor) (from at to : S) → Passing l.delimiter
-        → ReadSoFar l start total now from at → Wants l true now middle → Reads l.parts middle after at to l.one
+        → ReadSoFar l start total now from at → Wants l true now middle → Reads l.parts middle after at to (Ok tt) l.one
         → ReadSoFar l start total after from to
     more_reads now middle after from at to passing h wanted one t pass =
         let k = h t pass in
@@ -264,138 +445,290 @@ module _ {S : Type 0} (takes : S → TreeEvent → S → Type 0) (takes_read : S
         let n = one k.0 (passes_then k.0 (rest now) (rest middle) k.1 skipped) in (
           n.0,
           n.1,
-          more (Next (version start)) Never l start total now middle after (from, t) (at, k.0) (to, n.0) k.2 wanted
-              (under l.parts l.one middle after (at, k.0) (to, n.0) (version start)
+          more (Next (version start)) (Stop (version start)) l start total now middle after (from, t) (at, k.0) (to, n.0)
+              k.2 wanted (under l.parts l.one middle after (at, k.0) (to, n.0) (Ok tt) (version start)
               (ap kept_version (wanted.1 ∙ k.2.same)) n.2),
         )
 
+    -- a further part ends with an error
+    pub one_stops : (now middle after : Cursor) (from at to : S) (error : ParseError E) → Passing l.delimiter
+        → ReadSoFar l start total now from at → Wants l true now middle
+        → Reads l.parts middle after at to (Err error) l.one → Ends after from to (Err error)
+    one_stops now middle after from at to error passing h wanted one t pass =
+        let k = h t pass in
+        let skipped = passes l.delimiter (rest now) (rest middle) true passing wanted.0 in
+        let n = one k.0 (passes_then k.0 (rest now) (rest middle) k.1 skipped) in (
+          n.0,
+          tt,
+          one_fails (Next (version start)) (Stop (version start)) l start total now middle after (from, t) (at, k.0)
+              (to, n.0) error k.2 wanted (under l.parts l.one middle after (at, k.0) (to, n.0) (Err error) (version start)
+              (ap kept_version (wanted.1 ∙ k.2.same)) n.2),
+        )
+
+    -- the delimiter is faulty
+    pub delimiter_error : (now after : Cursor) (from to : S) (e : Error) → ReadSoFar l start total now from to
+        → IsFaultOf (input now) e (l.delimiter (rest now)) → Ends after from to (Err (Syntax e))
+    delimiter_error now after from to e h fault t pass =
+        let k = h t pass in (
+          k.0,
+          tt,
+          delimiter_fails (Next (version start)) (Stop (version start)) l start total now after (from, t) (to, k.0) e k.2
+              fault,
+        )
+
     pub ended_reads : (now after : Cursor) (from to : S) → Passing l.delimiter → ReadSoFar l start total now from to
-        → Wants l false now after → (t : List ℕ) → Passes t (rest start) → (r : List ℕ) × Passes r (rest after)
-        × VisitsAnswer (Next (version start)) Never (all_events l.parts) (kept start) after (from, t) (to, r) (Ok tt)
-        total
+        → Wants l false now after → Ends after from to (Ok tt)
     ended_reads now after from to passing h wanted t pass =
         let k = h t pass in
         let skipped = passes l.delimiter (rest now) (rest after) false passing wanted.0 in (
           k.0,
           passes_then k.0 (rest now) (rest after) k.1 skipped,
-          loop_ended (Next (version start)) Never l start total now after (from, t) (to, k.0) k.2 wanted,
+          loop_ended (Next (version start)) (Stop (version start)) l start total now after (from, t) (to, k.0) k.2 wanted,
         )
+
+  -- a further part makes the rest shorter
+  pub shorter_reads : {A : Type 0} (l : Loop A) (now middle after : Cursor) (at to : S) → Wants l true now middle
+      → Reads l.parts middle after at to (Ok tt) l.one → length (rest after) < length (rest now)
+  shorter_reads l now middle after at to wanted one =
+      let n = one (rest middle) (passes_none (rest middle)) in
+      shorter (Next (version middle)) (Stop (version middle)) l now middle after (at, rest middle) (to, n.0) wanted n.2
 
   -- ---- members
 
+  -- an inner list that the end of the input cuts off before its items
+  pub no_items_read : (before : Cursor) (from : S) → is_some (first (rest before)) ≡ false
+      → Reads (λ is. flat_map inner_item_events is) before before from from
+      (Err (Syntax (error_of UnterminatedInnerList (Some before.index)))) inner_items_at
+  no_items_read before from none t pass = (t, tt, no_items_visited (Next (version before)) before (from, t) none)
+
+  -- the items end with an error
+  pub items_stop : (before after : Cursor) (from to : S) (error : ParseError E)
+      → Reads (λ is. flat_map inner_item_events is) before after from to (Err error) inner_items_at
+      → Reads after_begin before after from to (Err error) inner_at
+  items_stop before after from to error h t pass =
+      let k = h t pass in (
+        k.0,
+        tt,
+        items_fail (Next (version before)) (Stop (version before)) (version before) (rest before) (from, t) (to, k.0)
+            (kept before) after error k.2,
+      )
+
+  -- the visitor fails at the end of the items
+  pub end_stops : (before between after : Cursor) (from middle to : S) (error : ParseError E)
+      → Reads (λ is. flat_map inner_item_events is) before between from middle (Ok tt) inner_items_at
+      → IsOfVisitor (v.fails middle inner_list_end) error → IsOfVisitor (v.fails_read middle event.InnerListEnd) error
+      → Reads after_begin before after from to (Err error) inner_at
+  end_stops before between after from middle to error items failed failed_read t pass =
+      let i = items t pass in (
+        t,
+        tt,
+        end_fails (Next (version before)) (Stop (version before)) (version before) (rest before) (rest between) i.2.0
+            (from, t) (middle, i.0) (to, t) (kept before) after error i.2.1 i.2.2
+            (stop (version before) event.InnerListEnd middle i.0 error refl failed failed_read),
+      )
+
   -- the items of an inner list, their end and the parameters
-  pub inner_list_reads : {E : Type 0} (before between after : Cursor) (from middle end to : S)
-      (r : Result (Unit {0}) (ParseError E)) → kept between ≡ kept before
-      → Reads (λ is. flat_map inner_item_events is) before between from middle inner_items_at
-      → takes middle inner_list_end end → takes_read middle event.InnerListEnd end
-      → OnOk r (Reads parameters_events between after end to parameters_at)
-      → OnOk r (Reads after_begin before after from to inner_at)
-  inner_list_reads before between after from middle end to r same items taken taken_read h =
-      on_ok_weaker r (λ h t pass.
+  pub inner_list_reads : (before between after : Cursor) (from middle end to : S)
+      (r : Result (Unit {0}) (ParseError E))
+      → Reads (λ is. flat_map inner_item_events is) before between from middle (Ok tt) inner_items_at
+      → v.takes middle inner_list_end end → v.takes_read middle event.InnerListEnd end
+      → Reads parameters_events between after end to r parameters_at
+      → Reads after_begin before after from to r inner_at
+  inner_list_reads before between after from middle end to r items taken taken_read h t pass =
       let i = items t pass in
       let k = h i.0 i.1 in (
         k.0,
         k.1,
-        inner_list_visits (Next (version before)) Never (version before) (rest before) (rest between) i.2.0 (from, t)
-            (middle, i.0) (end, i.0) (to, k.0) (kept before) after (Ok tt) i.2.1 i.2.2
+        inner_list_visits (Next (version before)) (Stop (version before)) (version before) (rest before) (rest between)
+            i.2.0 (from, t) (middle, i.0) (end, i.0) (to, k.0) (kept before) after r i.2.1 i.2.2
             (step (version before) event.InnerListEnd middle end i.0 refl taken taken_read)
-            (kept_events parameters_events parameters_at between after (end, i.0) (to, k.0) (kept before) same k.2),
-      )) h
+            (kept_next parameters_events parameters_at between after (end, i.0) (to, k.0) (kept before) r i.2.3 k.2),
+      )
 
-  pub list_member_reads : {E : Type 0} (before between after : Cursor) (from middle to : S)
+  pub list_member_reads : (before between after : Cursor) (from middle to : S)
       (r : Result (Unit {0}) (ParseError E)) → kept between ≡ kept before
       → TakesIf (byte left_parenthesis) true (rest before) (rest between)
-      → takes from begins_inner_list middle → takes_read from event.InnerList middle
-      → OnOk r (Reads after_begin between after middle to inner_at)
-      → OnOk r (Reads member_events before after from to member_at)
-  list_member_reads before between after from middle to r same m taken taken_read h =
-      on_ok_weaker r (λ h t pass.
+      → v.takes from begins_inner_list middle → v.takes_read from event.InnerList middle
+      → Reads after_begin between after middle to r inner_at → Reads member_events before after from to r member_at
+  list_member_reads before between after from middle to r same m taken taken_read h t pass =
       let k = h t (then_if (byte left_parenthesis) true t (rest before) (rest between) refl pass m) in (
         k.0,
         k.1,
-        list_member_visits (Next (version before)) Never (version before) (rest before) (rest between) (from, t)
-            (middle, t) (to, k.0) (kept before) after (Ok tt) m
+        list_member_visits (Next (version before)) (Stop (version before)) (version before) (rest before) (rest between)
+            (from, t) (middle, t) (to, k.0) (kept before) after r m
             (step (version before) event.InnerList from middle t refl taken taken_read)
-            (kept_events after_begin inner_at between after (middle, t) (to, k.0) (kept before) same k.2),
-      )) h
+            (kept_next after_begin inner_at between after (middle, t) (to, k.0) (kept before) r same k.2),
+      )
 
-  pub item_member_reads : {E : Type 0} (before between after : Cursor) (from middle to : S)
+  -- the visitor fails at the start of an inner list
+  pub list_member_stops : (before between after : Cursor) (from to : S) (error : ParseError E)
+      → TakesIf (byte left_parenthesis) true (rest before) (rest between)
+      → IsOfVisitor (v.fails from begins_inner_list) error → IsOfVisitor (v.fails_read from event.InnerList) error
+      → Reads member_events before after from to (Err error) member_at
+  list_member_stops before between after from to error m failed failed_read t pass = (
+    t,
+    tt,
+    list_begin_fails (Next (version before)) (Stop (version before)) (version before) (rest before) (rest between)
+        (from, t) (to, t) (kept before) after error m
+        (stop (version before) event.InnerList from t error refl failed failed_read),
+  )
+
+  pub item_member_reads : (before between after : Cursor) (from middle to : S)
       (r : Result (Unit {0}) (ParseError E)) → kept between ≡ kept before
       → TakesIf (byte left_parenthesis) false (rest before) (rest between)
-      → takes from begins_item middle → takes_read from event.Item middle
-      → OnOk r (Reads item_events between after middle to item_at)
-      → OnOk r (Reads member_events before after from to member_at)
-  item_member_reads before between after from middle to r same m taken taken_read h =
-      on_ok_weaker r (λ h t pass.
+      → v.takes from begins_item middle → v.takes_read from event.Item middle
+      → Reads item_events between after middle to r item_at → Reads member_events before after from to r member_at
+  item_member_reads before between after from middle to r same m taken taken_read h t pass =
       let k = h t (then_if (byte left_parenthesis) false t (rest before) (rest between) refl pass m) in (
         k.0,
         k.1,
-        item_member_visits (Next (version before)) Never (version before) (rest before) (rest between) (from, t)
-            (middle, t) (to, k.0) (kept before) after (Ok tt) m
+        item_member_visits (Next (version before)) (Stop (version before)) (version before) (rest before) (rest between)
+            (from, t) (middle, t) (to, k.0) (kept before) after r m
             (step (version before) event.Item from middle t refl taken taken_read)
-            (kept_events item_events item_at between after (middle, t) (to, k.0) (kept before) same k.2),
-      )) h
+            (kept_next item_events item_at between after (middle, t) (to, k.0) (kept before) r same k.2),
+      )
 
-  pub value_reads : {E : Type 0} (before between after : Cursor) (from to : S) (r : Result (Unit {0}) (ParseError E))
+  -- the visitor fails at the start of an item
+  pub item_member_stops : (before between after : Cursor) (from to : S) (error : ParseError E)
+      → TakesIf (byte left_parenthesis) false (rest before) (rest between)
+      → IsOfVisitor (v.fails from begins_item) error → IsOfVisitor (v.fails_read from event.Item) error
+      → Reads member_events before after from to (Err error) member_at
+  item_member_stops before between after from to error m failed failed_read t pass = (
+    t,
+    tt,
+    item_begin_fails (Next (version before)) (Stop (version before)) (version before) (rest before) (rest between)
+        (from, t) (to, t) (kept before) after error m
+        (stop (version before) event.Item from t error refl failed failed_read),
+  )
+
+  pub value_reads : (before between after : Cursor) (from to : S) (r : Result (Unit {0}) (ParseError E))
       → kept between ≡ kept before → TakesIf (byte equals_sign) true (rest before) (rest between)
-      → OnOk r (Reads member_events between after from to member_at)
-      → OnOk r (Reads member_events before after from to member_value_at)
-  value_reads before between after from to r same m h =
-      on_ok_weaker r (λ h t pass.
+      → Reads member_events between after from to r member_at → Reads member_events before after from to r member_value_at
+  value_reads before between after from to r same m h t pass =
       let k = h t (then_if (byte equals_sign) true t (rest before) (rest between) refl pass m) in (
         k.0,
         k.1,
-        value_visits (Next (version before)) Never (version before) (rest before) (rest between) (from, t) (to, k.0)
-            (kept before) after (Ok tt) m
-            (kept_events member_events member_at between after (from, t) (to, k.0) (kept before) same k.2),
-      )) h
+        value_visits (Next (version before)) (Stop (version before)) (version before) (rest before) (rest between)
+            (from, t) (to, k.0) (kept before) after r m
+            (kept_next member_events member_at between after (from, t) (to, k.0) (kept before) r same k.2),
+      )
+
+  -- the value true without a text, as an event
+  true_event : (version : Version) (t : List ℕ) → IsNextEvent version (event.BareItem (bare.Boolean true)) t t
+  true_event version t = ([], [], refl, refl, (inr (refl, refl), tt))
 
   -- the item true, with its parameters
-  pub true_reads : {E : Type 0} (before between after : Cursor) (from middle next to : S)
+  pub true_reads : (before between after : Cursor) (from middle next to : S)
       (r : Result (Unit {0}) (ParseError E)) → kept between ≡ kept before
       → TakesIf (byte equals_sign) false (rest before) (rest between)
-      → takes from begins_item middle → takes_read from event.Item middle
-      → takes middle (bare_item (boolean true)) next → takes_read middle (event.BareItem (bare.Boolean true)) next
-      → OnOk r (Reads parameters_events between after next to parameters_at)
-      → OnOk r (Reads member_events before after from to member_value_at)
-  true_reads before between after from middle next to r same m taken taken_read bare_taken bare_read h =
-      on_ok_weaker r (λ h t pass.
+      → v.takes from begins_item middle → v.takes_read from event.Item middle
+      → v.takes middle (bare_item (boolean true)) next → v.takes_read middle (event.BareItem (bare.Boolean true)) next
+      → Reads parameters_events between after next to r parameters_at
+      → Reads member_events before after from to r member_value_at
+  true_reads before between after from middle next to r same m taken taken_read bare_taken bare_read h t pass =
       let k = h t (then_if (byte equals_sign) false t (rest before) (rest between) refl pass m) in (
         k.0,
         k.1,
-        true_visits (Next (version before)) Never (version before) (rest before) (rest between) (from, t) (middle, t)
-            (next, t) (to, k.0) (kept before) after (Ok tt) m
+        true_visits (Next (version before)) (Stop (version before)) (version before) (rest before) (rest between) (from, t)
+            (middle, t) (next, t) (to, k.0) (kept before) after r m
             (step (version before) event.Item from middle t refl taken taken_read)
-            (event.BareItem (bare.Boolean true), refl, bare_taken, bare_read, ([], [], refl, refl, (inr (refl, refl), tt)))
-            (kept_events parameters_events parameters_at between after (next, t) (to, k.0) (kept before) same k.2),
-      )) h
+            (step_next (version before) (event.BareItem (bare.Boolean true)) middle next t t
+            (true_event (version before) t) bare_taken bare_read)
+            (kept_next parameters_events parameters_at between after (next, t) (to, k.0) (kept before) r same k.2),
+      )
+
+  -- the visitor fails at the start of the item true
+  pub true_begin_stops : (before between after : Cursor) (from to : S) (error : ParseError E)
+      → TakesIf (byte equals_sign) false (rest before) (rest between)
+      → IsOfVisitor (v.fails from begins_item) error → IsOfVisitor (v.fails_read from event.Item) error
+      → Reads member_events before after from to (Err error) member_value_at
+  true_begin_stops before between after from to error m failed failed_read t pass = (
+    t,
+    tt,
+    true_begin_fails (Next (version before)) (Stop (version before)) (version before) (rest before) (rest between)
+        (from, t) (to, t) (kept before) after error m
+        (stop (version before) event.Item from t error refl failed failed_read),
+  )
+
+  -- the visitor fails at its bare item
+  pub true_bare_stops : (before between after : Cursor) (from middle to : S) (error : ParseError E)
+      → TakesIf (byte equals_sign) false (rest before) (rest between)
+      → v.takes from begins_item middle → v.takes_read from event.Item middle
+      → IsOfVisitor (v.fails middle (bare_item (boolean true))) error
+      → IsOfVisitor (v.fails_read middle (event.BareItem (bare.Boolean true))) error
+      → Reads member_events before after from to (Err error) member_value_at
+  true_bare_stops before between after from middle to error m taken taken_read failed failed_read t pass = (
+    t,
+    tt,
+    true_bare_fails (Next (version before)) (Stop (version before)) (version before) (rest before) (rest between)
+        (from, t) (middle, t) (to, t) (kept before) after error m
+        (step (version before) event.Item from middle t refl taken taken_read)
+        (stop_next (version before) (event.BareItem (bare.Boolean true)) middle t t error (true_event (version before) t)
+        failed failed_read),
+  )
+
+  -- the text of a key that was just consumed, as that of an event
+  key_next : (before between : Cursor) (key : KeyRef) (t : List ℕ) → Passes t (rest before)
+      → key_at (rest before) ≡ Ok (text_of key, rest between)
+      → IsNextEvent (version before) (event.KeyedEntry key) t (rest between)
+  key_next before between key t pass keyed = (
+    pass.0,
+    text_of key,
+    pass.1 ∙ ap (λ (l : List ℕ). pass.0 ++ l) (key_text (rest before) (rest between) (text_of key) keyed)
+        ∙ sym (append_assoc pass.0 (text_of key) (rest between)),
+    pass.2,
+    refl,
+  )
+
+  -- the key is faulty
+  pub key_error : (before after : Cursor) (from : S) (e : Error) → IsErrorOf (input before) e (key_at (rest before))
+      → Reads keyed_events before after from from (Err (Syntax e)) keyed_at
+  key_error before after from e h t pass = (
+    t,
+    tt,
+    key_fails (Next (version before)) (Stop (version before)) (version before) (rest before) (kept before) e (from, t) h,
+  )
+
+  -- the visitor fails at the key
+  pub keyed_stops : (before between after : Cursor) (key : KeyRef) (from to : S) (error : ParseError E)
+      → key_at (rest before) ≡ Ok (text_of key, rest between)
+      → IsOfVisitor (v.fails from (keyed_entry (text_of key))) error
+      → IsOfVisitor (v.fails_read from (event.KeyedEntry key)) error
+      → Reads keyed_events before after from to (Err error) keyed_at
+  keyed_stops before between after key from to error keyed failed failed_read t pass = (
+    t,
+    tt,
+    keyed_fails (Next (version before)) (Stop (version before)) (version before) (rest before) (rest between)
+        (text_of key) (from, t) (to, t) (kept before) after error keyed
+        (stop_next (version before) (event.KeyedEntry key) from t (rest between) error
+        (key_next before between key t pass keyed) failed failed_read),
+  )
 
   -- a member after its key
-  pub keyed_reads : {E : Type 0} (before between after : Cursor) (e : Event) (key : List ℕ) (from middle to : S)
+  pub keyed_reads : (before between after : Cursor) (key : KeyRef) (from middle to : S)
       (r : Result (Unit {0}) (ParseError E)) → kept between ≡ kept before
-      → key_at (rest before) ≡ Ok (key, rest between) → event_of e ≡ keyed_entry key
-      → IsEventText (version before) e [] → takes from (event_of e) middle → takes_read from e middle
-      → OnOk r (Reads member_events between after middle to member_value_at)
-      → OnOk r (Reads keyed_events before after from to keyed_at)
-  keyed_reads before between after e key from middle to r same keyed is none taken taken_read h =
-      on_ok_weaker r (λ h t pass.
-      let k = h t (passes_then t (rest before) (rest between) pass (passes key_at (rest before) (rest between) key
-      Passing-key keyed)) in (
+      → key_at (rest before) ≡ Ok (text_of key, rest between) → v.takes from (keyed_entry (text_of key)) middle
+      → v.takes_read from (event.KeyedEntry key) middle
+      → Reads member_events between after middle to r member_value_at
+      → Reads keyed_events before after from to r keyed_at
+  keyed_reads before between after key from middle to r same keyed taken taken_read h t pass =
+      let k = h (rest between) (passes_none (rest between)) in (
         k.0,
         k.1,
-        keyed_visits (Next (version before)) Never (version before) (rest before) (rest between) key (from, t)
-            (middle, t) (to, k.0) (kept before) after (Ok tt) keyed
-            (subst (λ x. Next (version before) (from, t) x (middle, t)) is
-            (step (version before) e from middle t none taken taken_read))
-            (kept_events member_events member_value_at between after (middle, t) (to, k.0) (kept before) same k.2),
-      )) h
+        keyed_visits (Next (version before)) (Stop (version before)) (version before) (rest before) (rest between)
+            (text_of key) (from, t) (middle, rest between) (to, k.0) (kept before) after r keyed
+            (step_next (version before) (event.KeyedEntry key) from middle t (rest between)
+            (key_next before between key t pass keyed) taken taken_read)
+            (kept_next member_events member_value_at between after (middle, rest between) (to, k.0) (kept before) r same
+            k.2),
+      )
 
   -- ---- whole fields
 
   -- the events as a list
   pub events_read : (version : Version) (es : List TreeEvent) (from to : S × List ℕ) → FoldsTo (Next version) from es to
       → HasNoQuote to.1 → (read : List Event) × (map event_of read ≡ es) × AreReadFrom version read from.1
-      × FoldsTo (λ s e to. takes s (event_of e) to × takes_read s e to) from.0 read to.0
+      × Receives v from.0 read to.0
   events_read version [] from to h last =
       ([], refl, subst HasNoQuote (ap (λ (p : S × List ℕ). p.1) (sym h)) last, ap (λ (p : S × List ℕ). p.0) h)
   events_read version (e ∷ es) from to h last =
@@ -407,65 +740,142 @@ module _ {S : Type 0} (takes : S → TreeEvent → S → Type 0) (takes_read : S
         (h.0.0, (h.1.2, h.1.3), k.3),
       )
 
--- the result for a whole field, in the words of the definitions
-pub field_as_read : {S O E : Type 0} (v : Ghosts S O E) (p : Parser) (kind : FieldKind) (from : S) (t : List ℕ)
-    (out : O) → t ≡ input_of p
-    → VisitsField {E = Unit {0}} (TakesNext v.takes v.takes_read (version_of p)) Never
-    (λ s out. v.finishes s.0 out × HasNoQuote s.1) (λ _ _. ⊥) (version_of p) kind (input_of p) (from, t) (Ok out)
-    → ReceivesAsReadBy v p kind from out
-field_as_read {S} v p kind from t out same h =
-    let accepted = (read_is_accepted (version_of p) kind (input_of p) h.0).0 h.1 in
-    let es = events_read v.takes v.takes_read (version_of p) (events kind h.0) (from, t) h.2.0 h.2.1 h.2.2.1 in
-    record {
-      raw = h.0;
-      accepted = accepted;
-      only = λ other k. one_field_lem (version_of p) kind (input_of p) other h.0 k accepted;
-      holds = (
-        es.0,
-        es.1,
-        subst (AreReadFrom (version_of p) es.0) same es.2,
-        h.2.0.0,
-        es.3,
-        h.2.2.0,
-      );
-    }
+-- ---- whole fields
 
 -- a text that ends after bytes without a quote
 ended : (t r : List ℕ) → Passes t r → r ≡ [] → HasNoQuote t
 ended t r h end = subst HasNoQuote (sym (h.1 ∙ ap (λ (l : List ℕ). h.0 ++ l) end ∙ append-nil h.0)) h.2
 
-pub item_field_read : {S O E : Type 0} (v : Ghosts S O E) (p : Parser) (alloc : Global) (before after : Cursor)
-    (s s' w : List ℕ) (from last : S) (out : O) → kept before ≡ (p, alloc)
-    → span is_space (input_of p) ≡ Ok (s, rest before)
-    → ReadsEvents v.takes v.takes_read item_events before after from last item_at
-    → span is_space (rest after) ≡ Ok (s', w) → is_some (first w) ≡ false → v.finishes last out
-    → ReceivesAsReadBy v p item_field from out
-item_field_read v p alloc before after s s' w from last out same skipped h spaces none finished =
-    let t = input_of p in
-    let k = h t (passes_spaces t s (rest before) skipped) in
-    let read = kept_events v.takes v.takes_read item_events item_at before after (from, t) (last, k.0) (p, alloc) same
-    k.2 in
-    let whole = field_done (version_of p) t s (rest before) (rest after) s' w read.0 skipped read.1 spaces none in
-    let quiet = ended k.0 w (passes_then k.0 (rest after) w k.1 (passes_spaces (rest after) s' w spaces))
-    (at_end w none) in
-    field_as_read v p item_field from t out refl (read.0, whole, ((last, k.0), read.2, (finished, quiet)))
+module _ {S O E : Type 0} (v : Ghosts S O E) (p : Parser) (alloc : Global) (from : S) where
+  abbrev w : Version
+  w = version_of p
 
-pub members_field_read : {S O E : Type 0} (v : Ghosts S O E) (keyed : Bool) (p : Parser) (alloc : Global)
-    (start after : Cursor) (from last : S) (out : O) → kept start ≡ (p, alloc) → rest start ≡ input_of p
-    → rest after ≡ []
-    → ReadsEvents v.takes v.takes_read (λ members. flat_map (member_parts keyed) members) start after from last
-    (λ version. members_at (member_parts keyed) (one_member_at keyed version))
-    → v.finishes last out → ReceivesAsReadBy v p (field_of keyed) from out
-members_field_read v keyed p alloc start after from last out same whole end h finished =
-    let t = rest start in
-    let k = h t (passes_none t) in
-    let step = TakesNext v.takes v.takes_read (version_of p) in
-    let read = start_visits step Never (λ members. flat_map (member_parts keyed) members)
-    (λ version. members_at (member_parts keyed) (one_member_at keyed version)) start after (from, t) (last, k.0)
-    (p, alloc) (Ok tt) same whole
-    (under v.takes v.takes_read (λ members. flat_map (member_parts keyed) members)
-    (λ version. members_at (member_parts keyed) (one_member_at keyed version)) start after (from, t) (last, k.0)
-    (version_of p) (ap kept_version same) k.2) in
-    field_as_read v p (field_of keyed) from t out whole (members_finish step Never
-    (λ s out. v.finishes s.0 out × HasNoQuote s.1) (λ _ _. ⊥) keyed (version_of p) (input_of p) (rest after) (from, t)
-    (last, k.0) (Ok out) read.0 read.1 end read.2 (finished, ended k.0 (rest after) k.1 end) tt)
+  abbrev t : List ℕ
+  t = input_of p
+
+  abbrev Finishes : S × List ℕ → O → Type 0
+  Finishes s out = v.finishes s.0 out
+
+  abbrev FinishFails : S × List ℕ → E → Type 0
+  FinishFails s error = v.finish_fails s.0 error
+
+  abbrev FieldIs : FieldKind → Result O (ParseError E) → Type 0
+  FieldIs kind r = VisitsFieldAsRead v p kind from r
+
+  -- in the words of the definitions
+  in_words : (kind : FieldKind) (raw : RawField kind) (last : S × List ℕ) (out : O)
+      → read_field w kind t ≡ Ok raw → FoldsTo (TakesNext v w) (from, t) (events kind raw) last → HasNoQuote last.1
+      → v.finishes last.0 out → ReceivesAsReadBy v p kind from out
+  in_words kind raw last out whole run quiet finished =
+      let accepted = (read_is_accepted w kind t raw).0 whole in
+      let es = events_read v w (events kind raw) (from, t) last run quiet in
+      record {
+        raw = raw;
+        accepted = accepted;
+        only = λ other k. one_field_lem w kind t other raw k accepted;
+        holds = (es.0, es.1, es.2, last.0, es.3, finished);
+      }
+
+  -- an item, up to the bytes after it
+  module _ (before after : Cursor) (s : List ℕ) (to : S) (same : kept before ≡ (p, alloc))
+      (skipped : span is_space t ≡ Ok (s, rest before)) where
+    item_read : (r : Result (Unit {0}) (ParseError E)) → VisitsAsRead v item_events before after from to r item_at
+        → (q : List ℕ) × OnOk r (Passes q (rest after))
+        × VisitsAnswer (TakesNext v w) (FailsNext v w) item_events (p, alloc) after (from, t) (to, q) r
+        (item_at w (rest before))
+    item_read r h =
+        let k = h t (passes_spaces t s (rest before) skipped) in (
+          k.0,
+          k.1,
+          kept_next v item_events item_at before after (from, t) (to, k.0) (p, alloc) r same k.2,
+        )
+
+    pub item_field_fails : (error : ParseError E) → VisitsAsRead v item_events before after from to (Err error) item_at
+        → FieldIs item_field (Err error)
+    item_field_fails error h =
+        let k = item_read (Err error) h in
+        item_fails (TakesNext v w) (FailsNext v w) Finishes FinishFails w (p, alloc) s (rest before) (from, t) (to, k.0)
+        after error skipped k.2
+
+    module _ (h : VisitsAsRead v item_events before after from to (Ok tt) item_at) where
+      pub item_field_unfinished : (error : ParseError E) → IsOfVisitor (v.finish_fails to) error
+          → FieldIs item_field (Err error)
+      item_field_unfinished error failed =
+          let k = item_read (Ok tt) h in
+          finish_failed (TakesNext v w) (FailsNext v w) Finishes FinishFails w t s (rest before) (rest after) k.2.0
+          (from, t) (to, k.0) error skipped k.2.1 k.2.2 failed
+
+      pub item_field_trailing : (end : Cursor) (s' : List ℕ) (out : O) → kept end ≡ kept after
+          → span is_space (rest after) ≡ Ok (s', rest end) → is_some (first (rest end)) ≡ true → v.finishes to out
+          → FieldIs item_field (Err (Syntax (error_of TrailingCharactersAfterParsedValue (Some end.index))))
+      item_field_trailing end s' out keeps spaces some finished =
+          let k = item_read (Ok tt) h in
+          let error = error_of TrailingCharactersAfterParsedValue (Some end.index) in (
+            field_trailing_error w t s (rest before) (rest after) s' end (p, alloc) k.2.0 (keeps ∙ k.2.3) skipped k.2.1
+                spaces some,
+            finished_at (TakesNext v w) Finishes w t s (rest before) (rest after) k.2.0 (from, t) (to, k.0) out error
+                skipped k.2.1 k.2.2 finished,
+            took_whole (TakesNext v w) w t s (rest before) (rest after) k.2.0 (from, t) (to, k.0) error skipped k.2.1
+                k.2.2,
+          )
+
+      module _ (s' q : List ℕ) (out : O) (spaces : span is_space (rest after) ≡ Ok (s', q))
+          (none : is_some (first q) ≡ false) (finished : v.finishes to out) where
+        pub item_field_done : FieldIs item_field (Ok out)
+        item_field_done =
+            let k = item_read (Ok tt) h in (
+              k.2.0,
+              field_done w t s (rest before) (rest after) s' q k.2.0 skipped k.2.1 spaces none,
+              ((to, k.0), k.2.2, finished),
+            )
+
+        pub item_field_read : ReceivesAsReadBy v p item_field from out
+        item_field_read =
+            let k = item_read (Ok tt) h in
+            in_words item_field k.2.0 (to, k.0) out
+            (field_done w t s (rest before) (rest after) s' q k.2.0 skipped k.2.1 spaces none) k.2.2
+            (ended k.0 q (passes_then k.0 (rest after) q k.1 (passes_spaces (rest after) s' q spaces)) (at_end q none))
+            finished
+
+  -- members, up to the end of the input
+  module _ (keyed : Bool) (start after : Cursor) (to : S) (same : kept start ≡ (p, alloc))
+      (whole : rest start ≡ t) where
+    abbrev All : List (MemberValue keyed) → List TreeEvent
+    All members = flat_map (member_parts keyed) members
+
+    abbrev Members : Version → Reader (List (MemberValue keyed))
+    Members version = members_at (member_parts keyed) (one_member_at keyed version)
+
+    members_read : (r : Result (Unit {0}) (ParseError E)) → VisitsAsRead v All start after from to r Members
+        → (q : List ℕ) × OnOk r (Passes q (rest after))
+        × VisitsAnswer (TakesNext v w) (FailsNext v w) All (p, alloc) after (from, t) (to, q) r (Members w t)
+    members_read r h =
+        let k = h t (passes_same t (rest start) whole) in (
+          k.0,
+          k.1,
+          start_visits (TakesNext v w) (FailsNext v w) All Members start after (from, t) (to, k.0) (p, alloc) r same whole
+              (under v All Members start after (from, t) (to, k.0) r w (ap kept_version same) k.2),
+        )
+
+    pub members_field_fails : (error : ParseError E) → VisitsAsRead v All start after from to (Err error) Members
+        → FieldIs (field_of keyed) (Err error)
+    members_field_fails error h =
+        let k = members_read (Err error) h in
+        members_fail (TakesNext v w) (FailsNext v w) Finishes FinishFails keyed w (p, alloc) (from, t) (to, k.0) after
+        error k.2
+
+    module _ (end : rest after ≡ []) (h : VisitsAsRead v All start after from to (Ok tt) Members) where
+      pub members_field_ends : (r : Result O (ParseError E)) → IfOk r (v.finishes to)
+          → IfErr r (IsOfVisitor (v.finish_fails to)) → FieldIs (field_of keyed) r
+      members_field_ends r finished failed =
+          let k = members_read (Ok tt) h in
+          members_finish (TakesNext v w) (FailsNext v w) Finishes FinishFails keyed w t (rest after) (from, t) (to, k.0) r
+          k.2.0 k.2.1 end k.2.2 finished failed
+
+      pub members_field_read : (out : O) → v.finishes to out → ReceivesAsReadBy v p (field_of keyed) from out
+      members_field_read out finished =
+          let k = members_read (Ok tt) h in
+          let f = members_finish (TakesNext v w) (FailsNext v w)
+          (λ s out. v.finishes s.0 out × HasNoQuote s.1) FinishFails keyed w t (rest after) (from, t) (to, k.0) (Ok out)
+          k.2.0 k.2.1 end k.2.2 (finished, ended k.0 (rest after) k.1 end) tt in
+          in_words (field_of keyed) f.0 f.2.0 out f.1 f.2.1 f.2.2.1 f.2.2.0

@@ -25,10 +25,9 @@ use Rattle.sfv_model.proofs.complete.Combinators.{span_complete, Apart-cons}
 use Rattle.sfv_model.proofs.complete.Quoted.{string_complete, display_complete}
 use Rattle.sfv.specs.declared.parser.cursor.Cursor.{Cursor}
 use Rattle.sfv.specs.parser.Cursor.{rest}
-use Rattle.sfv.specs.parser.AsRead.{HasNoQuote}
 use Rattle.sfv.specs.parser.Quoted.{IsBorrowedUnlessEscaped}
-use Rattle.sfv.specs.Parsers.{IsBorrowedIfPlain, IsReadAs, AreReadFrom}
-use Rattle.sfv.proofs.Relations.{HasBorrowed, HasEventsRead}
+use Rattle.sfv.specs.Parsers.{HasNoQuote, IsBorrowedIfPlain, IsReadAs, AreReadFrom}
+use Rattle.sfv.proofs.Relations.{folded, HasBorrowed, HasEventsRead}
 use Rattle.sfv.proofs.visits.Fields.{whole_accepted}
 use Rattle.sfv.proofs.visits.First.{visited_first, same_rest}
 use Rattle.sfv.proofs.visits.Passed.{run_apart, both_apart}
@@ -137,13 +136,6 @@ accepted_begins version t raw accepted =
     let same : first.0 ≡ raw.bare = let e = first.1 in cc in
     subst (λ (v : BareValue). BeginsWithLongest version v t) same first.2
 
--- the events in the definitions
-folded : {S : Type 0} (takes : S → TreeEvent → S → Type 0) (takes_read : S → Event → S → Type 0) (es : List Event)
-    (from to : S) → FoldsTo (λ s e to. takes s (event_of e) to × takes_read s e to) from es to
-    → FoldsTo takes from (map event_of es) to
-folded takes takes_read [] from to h = h
-folded takes takes_read (e ∷ es) from to h = (h.0, h.1.0, folded takes takes_read es h.0 to h.2)
-
 -- The visitor received the bare item of the field as parsed. It is borrowed unless its text has an escape.
 pub first_as_read : {S O : Type 0} (takes : S → TreeEvent → S → Type 0) (takes_read : S → Event → S → Type 0)
     (finishes : S → O → Type 0) (version : Version) (t : List ℕ) (from : S) (out : O)
@@ -164,7 +156,7 @@ first_as_read {S} {O} takes takes_read finishes version t from out h =
         let rest_same : map event_of es ≡ parameters_events raw.parameters = cc in
         let begins = subst (λ (v : BareValue). BeginsWithLongest version v t) (sym same)
         (accepted_begins version t raw h.accepted) in
-        let f = begins.first in (
+        let f = begins in (
           read,
           raw.parameters,
           subst (λ (v : BareValue). IsFieldText version item_field (record { bare = v; parameters = raw.parameters }) t)

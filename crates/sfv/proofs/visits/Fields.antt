@@ -1,8 +1,8 @@
 -- What is visited of a whole field.
 use Rattle.std.proofs.Common.{◌≡◌, ℕ, ◌≤◌, List, [], ◌∷◌, ◌++◌, length, take, drop, Option, Some, None, Result, Ok, Err}
 use Rattle.std.proofs.Common.{refl, sym, ap, subst, ◌∙◌, append_assoc, inl, inr}
-use Rattle.std.proofs.lemmas.List.{append_cancel_right, append-nil, take-append-drop}
-use Rattle.std.specs.Prelude.{⊤, Bool, true, false, MatchOption, IfOk, IfErr, flat_map, ◌⊎◌}
+use Rattle.std.proofs.lemmas.List.{append_cancel_right, take-append-drop}
+use Rattle.std.specs.Prelude.{⊤, Bool, true, false, MatchOption, IfOk, IfErr, flat_map, ◌⊎◌, codes}
 use Rattle.std.specs.declared.alloc.Global.{Global}
 use Rattle.sfv_spec.proofs.Marks.{is_space}
 use Rattle.sfv_spec.specs.Values.{RawField, RawItem, IsFieldValue}
@@ -29,12 +29,11 @@ use Rattle.sfv_model.specs.Fields.{members_at, whole_field_at, ending, read_fiel
 use Rattle.sfv_model.specs.Judgements.{Reached}
 use Rattle.sfv_model.specs.Visits.{VisitorFails}
 use Rattle.sfv_model.proofs.complete.Combinators.{bind_complete}
-use Rattle.sfv_model.proofs.sound.Combinators.{Somewhere}
+use Rattle.sfv_model.proofs.sound.Combinators.{Somewhere, Begins}
 use Rattle.sfv_model.proofs.sound.Fields.{FieldGoes, Sound-field}
 use Rattle.sfv_model.proofs.Theorems.{read_is_accepted, fault_is_placed}
 use Rattle.sfv_model.proofs.TrailingBytes.{read_before}
-use Rattle.sfv_model.proofs.visits.Fields.{visited_begins}
-use Rattle.sfv_model.proofs.visits.EventsBeforeReach.{visited_reach}
+use Rattle.sfv_model.proofs.visits.EventsExpected.{expected_events, delimited_events}
 use Rattle.sfv.specs.declared.parser.Parser.{Parser}
 use Rattle.sfv.specs.declared.parser.cursor.Cursor.{Cursor}
 use Rattle.sfv.specs.parser.Cursor.{kept_input, located, IsErrorOf, located_whole}
@@ -42,11 +41,13 @@ use Rattle.sfv.specs.parser.Members.{MemberValue, member_parts, one_member_at, f
 use Rattle.sfv_tree.specs.declared.visitor.Visitor.{Ghosts}
 use Rattle.sfv.specs.parser.Visits.{VisitsAnswer, IsOfVisitor, VisitsField, IsFinishedAt, IsAskedThere, ReturnsAfter}
 use Rattle.sfv.specs.parser.Visits.{TookAllOf, TookAll}
-use Rattle.sfv.specs.Parsers.{version_of, input_of, IsParseError, FailsOn, Returns, IsAnswerBy, IsSyntaxErrorBy}
-use Rattle.sfv.specs.Parsers.{BeginWith, ReceivesUpTo, ReceivesBeforeErrorBy, IsVisitorErrorBy}
+use Rattle.sfv.specs.Parsers.{version_of, input_of, IsParseError, Returns, IsAnswerBy, IsSyntaxErrorBy}
+use Rattle.sfv_spec.specs.Faults.{IsWantedAt}
+use Rattle.sfv.specs.Parsers.{HasEvents, AreBefore, Takes, ReceivesUpTo, ReceivesBeforeErrorBy}
 use Rattle.sfv.proofs.visits.Whole.{spaced, field_error, ending_located}
 use Rattle.sfv.proofs.Parsed.{located_fault, parse_error}
 use Rattle.sfv.proofs.reads.Delimiters.{span_total}
+use Rattle.sfv.proofs.visits.Taken.{split_run}
 use Rattle.sfv.proofs.visits.Received.{visited_whole, visited_open_list, visited_begun}
 use Rattle.sfv.specs.Memory.{IsRefusal}
 
@@ -313,7 +314,7 @@ whole_accepted version kind t raw h = ending_ok (events kind) (whole_field_at ve
     ((read_is_accepted version kind t raw).1 h)
 
 -- what was read of a text is a value
-whole_value : (version : Version) (kind : FieldKind) (t q : List ℕ) (raw : RawField kind)
+pub whole_value : (version : Version) (kind : FieldKind) (t q : List ℕ) (raw : RawField kind)
     → whole_field_at version kind t ≡ Ok (raw, q) → IsFieldValue kind raw
 whole_value version kind t q raw e =
     let h : Reached (IsFieldText version kind) (FieldGoes version kind) (Somewhere (FieldGoes version kind)) t (Ok (
@@ -325,7 +326,7 @@ whole_value version kind t q raw e =
     (accepted_is_value_lem version kind h.0 raw h.2).0
 
 -- where a text is rejected, only an item's visitor was asked
-asked_of_item : (kind : FieldKind) (q : List ℕ) → IsAskedThere kind q → (q ≡ [] → ⊥) → kind ≡ item_field
+pub asked_of_item : (kind : FieldKind) (q : List ℕ) → IsAskedThere kind q → (q ≡ [] → ⊥) → kind ≡ item_field
 asked_of_item item_field q asked none = refl
 asked_of_item list_field q asked none = absurd (none asked)
 asked_of_item dictionary_field q asked none = absurd (none asked)
@@ -349,7 +350,7 @@ front_is t front rest n e d = append_cancel_right front (take n t) rest (sym e �
     ∙ ap (λ (l : List ℕ). take n t ++ l) (sym d))
 
 -- where more stands after a field, the field is the text up to the reach
-text_before : (version : Version) (kind : FieldKind) (t q : List ℕ) (raw : RawField kind)
+pub text_before : (version : Version) (kind : FieldKind) (t q : List ℕ) (raw : RawField kind)
     → whole_field_at version kind t ≡ Ok (raw, q) → ¬ (q ≡ []) → (n : ℕ) → IsReach version kind t n
     → IsFieldText version kind raw (take n t)
 unfolding read_field
@@ -374,69 +375,6 @@ module _ {S O E : Type 0} (v : Ghosts S O E) (p : Parser) (kind : FieldKind) (fr
 
   abbrev Visits : Result O (ParseError E) → Type 0
   Visits r = VisitsField v.takes v.fails v.finishes v.finish_fails version kind t from r
-
-  failed_on_accepted : (f : E) → Visits (Err (Visitor f)) → (raw : RawField kind) → IsFieldText version kind raw t
-      → FailsOn v from (events kind raw) ⊤ f
-  failed_on_accepted f (inl r) raw h =
-      let e : events kind raw ≡ r.before ++ r.e ∷ r.after =
-      ap (visited (events kind)) (sym (whole_accepted version kind t raw h)) ∙ r.all in
-      inl (r.before, r.e, r.after, r.s, e, r.taken, r.failed)
-  failed_on_accepted f (inr x) raw h =
-      let same = same_value (whole_field_at version kind t) x.0 raw x.1 [] x.3 (whole_accepted version kind t raw h) in
-      inr (tt, x.2, subst (λ (i : RawField kind). FoldsTo v.takes from (events kind i) x.2) same x.4, x.5)
-
-  -- a failure at one of the first events of a field is one on it
-  failed_within : (raw : RawField kind) (es others : List TreeEvent) (may_finish : Type 0) (f : E)
-      → events kind raw ≡ es ++ others → (r : VisitorFails v.takes v.fails (events kind) (whole_field_at version kind t) from f)
-      → es ≡ r.before ++ r.e ∷ r.after → FailsOn v from (events kind raw) may_finish f
-  failed_within raw es others may_finish f all r split = inl (
-    r.before,
-    r.e,
-    r.after ++ others,
-    r.s,
-    all ∙ ap (λ (l : List TreeEvent). l ++ others) split ∙ append_assoc r.before (r.e ∷ r.after) others,
-    r.taken,
-    r.failed,
-  )
-
-  failed_somewhere : (f : E) → Visits (Err (Visitor f)) → ¬ IsAccepted version kind t
-      → (raw : RawField kind) × IsFieldValue kind raw × FailsOn v from (events kind raw) (kind ≡ item_field) f
-  failed_somewhere f (inl r) rejected =
-      let b = visited_begins version kind t in (
-        b.raw,
-        b.is_value,
-        failed_within b.raw (visited (events kind) (whole_field_at version kind t)) b.more (kind ≡ item_field) f b.all r
-            r.all,
-      )
-  failed_somewhere f (inr x) rejected =
-      let accepted : x.1 ≡ [] → IsFieldText version kind x.0 t =
-      λ end. (read_is_accepted version kind t x.0).0 (whole_read version kind t x.1 x.0 x.3 end) in (
-        x.0,
-        whole_value version kind t x.1 x.0 x.3,
-        inr (asked_of_item kind x.1 x.6 (λ end. rejected (x.0, accepted end)), x.2, x.4, x.5),
-      )
-
-  -- on a rejected text: the events begin those of a field that begins as the text does up to its reach
-  failed_from : (f : E) → Visits (Err (Visitor f)) → ¬ IsAccepted version kind t → (n : ℕ) → IsReach version kind t n
-      → (raw : RawField kind) × (more : List ℕ) × IsFieldText version kind raw (take n t ++ more)
-      × FailsOn v from (events kind raw) ((kind ≡ item_field) × (more ≡ [])) f
-  failed_from f (inl r) rejected n reach =
-      let b = visited_reach version kind t rejected n reach in (
-        b.raw,
-        b.more,
-        b.accepted,
-        failed_within b.raw (visited (events kind) (whole_field_at version kind t)) b.others
-            ((kind ≡ item_field) × (b.more ≡ [])) f b.all r r.all,
-      )
-  failed_from f (inr x) rejected n reach =
-      let accepted : x.1 ≡ [] → IsFieldText version kind x.0 t =
-      λ end. (read_is_accepted version kind t x.0).0 (whole_read version kind t x.1 x.0 x.3 end) in (
-        x.0,
-        [],
-        subst (IsFieldText version kind x.0) (sym (append-nil (take n t)))
-            (text_before version kind t x.1 x.0 x.3 (λ end. rejected (x.0, accepted end)) n reach),
-        inr ((asked_of_item kind x.1 x.6 (λ end. rejected (x.0, accepted end)), refl), x.2, x.4, x.5),
-      )
 
   pub visits_answer : (r : Result O (ParseError E)) → Visits r → IfOk r (IsAnswerBy v p kind from)
   visits_answer (Ok out) h =
@@ -474,6 +412,24 @@ module _ {S O E : Type 0} (v : Ghosts S O E) (p : Parser) (kind : FieldKind) (fr
   )
   visits_syntax (Err (Visitor f)) h = tt
 
+  has_visited : (es first : List TreeEvent) (u q : List ℕ) → HasEvents version kind es u → AreBefore es first q
+      → Begins (visited (events kind) (whole_field_at version kind (u ++ q))) first
+  has_visited es first u q (raw, inl (h, same)) b =
+      visited_whole version kind raw u q first h (subst (λ (es : List TreeEvent). AreBefore es first q) (sym same) b)
+  has_visited es first u q (raw, inr (h, e)) b = (visited_open_list version kind raw u q es h e).0 first b
+
+  has_expected : (es : List TreeEvent) (fault : ErrorKind) (n : ℕ) → IsWantedAt version kind t fault n
+      → HasEvents version kind es (take n t) → Begins (visited (events kind) (whole_field_at version kind t)) es
+  has_expected es fault n w (raw, inl (h, same)) =
+      subst (Begins (visited (events kind) (whole_field_at version kind t))) same
+      (expected_events version kind t fault n w raw h)
+  has_expected es fault n w (raw, inr (h, e)) = elim (visited_open_list version kind raw (take n t) (drop n t) es h e).1 [
+    | inl b ↦ subst (λ (l : List ℕ). Begins (visited (events kind) (whole_field_at version kind l)) es)
+        (take-append-drop n t) b
+    | inr longer ↦ delimited_events version kind t fault n w
+        (subst (IsAccepted version kind) (append_assoc (take n t) (codes ";a") (codes ")")) longer) raw es h e
+  ]
+
   pub visits_before : (r : Result O (ParseError E)) → Visits r → IfErr r (ReceivesBeforeErrorBy v p kind from)
   visits_before (Ok out) h = tt
   visits_before (Err (Visitor f)) h = tt
@@ -485,30 +441,20 @@ module _ {S O E : Type 0} (v : Ghosts S O E) (p : Parser) (kind : FieldKind) (fr
       at_index None same m = absurd cc
       at_index (Some n) same m = m
 
-      seen : (u : List ℕ) (first : List TreeEvent) → t ≡ u
-          → BeginWith first (visited (events kind) (whole_field_at version kind u))
-          → BeginWith first (visited (events kind) (whole_field_at version kind t))
-      seen u first same b = (b.0, ap (λ (l : List ℕ). visited (events kind) (whole_field_at version kind l)) same ∙ b.1)
-
       on : IsParseError version kind t e → (e ≡ out_of_memory) ⊎ ReceivesUpTo v p kind from
       on (inl same) = inl same
       on (inr s) =
           let took = at_index (index_of e) (ap index_of s.error) h.2 in
+          let seen : (u : List ℕ) (first : List TreeEvent) → t ≡ u
+          → Begins (visited (events kind) (whole_field_at version kind u)) first → Takes v from first = λ u first same b.
+          let run = split_run v.takes first b.0 from took.0
+          (subst (λ (es : List TreeEvent). FoldsTo v.takes from es took.0)
+          (ap (λ (l : List ℕ). visited (events kind) (whole_field_at version kind l)) same ∙ b.1) took.1) in
+          (run.0, run.1) in
           inr (record {
-            es = visited (events kind) (whole_field_at version kind t);
-            to = took.0;
-            taken = took.1;
-            begins = λ n reach. visited_reach version kind t s.rejected n reach;
-            whole = λ raw first h. seen (h.front ++ h.back) first h.text
-                (visited_whole version kind raw h.front h.back first h.first h.second);
-            open_inner_list = λ raw all first h e. seen (h.front ++ h.back) first h.text
-                (visited_open_list version kind raw h.front h.back all first h.first e h.second);
+            whole = λ es first h. seen (h.front ++ h.back) first h.text
+                (has_visited es first h.front h.back h.first h.second);
             begun = λ raw first h. seen (h.front ++ h.back) (events kind raw ++ first) h.text
                 (visited_begun version kind raw h.front h.back first h.first h.second);
+            expected = λ es fault n w h. seen t es refl (has_expected es fault n w h);
           })
-
-  pub visits_failure : (r : Result O (ParseError E)) → Visits r → IfErr r (IsVisitorErrorBy v p kind from)
-  visits_failure (Ok out) h = tt
-  visits_failure (Err (Syntax e)) h = tt
-  visits_failure (Err (Visitor f)) h =
-      (failed_on_accepted f h, λ rejected. (failed_somewhere f h rejected, failed_from f h rejected))

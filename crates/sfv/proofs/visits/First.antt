@@ -1,22 +1,19 @@
 -- What a visitor was told of the bare item that stands first in the text of an item.
 use Rattle.std.proofs.Common.{◌≡◌, ℕ, List, [], ◌∷◌, ◌++◌, Result, Ok, Err, refl, sym, ap, subst, ◌∙◌, inl, inr}
-use Rattle.std.proofs.Common.{append_assoc}
-use Rattle.std.specs.Prelude.{IfErr}
+use Rattle.std.proofs.Common.{append_assoc, eqb}
+use Rattle.std.specs.Prelude.{⊤, IfErr}
 use Rattle.std.proofs.lemmas.Bool.{cases_Bool}
 use Rattle.std.proofs.lemmas.List.{append-nil}
-use Rattle.sfv_spec.proofs.Marks.{is_space}
+use Rattle.sfv_spec.proofs.Marks.{semicolon, is_space}
 use Rattle.sfv_spec.specs.Values.{BareValue, RawItem, RawParameters}
 use Rattle.sfv_spec.specs.declared.field_kind.FieldKind.TheVariants.{Item as item_field}
 use Rattle.sfv_spec.specs.declared.version.Version.{Version}
-use Rattle.sfv_spec.specs.Texts.{RunOf}
-use Rattle.sfv_spec.specs.Grammar.{IsFieldText, IsBareText, BeginsWithLongest, BeginsWithComplete}
-use Rattle.sfv_spec.specs.Events.{TreeEvent, bare_item, parameters_events, item_events, events}
-use Rattle.std.specs.List.{FoldsTo}
-use Rattle.sfv_base.specs.declared.error.Error.{Error}
-use Rattle.sfv_base.specs.Errors.{index_of}
+use Rattle.sfv_spec.specs.Texts.{RunOf, ◌⨾◌}
+use Rattle.sfv_spec.specs.Grammar.{IsFieldText, IsBareText, IsEnded, BeginsWithLongest}
+use Rattle.sfv_spec.specs.Events.{TreeEvent, bare_item, parameters_end, parameters_events, item_events, events}
 use Rattle.sfv_base.specs.declared.error.ParseError.{ParseError}
 use Rattle.sfv_base.specs.declared.error.ParseError.TheVariants.{Syntax, Visitor}
-use Rattle.sfv_model.specs.Reader.{Answer, Fault, bind, give, led, span, visited}
+use Rattle.sfv_model.specs.Reader.{Answer, Fault, bind, give, led, visited}
 use Rattle.sfv_model.specs.Bare.{bare_at}
 use Rattle.sfv_model.specs.Items.{parameters_at, item_at}
 use Rattle.sfv_model.specs.Fields.{whole_field_at}
@@ -24,24 +21,16 @@ use Rattle.sfv_model.specs.Judgements.{Reached}
 use Rattle.sfv_model.proofs.sound.Bare.{BareGoes, Sound-bare}
 use Rattle.sfv_model.proofs.sound.Combinators.{Somewhere, IsSpan, Steady-span}
 use Rattle.sfv_model.proofs.LongestBareItem.{bare_is_exact}
-use Rattle.sfv_model.proofs.FirstBareItem.{first_bare, longest_read}
+use Rattle.sfv_model.proofs.FirstBareItem.{BeginsWithComplete, first_bare, longest_read, complete_is_longest}
 use Rattle.sfv_model.proofs.visits.Fields.{visited_begins}
 use Rattle.sfv_tree.specs.declared.visitor.Visitor.{Ghosts}
 use Rattle.sfv.specs.declared.parser.Parser.{Parser}
-use Rattle.sfv.specs.parser.Visits.{IsOfVisitor, VisitsField, TookBare, TookFirst}
-use Rattle.sfv.specs.Parsers.{version_of, input_of, IsParseError, ReceivesFirstBy}
-use Rattle.sfv.proofs.Parsed.{parse_error}
+use Rattle.sfv.specs.parser.AsRead.{VisitsFieldAsRead}
+use Rattle.sfv.specs.Parsers.{version_of, input_of, Takes, AreBefore, ReceivesUpTo, ReceivesBeforeErrorBy}
+use Rattle.sfv.specs.Parsers.{ReceivesFirstBy, at_end}
+use Rattle.sfv.proofs.Relations.{HasFirst, fails_in}
 use Rattle.sfv.proofs.visits.Fields.{whole_visited, whole_accepted}
-
--- ---- what was taken before an error
-
--- the visitor's own error
-pub visitor_failed : {S E : Type 0} (takes : S → TreeEvent → S → Type 0) (version : Version) (t : List ℕ) (from : S)
-    (is : E → Type 0) (error : ParseError E) → IsOfVisitor is error → TookBare takes version t from error
-visitor_failed takes version t from is (Syntax e) h = absurd h
-visitor_failed takes version t from is (Visitor f) h = tt
-
--- ---- in a whole text
+use Rattle.sfv.proofs.visits.Failed.{run_of, fails_on}
 
 pub same_rest : {A : Type 0} (a : Answer A) (v w : A) (q r : List ℕ) → a ≡ Ok (v, q) → a ≡ Ok (w, r) → q ≡ r
 same_rest {A} a v w q r e h =
@@ -51,15 +40,6 @@ same_rest {A} a v w q r e h =
     let same : both ≡ Ok there = sym e ∙ h in
     let parts : here ≡ there = cc in
     ap (λ (p : A × List ℕ). p.1) parts
-
--- it stands after the spaces
-pub after_spaces : {S E : Type 0} (takes : S → TreeEvent → S → Type 0) (version there : Version) (t s r : List ℕ)
-    (from : S) (error : ParseError E) → there ≡ version → span is_space t ≡ Ok (s, r)
-    → TookBare takes there r from error → TookFirst takes version t from error
-after_spaces {S} {E} takes version there t s r from error same skipped h z w other =
-    subst (λ (l : List ℕ). TookBare {E = E} takes version l from error) (same_rest
-    (span is_space t) s z r w skipped other)
-    (subst (λ (here : Version). TookBare {E = E} takes here r from error) same h)
 
 -- the item begins with it
 item_begins : (version : Version) (t q : List ℕ) (value : BareValue) → bare_at version t ≡ Ok (value, q)
@@ -75,28 +55,14 @@ item_begins version t q value read = on (parameters_at version q) refl
 same_head : (a b : BareValue) (xs ys : List TreeEvent) → bare_item a ∷ xs ≡ bare_item b ∷ ys → a ≡ b
 same_head a b xs ys h = cc
 
--- all parts of the item were taken, and then comes an error of the text
-pub item_taken : {S E : Type 0} (takes : S → TreeEvent → S → Type 0) (fails : S → TreeEvent → E → Type 0)
-    (version : Version) (t s r q : List ℕ) (from to : S) (item : RawItem) (e : Error) → span is_space t ≡ Ok (s, r)
-    → item_at version r ≡ Ok (item, q) → FoldsTo takes from (item_events item) to
-    → TookFirst {E = E} takes version t from (Syntax e)
-item_taken {S} {E} takes fails version t s r q from to item e skipped read run =
-    after_spaces {E = E} takes version version t s r from (Syntax e) refl skipped (λ index value w here k.
-    let begun = item_begins version r w value k in
-    let events : bare_item item.bare ∷ parameters_events item.parameters ≡ bare_item value ∷ begun.0 =
-    ap (visited item_events) (sym read) ∙ begun.1 in
-    let same : bare_item item.bare ≡ bare_item value = ap bare_item (same_head item.bare value _ _ events) in
-    (run.0, subst (λ (e : TreeEvent). takes from e run.0) same run.1))
-
 -- the field begins with it
 field_begins : (version : Version) (value : BareValue) (t : List ℕ) → BeginsWithComplete version value t
     → (more : List TreeEvent) × (visited (events item_field) (whole_field_at version item_field t)
     ≡ bare_item value ∷ more)
 field_begins version value t h =
-    let f = h.first in
     let read = first_bare version value t h in
-    let begun = item_begins version (f.front ++ f.rest) f.rest value read.1 in
-    (begun.0, whole_visited version t f.spaces (f.front ++ f.rest) read.0 ∙ begun.1)
+    let begun = item_begins version h.back h.second.back value read.1 in
+    (begun.0, whole_visited version t h.front h.back read.0 ∙ begun.1)
 
 same_event : (e f : TreeEvent) (xs ys : List TreeEvent) → e ∷ xs ≡ f ∷ ys → e ≡ f
 same_event e f xs ys h = cc
@@ -129,14 +95,12 @@ visited_first version t e es h =
           x.0,
           same_event e (bare_item x.0) es begun.0 (sym begins ∙ begun.1),
           record {
-            first = record {
-              spaces = s;
-              front = read.front;
-              rest = x.1;
-              text = parts ∙ ap (λ (l : List ℕ). s ++ l) read.text ∙ sym (append_assoc s read.front x.1);
-              blank = subst (RunOf is_space) (sym blank.0) blank.1;
-              means = read.means;
-            };
+            spaces = s;
+            front = read.front;
+            rest = x.1;
+            text = parts ∙ ap (λ (l : List ℕ). s ++ l) read.text ∙ sym (append_assoc s read.front x.1);
+            blank = subst (RunOf is_space) (sym blank.0) blank.1;
+            means = read.means;
             longest = longest_read version r x.0 x.1 read;
           },
         )
@@ -164,22 +128,18 @@ module _ {S O E : Type 0} (v : Ghosts S O E) (p : Parser) (from : S) where
   t = input_of p
 
   abbrev Visits : Result O (ParseError E) → Type 0
-  Visits r = VisitsField v.takes v.fails v.finishes v.finish_fails version item_field t from r
+  Visits r = VisitsFieldAsRead v p item_field from r
 
   -- the bare item of an item whose events begin with those that were visited
   its_bare : (raw : RawItem) (e : TreeEvent) (es more : List TreeEvent)
       → visited (events item_field) (whole_field_at version item_field t) ≡ e ∷ es → item_events raw ≡ (e ∷ es) ++ more
-      → BeginsWithLongest version raw.bare t × ((value : BareValue) → BeginsWithComplete version value t → raw.bare ≡ value)
+      → BeginsWithLongest version raw.bare t
   its_bare raw e es more begins all =
       let first = visited_first version t e es begins in
       let same : raw.bare ≡ first.0 =
       same_head raw.bare first.0 (parameters_events raw.parameters) (es ++ more)
-      (all ∙ ap (λ (e : TreeEvent). e ∷ (es ++ more)) first.1) in (
-        subst (λ (b : BareValue). BeginsWithLongest version b t) (sym same) first.2,
-        λ value h. same ∙ (let begun = field_begins version value t h in
-            same_head first.0 value es begun.0
-            (ap (λ (e : TreeEvent). e ∷ es) (sym first.1) ∙ sym begins ∙ begun.1)),
-      )
+      (all ∙ ap (λ (e : TreeEvent). e ∷ (es ++ more)) first.1) in
+      subst (λ (b : BareValue). BeginsWithLongest version b t) (sym same) first.2
 
   failed_first : (f : E) → Visits (Err (Visitor f)) → ReceivesFirstBy v p from (Visitor f)
   failed_first f (inl r) =
@@ -190,33 +150,82 @@ module _ {S O E : Type 0} (v : Ghosts S O E) (p : Parser) (from : S) where
       let bare = its_bare some.raw split.0 split.1 some.more (r.all ∙ split.2)
       (all ∙ ap (λ (l : List TreeEvent). l ++ some.more) split.2) in (
         some.raw,
-        bare.0,
-        bare.1,
-        inl (
-          r.before,
-          r.e,
-          r.after ++ some.more,
-          r.s,
-          all ∙ append_assoc r.before (r.e ∷ r.after) some.more,
-          r.taken,
-          r.failed,
-        ),
+        bare,
+        fails_on v p item_field from (item_events some.raw) (r.after ++ some.more) ⊤ f r
+            (all ∙ append_assoc r.before (r.e ∷ r.after) some.more),
       )
   failed_first f (inr x) =
       let events_of = parameters_events x.0.parameters in
       let bare = its_bare x.0 (bare_item x.0.bare) events_of [] (ap (visited (events item_field)) x.3)
       (sym (append-nil (bare_item x.0.bare ∷ events_of))) in
-      (x.0, bare.0, bare.1, inr (tt, x.2, x.4, x.5))
+      (x.0, bare, at_end x.2.0 tt (run_of v version (item_events x.0) (from, t) x.2 x.4) x.5)
 
-  pub visits_first : (r : Result O (ParseError E)) → Visits r → IfErr r (TookFirst v.takes version t from)
-      → IfErr r (ReceivesFirstBy v p from)
-  visits_first (Ok out) h k = tt
-  visits_first (Err (Syntax e)) h k = on (parse_error version item_field t e h.0)
+  pub visits_first : (r : Result O (ParseError E)) → Visits r → IfErr r (ReceivesFirstBy v p from)
+  visits_first (Ok out) h = tt
+  visits_first (Err (Syntax e)) h = tt
+  visits_first (Err (Visitor f)) h = failed_first f h
+
+  -- A complete first bare item is received before a syntax error.
+  taken_first : ReceivesUpTo v p item_field from → (value : BareValue) → BeginsWithComplete version value t
+      → (s : S) × v.takes from (bare_item value) s
+  taken_first h value begins = on k.back k.second refl
     where
-      on : IsParseError version item_field t e → ReceivesFirstBy v p from (Syntax e)
-      on (inl same) = inl same
-      on (inr s) = inr (λ value begins.
-          let read = first_bare version value t begins in
-          let f = begins.first in
-          k f.spaces (f.front ++ f.rest) read.0 s.index value f.rest (ap index_of s.error) read.1)
-  visits_first (Err (Visitor f)) h k = failed_first f h
+      k : (IsBareText version value ⨾ IsEnded) begins.back
+      k = begins.second
+
+      raw : RawItem
+      raw = record { bare = value; parameters = [] }
+
+      from_start : (more : List TreeEvent) → Takes v from (bare_item value ∷ more) → (s : S) × v.takes from (bare_item value) s
+      from_start more taken = (taken.1.0, taken.1.1)
+
+      field : IsFieldText version item_field raw (begins.front ++ k.front)
+      field = record {
+        front = begins.front;
+        back = k.front;
+        text = refl;
+        first = begins.first;
+        second = record {
+          front = k.front;
+          back = [];
+          text = sym (append-nil k.front);
+          first = record {
+            front = k.front;
+            back = [];
+            text = sym (append-nil k.front);
+            first = k.first;
+            second = record { pieces = []; text = refl; each = tt };
+          };
+          second = refl;
+        };
+      }
+
+      whole : (first : List TreeEvent) → AreBefore (item_events raw) first k.back → Takes v from first
+      whole first b = h.whole (item_events raw) first (record {
+        front = begins.front ++ k.front;
+        back = k.back;
+        text = begins.text ∙ ap (λ (l : List ℕ). begins.front ++ l) k.text ∙ sym (append_assoc begins.front k.front k.back);
+        first = (raw, inl (field, refl));
+        second = b;
+      })
+
+      on : (q : List ℕ) → IsEnded q → k.back ≡ q → (s : S) × v.takes from (bare_item value) s
+      on [] ended same = from_start (parameters_end ∷ []) (whole (bare_item value ∷ parameters_end ∷ []) (rw same (tt, refl)))
+      on (c ∷ q) ended same = elim (cases_Bool (eqb c semicolon)) [
+        | inl e ↦ from_start [] (whole (bare_item value ∷ []) (rw (same, e) (ended, refl)))
+        | inr e ↦ from_start (parameters_end ∷ []) (whole (bare_item value ∷ parameters_end ∷ [])
+            (rw (same, e) (ended, refl)))
+      ]
+
+  -- the clauses for the relations of the visitor
+  pub has_first : (r : Result O (ParseError E)) → IfErr r (ReceivesBeforeErrorBy v p item_field from)
+      → IfErr r (ReceivesFirstBy v p from) → IfErr r (HasFirst v.takes v.fails v.finish_fails version t from)
+  has_first (Ok out) h k = tt
+  has_first (Err (Syntax e)) (inl same) k = inl same
+  has_first (Err (Syntax e)) (inr h) k = inr (taken_first h)
+  has_first (Err (Visitor f)) h k = (
+    k.0,
+    k.1,
+    λ value begins. complete_is_longest version value k.0.bare t begins k.1,
+    fails_in v p from (item_events k.0) ⊤ f k.2,
+  )

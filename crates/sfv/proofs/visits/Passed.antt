@@ -14,7 +14,8 @@ use Rattle.sfv_model.specs.Reader.{span, byte, any}
 use Rattle.sfv_model.specs.Items.{key_at}
 use Rattle.sfv_model.specs.Fields.{comma_at}
 use Rattle.sfv_model.proofs.sound.Combinators.{Steady-span, run_cons, run_head, run_tail}
-use Rattle.sfv.specs.parser.AsRead.{HasNoQuote, Passes}
+use Rattle.sfv.specs.Parsers.{HasNoQuote}
+use Rattle.sfv.specs.parser.AsRead.{Passes}
 use Rattle.sfv.specs.parser.Cursor.{TakesIf}
 use Rattle.sfv.specs.parser.Members.{item_delimiter_at, member_delimiter_at}
 

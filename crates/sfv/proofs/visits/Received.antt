@@ -2,12 +2,12 @@
 use Rattle.std.proofs.Common.{◌≡◌, ℕ, ◌≤◌, Bool, eqb, true, false, List, [], ◌∷◌, ◌++◌, length, Some, Ok, Err, refl}
 use Rattle.std.proofs.Common.{sym, ap, subst, ◌∙◌, append_assoc, arith, inl, inr, ◌⊎◌}
 use Rattle.std.proofs.lemmas.List.{append-nil, append_cancel_right, length-append}
-use Rattle.std.proofs.lemmas.Bool.{or_cases, eqb-true, not-true, true≢false, cases_Bool}
-use Rattle.std.specs.Prelude.{IsTrue, IsFalse, flat_map, not}
+use Rattle.std.proofs.lemmas.Bool.{or_cases, or_parts, eqb-true, not-true, true≢false, cases_Bool}
+use Rattle.std.specs.Prelude.{IsTrue, IsFalse, flat_map, not, ◌||◌, codes}
 use Rattle.sfv_spec.proofs.Marks.{comma, space, tab, equals_sign, semicolon, left_parenthesis, right_parenthesis}
 use Rattle.sfv_spec.proofs.Marks.{true_with, is_space, is_space_or_tab}
 use Rattle.sfv_spec.proofs.Bare.{is_bare_start}
-use Rattle.sfv_spec.specs.Texts.{RunOf, begins_with, ◌⨾◌, IsJoining}
+use Rattle.sfv_spec.specs.Texts.{RunOf, begins_with, ◌⨾◌, IsJoining, IsSeparated}
 use Rattle.sfv_spec.specs.Classes.{is_key_inner}
 use Rattle.sfv_spec.specs.Values.{boolean, RawParameters, RawItem, RawMember, item, inner_list, RawField}
 use Rattle.sfv_spec.specs.declared.field_kind.FieldKind.{FieldKind}
@@ -16,14 +16,14 @@ use Rattle.sfv_spec.specs.declared.field_kind.FieldKind.TheVariants.{Dictionary 
 use Rattle.sfv_spec.specs.declared.version.Version.{Version}
 use Rattle.sfv_spec.specs.Grammar.{Spaces, SomeSpaces, Comma, IsKeyText, IsEnded, IsItemText}
 use Rattle.sfv_spec.specs.Grammar.{AreInnerItemsText, IsMemberText, IsDictionaryMemberText, IsMemberValueText}
-use Rattle.sfv_spec.specs.Grammar.{AreMembersText, IsFieldText}
+use Rattle.sfv_spec.specs.Grammar.{AreMembersText, IsFieldText, IsAccepted}
 use Rattle.sfv_spec.specs.Events.{TreeEvent, entry, keyed_entry, begins_item, begins_inner_list, bare_item, parameter}
-use Rattle.sfv_spec.specs.Events.{parameters_end, inner_list_end, item_events, inner_item_events, member_events}
+use Rattle.sfv_spec.specs.Events.{parameters_end, parameters_events, inner_list_end, item_events, inner_item_events, member_events}
 use Rattle.sfv_spec.specs.Events.{entry_events, keyed_events, events}
 use Rattle.sfv_model.specs.Reader.{Answer, Reader, Apart, visited, and_then, give, ◌>>=◌, bind, one_and_more}
-use Rattle.sfv_spec.proofs.Settled.{joining-nil}
-use Rattle.sfv_model.specs.Reader.{byte, span}
-use Rattle.sfv_model.specs.Items.{item_at}
+use Rattle.sfv_spec.proofs.Settled.{joining-nil, joining-cons}
+use Rattle.sfv_model.specs.Reader.{byte, span, led, led_answer}
+use Rattle.sfv_model.specs.Items.{parameters_at, item_at}
 use Rattle.sfv_model.specs.Members.{inner_item_at, next_item_at, inner_items_at, inner_of, member_at, entry_at}
 use Rattle.sfv_model.specs.Members.{member_value_at, keyed_at}
 use Rattle.sfv_model.specs.Fields.{next_at, members_at, whole_field_at}
@@ -37,7 +37,8 @@ use Rattle.sfv_model.proofs.complete.Items.{item_complete, begun_some}
 use Rattle.sfv_model.proofs.complete.Fields.{comma_ends}
 use Rattle.sfv_model.proofs.complete.Members.{inner_item_complete, entry_complete, entry_fresh, keyed_complete}
 use Rattle.sfv_model.proofs.complete.Members.{keyed_fresh}
-use Rattle.sfv_model.proofs.texts.Joining.{in_turn, events_push}
+use Rattle.sfv_model.proofs.texts.Joining.{in_turn, events_push, joining_none, joining_into}
+use Rattle.sfv_model.proofs.faults.BetweenInnerItems.{open_longer}
 use Rattle.sfv_model.proofs.visits.EventsBeforeRuleAlike.{begins_all, begins_trans}
 use Rattle.sfv.proofs.visits.Chained.{Parted, parted_of, fresh_after, each_begun}
 use Rattle.sfv.proofs.visits.Begun.{no_space, ended_of, Pairs, item_told, inner_item_told, open_events, member_open}
@@ -189,6 +190,11 @@ pub record ItemsTold (version : Version) (is : List RawItem) (t : List ℕ) : Ty
       → Begins (visited member_events (member_at version (left_parenthesis ∷ (t ++ q)))) most
   pub whole : (q : List ℕ) → IsEnded q → Apart lengthens_item q
       → Begins (visited member_events (member_at version (left_parenthesis ∷ (t ++ q)))) (begins_inner_list ∷ Flat is)
+  -- all before any text, or the last item can get one more parameter
+  pub settled : ((q : List ℕ)
+      → Begins (visited member_events (member_at version (left_parenthesis ∷ (t ++ q)))) (begins_inner_list ∷ Flat is))
+      ⊎ ((js : List RawItem)
+      × IsMemberText version (inner_of js []) ((left_parenthesis ∷ (t ++ codes ";a")) ++ codes ")"))
 
 items_begun : (version : Version) (i : RawItem) (is : List RawItem) (s t q : List ℕ) → Spaces s
     → (o : Parted SomeSpaces (IsItemText version) (i ∷ is) t)
@@ -222,6 +228,7 @@ items_told version [] s t blank h = record {
   all = refl;
   begun = λ q ended. begins_all _;
   whole = λ q ended apart. (_, (open_told version ((s ++ t) ++ q)).1);
+  settled = inl (λ q. (_, (open_told version ((s ++ t) ++ q)).1));
 }
 items_told version (i ∷ is) s t blank h = record {
   most = begins_inner_list ∷ (Flat o.init ++ part);
@@ -238,6 +245,7 @@ items_told version (i ∷ is) s t blank h = record {
             (inner_item_complete version o.last o.back (h.back ++ q) o.end (apart_behind h.back q blanks apart))
             ∙ sym (append-nil (inner_item_events o.last)),
       ));
+  settled = settle h.back refl;
 }
   where
     o : Parted SomeSpaces (IsItemText version) (i ∷ is) h.front
@@ -270,10 +278,36 @@ items_told version (i ∷ is) s t blank h = record {
         ∙ events_push inner_item_events o.init o.last []
         ∙ ap (λ (l : List TreeEvent). Flat o.init ++ l) (append-nil (inner_item_events o.last))
 
+    settle : (z : List ℕ) → h.back ≡ z → ((q : List ℕ)
+        → Begins (visited member_events (member_at version (left_parenthesis ∷ ((s ++ t) ++ q))))
+        (begins_inner_list ∷ Flat (i ∷ is)))
+        ⊎ ((js : List RawItem)
+        × IsMemberText version (inner_of js []) ((left_parenthesis ∷ ((s ++ t) ++ codes ";a")) ++ codes ")"))
+    settle [] e =
+        let l = open_longer version i is s h.front blank h.first in
+        inr (
+          l.0,
+          subst (IsMemberText version (inner_of l.0 []))
+              (ap (λ (x : List ℕ). (left_parenthesis ∷ x) ++ codes ")") (sym (append_assoc s h.front (codes ";a"))
+              ∙ ap (λ (x : List ℕ). (s ++ x) ++ codes ";a")
+              (sym (h.text ∙ ap (λ (x : List ℕ). h.front ++ x) e ∙ append-nil h.front)))) l.1,
+        )
+    settle (c ∷ z) e = inl (λ q. subst (λ (l : List TreeEvent).
+        Begins (visited member_events (member_at version (left_parenthesis ∷ ((s ++ t) ++ q)))) (begins_inner_list ∷ l))
+        (sym all) (told q (inner_item_events o.last) (
+          [],
+          ap (visited inner_item_events)
+              (inner_item_complete version o.last o.back (h.back ++ q) o.end
+              (subst (λ (x : List ℕ). Apart lengthens_item (x ++ q)) (sym e)
+              (blank_ends c (z ++ q) (run_head is_space_or_tab c z (subst (RunOf is_space_or_tab) e blanks)))))
+              ∙ sym (append-nil (inner_item_events o.last)),
+        )))
+
 -- ---- the last member of a field, with an open inner list
 
 -- `t` is a text of `m` that ends with a parenthesis: the events before it, all or all but the last
-pub record Unclosed {A : Type 0} (parts : A → List TreeEvent) (one : Reader A) (m : A) (t : List ℕ) : Type 0 where
+pub record Unclosed {A : Type 0} (P : A → List ℕ → Type 0) (parts : A → List TreeEvent) (one : Reader A) (m : A)
+    (t : List ℕ) : Type 0 where
   pub opened : List ℕ
   pub text : t ≡ opened ++ right_parenthesis ∷ []
   pub most : List TreeEvent
@@ -283,6 +317,8 @@ pub record Unclosed {A : Type 0} (parts : A → List TreeEvent) (one : Reader A)
   pub begun : (q : List ℕ) → IsEnded q → Begins (visited parts (one (opened ++ q))) most
   pub whole : (q : List ℕ) → IsEnded q → Apart lengthens_item q
       → Begins (visited parts (one (opened ++ q))) (most ++ last ∷ [])
+  pub settled : ((q : List ℕ) → Begins (visited parts (one (opened ++ q))) (most ++ last ∷ []))
+      ⊎ ((n : A) × P n ((opened ++ codes ";a") ++ codes ")"))
 
 -- an inner list without parameters, and the text between its parentheses
 pub record OpenMember (version : Version) (is : List RawItem) (t : List ℕ) : Type 0 where
@@ -307,7 +343,7 @@ open_member version is t h =
 
 open_entry : (version : Version) (m : RawMember) (t : List ℕ) (before after : List TreeEvent)
     → IsMemberText version m t → before ++ entry_events m ≡ after ++ inner_list_end ∷ parameters_end ∷ []
-    → Unclosed entry_events (entry_at version) m t
+    → Unclosed (IsMemberText version) entry_events (entry_at version) m t
 open_entry version m t before after h e =
     let c = closed_member m (before ++ entry ∷ []) after (append_assoc before (entry ∷ []) (member_events m) ∙ e) in
     let o = open_member version c.0 t (subst (λ (m : RawMember). IsMemberText version m t) c.1 h) in
@@ -323,6 +359,11 @@ open_entry version m t before after h e =
       whole = λ q ended apart. entry_begins version (left_parenthesis ∷ (o.own ++ q)) (o.told.most ++ o.told.last ∷ [])
           (subst (Begins (visited member_events (member_at version (left_parenthesis ∷ (o.own ++ q))))) o.told.all
           (o.told.whole q ended apart));
+      settled = elim o.told.settled [
+        | inl k ↦ inl (λ q. entry_begins version (left_parenthesis ∷ (o.own ++ q)) (o.told.most ++ o.told.last ∷ [])
+            (subst (Begins (visited member_events (member_at version (left_parenthesis ∷ (o.own ++ q))))) o.told.all (k q)))
+        | inr l ↦ inr (inner_of l.0 [], l.1)
+      ];
     }
 
 value_begins : (version : Version) (u : List ℕ) (es : List TreeEvent)
@@ -332,17 +373,23 @@ unfolding member_value_at
 value_begins version u es b = subst (λ a. Begins (visited member_events a) es)
     (sym (branch_take _ _ _ equals_sign u refl)) b
 
+keyed_text : (version : Version) (key : List ℕ) (n : RawMember) (front t : List ℕ) → IsKeyText key front
+    → IsMemberText version n t → IsDictionaryMemberText version (key, n) (front ++ equals_sign ∷ t)
+keyed_text version key n front t h k =
+    in_turn front (equals_sign ∷ t) h (inl (in_turn (equals_sign ∷ []) t refl k))
+
 open_keyed : (version : Version) (m : List ℕ × RawMember) (t : List ℕ) (before after : List TreeEvent)
     → IsDictionaryMemberText version m t
     → before ++ keyed_events m ≡ after ++ inner_list_end ∷ parameters_end ∷ []
-    → Unclosed keyed_events (keyed_at version) m t
+    → Unclosed (IsDictionaryMemberText version) keyed_events (keyed_at version) m t
 open_keyed version m t before after h e = on h.second
   where
     c : (is : List RawItem) × (m.1 ≡ inner_of is [])
     c = closed_member m.1 (before ++ keyed_entry m.0 ∷ []) after
         (append_assoc before (keyed_entry m.0 ∷ []) (member_events m.1) ∙ e)
 
-    on : IsMemberValueText version m.1 h.back → Unclosed keyed_events (keyed_at version) m t
+    on : IsMemberValueText version m.1 h.back
+        → Unclosed (IsDictionaryMemberText version) keyed_events (keyed_at version) m t
     on (inr k) = let same : item (record { bare = boolean true; parameters = k.0 }) ≡ inner_of c.0 [] = sym k.1 ∙ c.1 in
         absurd cc
     on (inl g) =
@@ -372,6 +419,17 @@ open_keyed version m t before after h e = on h.second
           whole = λ q ended apart. starts q (o.told.most ++ o.told.last ∷ [])
               (subst (Begins (visited member_events (member_at version (left_parenthesis ∷ (o.own ++ q))))) o.told.all
               (o.told.whole q ended apart));
+          settled = elim o.told.settled [
+            | inl k ↦ inl (λ q. starts q (o.told.most ++ o.told.last ∷ [])
+                (subst (Begins (visited member_events (member_at version (left_parenthesis ∷ (o.own ++ q))))) o.told.all
+                (k q)))
+            | inr l ↦ inr (
+              (m.0, inner_of l.0 []),
+              subst (IsDictionaryMemberText version (m.0, inner_of l.0 [])) (simp append_assoc)
+                  (keyed_text version m.0 (inner_of l.0 []) h.front
+                  ((left_parenthesis ∷ (o.own ++ codes ";a")) ++ codes ")") h.first l.1),
+            )
+          ];
         }
 
 -- ---- members with commas between them
@@ -384,6 +442,40 @@ comma_text c y h =
 comma_part : (c y : List ℕ) → Comma c → Apart lengthens_item (c ++ y)
 comma_part c y h = subst (Apart lengthens_item) (sym (comma_text c y h))
     (apart_behind h.front (comma ∷ (h.second.back ++ y)) h.first (comma_ends (h.second.back ++ y)))
+
+-- values with a separator after each, and one more
+rejoined : {A : Type 0} (S : List ℕ → Type 0) (P : A → List ℕ → Type 0) (init : List A) (front x : List ℕ) (n : A)
+    → IsJoining (λ m. P m ⨾ S) init front → P n x → (k : A) × (ks : List A) × IsSeparated S P (k ∷ ks) (front ++ x)
+rejoined S P [] front x n j p = (
+  n,
+  [],
+  record {
+    front = x;
+    back = [];
+    text = ap (λ (l : List ℕ). l ++ x) (joining-nil j) ∙ sym (append-nil x);
+    first = p;
+    second = joining_none (λ y. S ⨾ P y);
+  },
+)
+rejoined {A} S P (m ∷ init) front x n j p =
+    let c = joining-cons j in
+    let d = c.first in
+    let r = rejoined S P init c.back x n c.second p in
+    let h : (P r.0 ⨾ IsJoining (λ y. S ⨾ P y) r.1) (c.back ++ x) = r.2 in (
+      m,
+      r.0 ∷ r.1,
+      record {
+        front = d.front;
+        back = (d.back ++ h.front) ++ h.back;
+        text = ap (λ (l : List ℕ). l ++ x) (c.text ∙ ap (λ (l : List ℕ). l ++ c.back) d.text)
+            ∙ append_assoc (d.front ++ d.back) c.back x ∙ append_assoc d.front d.back (c.back ++ x)
+            ∙ ap (λ (l : List ℕ). d.front ++ (d.back ++ l)) h.text
+            ∙ ap (λ (l : List ℕ). d.front ++ l) (sym (append_assoc d.back h.front h.back));
+        first = d.first;
+        second = joining_into (λ y. S ⨾ P y) r.0 r.1 (d.back ++ h.front) h.back
+            (in_turn d.back h.front d.second h.first) h.second;
+      },
+    )
 
 abbrev IsFresh : List ℕ → Type 0
 IsFresh t = Apart is_space_or_tab t × (1 ≤ length t)
@@ -475,19 +567,28 @@ module _ {A : Type 0} (P : A → List ℕ → Type 0) (parts : A → List TreeEv
           (append_assoc (All o.init) (w b.0).0 (parameters_end ∷ [])
           ∙ ap (λ (l : List TreeEvent). All o.init ++ l) (sym (w b.0).1) ∙ sym pushed ∙ e)
 
-  -- members; the inner list of the last one is open
+  -- Members; the inner list of the last one is open. Its events come before a text that may follow; and before any
+  -- text, or the last item can get one more parameter.
   pub members_inner : ((m : A) (t : List ℕ) (before after : List TreeEvent) → P m t
-      → before ++ parts m ≡ after ++ inner_list_end ∷ parameters_end ∷ [] → Unclosed parts one m t)
-      → (ms : List A) (t q : List ℕ) (all first : List TreeEvent) → AreMembersText P ms (t ++ right_parenthesis ∷ [])
-      → All ms ≡ all ++ inner_list_end ∷ parameters_end ∷ [] → AreBefore all first q
-      → Begins (visited All (members_at parts one (t ++ q))) first
-  members_inner unclosed [] t q all first h e b =
+      → before ++ parts m ≡ after ++ inner_list_end ∷ parameters_end ∷ [] → Unclosed P parts one m t)
+      → (ms : List A) (t q : List ℕ) (all : List TreeEvent) → AreMembersText P ms (t ++ right_parenthesis ∷ [])
+      → All ms ≡ all ++ inner_list_end ∷ parameters_end ∷ []
+      → ((first : List TreeEvent) → AreBefore all first q → Begins (visited All (members_at parts one (t ++ q))) first)
+      × (Begins (visited All (members_at parts one (t ++ q))) all
+      ⊎ ((ns : List A) × AreMembersText P ns ((t ++ codes ";a") ++ codes ")")))
+  members_inner unclosed [] t q all h e =
       absurd (omega (arith, ap length e, length-append all (inner_list_end ∷ parameters_end ∷ [])))
-  members_inner unclosed (m ∷ ms) t q all first h e b = elim (before_cases all first q b) [
-    | inl k ↦ subst (Begins seen) (whole ∙ sym k.0) (told (u.most ++ u.last ∷ []) (u.whole q b.0 k.1))
-    | inr k ↦ subst (Begins seen) (snoc_same (All o.init ++ u.most) first u.last parameters_end
-        (append_assoc (All o.init) u.most (u.last ∷ []) ∙ whole ∙ k)) (told u.most (u.begun q b.0))
-  ]
+  members_inner unclosed (m ∷ ms) t q all h e = (
+    λ first b. elim (before_cases all first q b) [
+      | inl k ↦ subst (Begins seen) (whole ∙ sym k.0) (told (u.most ++ u.last ∷ []) (u.whole q b.0 k.1))
+      | inr k ↦ subst (Begins seen) (snoc_same (All o.init ++ u.most) first u.last parameters_end
+          (append_assoc (All o.init) u.most (u.last ∷ []) ∙ whole ∙ k)) (told u.most (u.begun q b.0))
+    ],
+    elim u.settled [
+      | inl k ↦ inl (subst (Begins seen) whole (told (u.most ++ u.last ∷ []) (k q)))
+      | inr l ↦ inr (longer l.0 l.1)
+    ],
+  )
     where
       seen : List TreeEvent
       seen = visited All (members_at parts one (t ++ q))
@@ -498,7 +599,7 @@ module _ {A : Type 0} (P : A → List ℕ → Type 0) (parts : A → List TreeEv
       pushed : All (m ∷ ms) ≡ All o.init ++ parts o.last
       pushed = all_push (m ∷ ms) o.init o.last o.same
 
-      u : Unclosed parts one o.last o.back
+      u : Unclosed P parts one o.last o.back
       u = unclosed o.last o.back (All o.init) all o.end (sym pushed ∙ e)
 
       text : ((h.front ++ o.front) ++ u.opened) ++ right_parenthesis ∷ h.second.back ≡ t ++ right_parenthesis ∷ []
@@ -506,10 +607,29 @@ module _ {A : Type 0} (P : A → List ℕ → Type 0) (parts : A → List TreeEv
           ∙ ap (λ (l : List ℕ). l ++ h.second.back) (o.text ∙ ap (λ (l : List ℕ). o.front ++ l) u.text))
           ∙ simp append_assoc)
 
+      cut : t ≡ (h.front ++ o.front) ++ u.opened
+      cut = sym (cut_text ((h.front ++ o.front) ++ u.opened) t h.second.back h.second.second text).1
+
       same : t ++ q ≡ (h.front ++ o.front) ++ (u.opened ++ q)
-      same = ap (λ (l : List ℕ). l ++ q)
-          (sym (cut_text ((h.front ++ o.front) ++ u.opened) t h.second.back h.second.second text).1)
-          ∙ append_assoc (h.front ++ o.front) u.opened q
+      same = ap (λ (l : List ℕ). l ++ q) cut ∙ append_assoc (h.front ++ o.front) u.opened q
+
+      longer : (n : A) → P n ((u.opened ++ codes ";a") ++ codes ")")
+          → (ns : List A) × AreMembersText P ns ((t ++ codes ";a") ++ codes ")")
+      longer n p =
+          let x : List ℕ = (u.opened ++ codes ";a") ++ codes ")" in
+          let r = rejoined Comma P o.init o.front x n o.each p in
+          let all : h.front ++ (o.front ++ x) ≡ (((h.front ++ o.front) ++ u.opened) ++ codes ";a") ++ codes ")" =
+          simp append_assoc in (
+            r.0 ∷ r.1,
+            subst (AreMembersText P (r.0 ∷ r.1)) (all ∙ ap (λ (l : List ℕ). (l ++ codes ";a") ++ codes ")") (sym cut))
+                (in_turn h.front (o.front ++ x) h.first (record {
+                  front = o.front ++ x;
+                  back = [];
+                  text = sym (append-nil (o.front ++ x));
+                  first = r.2;
+                  second = refl;
+                })),
+          )
 
       told : (es : List TreeEvent) → Begins (visited parts (one (u.opened ++ q))) es → Begins seen (All o.init ++ es)
       told es k = subst (λ (l : List ℕ). Begins (visited All (members_at parts one l)) (All o.init ++ es)) (sym same)
@@ -589,20 +709,24 @@ visited_whole version dictionary_field ms t q first h b = members_whole (IsDicti
     (keyed_at version) (Sound-keyed version) (keyed_complete version) (keyed_fresh version) (keyed_whole version) ms t q
     first h b
 
--- the events of a field before any text q that may follow its open inner list
+-- The events of a field with an open inner list, before a text q that may follow. They come before any text, or the last
+-- item can get one more parameter.
 pub visited_open_list : (version : Version) (kind : FieldKind) (raw : RawField kind) (t q : List ℕ)
-    (all first : List TreeEvent) → IsFieldText version kind raw (t ++ right_parenthesis ∷ [])
-    → events kind raw ≡ all ++ inner_list_end ∷ parameters_end ∷ [] → AreBefore all first q
-    → Begins (visited (events kind) (whole_field_at version kind (t ++ q))) first
+    (all : List TreeEvent) → IsFieldText version kind raw (t ++ right_parenthesis ∷ [])
+    → events kind raw ≡ all ++ inner_list_end ∷ parameters_end ∷ []
+    → ((first : List TreeEvent) → AreBefore all first q
+    → Begins (visited (events kind) (whole_field_at version kind (t ++ q))) first)
+    × (Begins (visited (events kind) (whole_field_at version kind (t ++ q))) all
+    ⊎ IsAccepted version kind ((t ++ codes ";a") ++ codes ")"))
 unfolding whole_field_at
-visited_open_list version item_field i t q all first h e b =
+visited_open_list version item_field i t q all h e =
     absurd (not_last [] all (bare_item i.bare) i.parameters refl e)
-visited_open_list version list_field ms t q all first h e b = members_inner (IsMemberText version) entry_events
+visited_open_list version list_field ms t q all h e = members_inner (IsMemberText version) entry_events
     (entry_at version) (Sound-entry version) (entry_complete version) (entry_fresh version) (open_entry version) ms t q
-    all first h e b
-visited_open_list version dictionary_field ms t q all first h e b = members_inner (IsDictionaryMemberText version)
+    all h e
+visited_open_list version dictionary_field ms t q all h e = members_inner (IsDictionaryMemberText version)
     keyed_events (keyed_at version) (Sound-keyed version) (keyed_complete version) (keyed_fresh version)
-    (open_keyed version) ms t q all first h e b
+    (open_keyed version) ms t q all h e
 
 -- a text that begins with no blank is not empty
 some_fresh : (t : List ℕ) → IsTrue (begins_with (λ c. not (is_space_or_tab c)) t) → IsFresh t
@@ -640,6 +764,26 @@ keyed_begun version ms front rest key first h b apart told =
     (true_of_key version key b.front b.first))))
     (begins_after (events dictionary_field ms) _ (keyed_entry key ∷ first) read)
 
+-- a key has ended, and no equals sign follows
+ended_key : (t : List ℕ) → IsFalse (begins_with (λ c. is_key_inner c || eqb c equals_sign) t)
+    → IsFalse (begins_with is_key_inner t) × IsFalse (begins_with (byte equals_sign) t)
+ended_key [] h = (refl, refl)
+ended_key (c ∷ t) h = or_parts (is_key_inner c) (eqb c equals_sign) h
+
+-- a member without an equals sign is true
+true_told : (version : Version) (t : List ℕ) → Apart (byte equals_sign) t
+    → Begins (visited member_events (member_value_at version t)) (begins_item ∷ bare_item (boolean true) ∷ [])
+unfolding member_value_at led bind give
+true_told version t apart =
+    subst (λ a. Begins (visited member_events a) (begins_item ∷ bare_item (boolean true) ∷ []))
+    (sym (branch_past _ _ _ t apart)) (on (parameters_at version t))
+  where
+    on : (a : Answer RawParameters)
+        → Begins (visited member_events (led_answer (begins_item ∷ bare_item (boolean true) ∷ [])
+        (and_then a (λ ps. give (true_with ps))))) (begins_item ∷ bare_item (boolean true) ∷ [])
+    on (Ok x) = (parameters_events x.0, refl)
+    on (Err e) = (e.events, refl)
+
 -- the events of members, and the first events of the next one
 pub visited_begun : (version : Version) (kind : FieldKind) (raw : RawField kind) (front rest : List ℕ)
     (first : List TreeEvent) → IsBeforeMember version kind raw front → BeginsMember kind first rest
@@ -649,7 +793,9 @@ visited_begun version list_field ms front rest first h (list_member fresh) =
     list_begun version ms front rest (entry ∷ first_event rest ∷ []) h (some_fresh rest fresh)
     (entry_begins version rest (first_event rest ∷ []) (first_told version rest))
 visited_begun version dictionary_field ms front rest first h (dictionary_key key b) =
-    keyed_begun version ms front rest key [] h b (apart_of is_key_inner b.back b.second) (begins_all _)
+    keyed_begun version ms front rest key (begins_item ∷ bare_item (boolean true) ∷ []) h b
+    (apart_of is_key_inner b.back (ended_key b.back b.second).0)
+    (true_told version b.back (apart_of (byte equals_sign) b.back (ended_key b.back b.second).1))
 visited_begun version dictionary_field ms front rest first h (dictionary_value key more b) =
     keyed_begun version ms front rest key (first_event more ∷ []) h b
     (rw b.second (Apart-cons is_key_inner equals_sign more refl))

@@ -37,6 +37,13 @@ pub runs_on : {S : Type 0} (takes : S → TreeEvent → S → Type 0) (es fs : L
 runs_on takes [] fs from middle to h k = subst (λ s. FoldsTo takes s fs to) (sym h) k
 runs_on takes (e ∷ es) fs from middle to h k = (h.0, h.1, runs_on takes es fs h.0 middle to h.2 k)
 
+-- the first part of a run
+pub split_run : {S : Type 0} (takes : S → TreeEvent → S → Type 0) (es fs : List TreeEvent) (from to : S)
+    → FoldsTo takes from (es ++ fs) to → (middle : S) × FoldsTo takes from es middle × FoldsTo takes middle fs to
+split_run takes [] fs from to h = (from, refl, h)
+split_run takes (e ∷ es) fs from to h =
+    let rest = split_run takes es fs h.0 to h.2 in (rest.0, (h.0, h.1, rest.1), rest.2)
+
 -- the fault of a part is that of the whole, after events that were taken before
 pub took_after : {A B S : Type 0} (takes : S → TreeEvent → S → Type 0) (parts : A → List TreeEvent) (whole : B
     → List TreeEvent) (i : List ℕ) (e : Error) (a : Answer A) (b : Answer B) (front : List TreeEvent)

@@ -1,20 +1,18 @@
 -- Results of parsing with a visitor.
-use Rattle.std.specs.Prelude.{◌≡◌, ⊤, ℕ, List, [], Some, Result, Ok, Err, ◌⊎◌, MatchOption, ◌≤◌, length, drop}
+use Rattle.std.specs.Prelude.{◌≡◌, ⊤, ℕ, List, [], Result, Ok, Err, ◌⊎◌, MatchOption, ◌≤◌, length, drop}
 use Rattle.std.specs.declared.alloc.Global.{Global}
-use Rattle.sfv_spec.proofs.Marks.{is_space}
-use Rattle.sfv_spec.specs.Values.{RawField, BareValue}
+use Rattle.sfv_spec.specs.Values.{RawField}
 use Rattle.sfv_spec.specs.declared.field_kind.FieldKind.{FieldKind}
 use Rattle.sfv_spec.specs.declared.field_kind.FieldKind.TheVariants.{Item as item_field, List as list_field}
 use Rattle.sfv_spec.specs.declared.field_kind.FieldKind.TheVariants.{Dictionary as dictionary_field}
 use Rattle.sfv_spec.specs.declared.version.Version.{Version}
-use Rattle.sfv_spec.specs.Events.{TreeEvent, bare_item, events}
+use Rattle.sfv_spec.specs.Events.{TreeEvent, events}
 use Rattle.std.specs.List.{FoldsTo}
 use Rattle.sfv_base.specs.declared.error.Error.{Error}
 use Rattle.sfv_base.specs.declared.error.ParseError.{ParseError}
 use Rattle.sfv_base.specs.declared.error.ParseError.TheVariants.{Syntax, Visitor}
 use Rattle.sfv_base.specs.Errors.{kind_of, index_of}
-use Rattle.sfv_model.specs.Reader.{Answer, Reader, span}
-use Rattle.sfv_model.specs.Bare.{bare_at}
+use Rattle.sfv_model.specs.Reader.{Answer, Reader}
 use Rattle.sfv_model.specs.Fields.{whole_field_at, read_field}
 use Rattle.sfv_model.specs.Visits.{Visited, VisitorFails}
 use Rattle.sfv.specs.declared.parser.Parser.{Parser}
@@ -53,17 +51,6 @@ Visits takes fails parts before after from to result reader =
 abbrev pub IsOfVisitor : {E : Type 0} → (E → Type 0) → ParseError E → Type 0
 IsOfVisitor is (Syntax error) = ⊥
 IsOfVisitor is (Visitor fault) = is fault
-
--- If the text begins with a bare item, an error with an index comes only after the visitor has received it.
-abbrev pub TookBare : {S E : Type 0} → (S → TreeEvent → S → Type 0) → Version → List ℕ → S → ParseError E → Type 0
-TookBare {S} takes version t from (Syntax e) = (index : ℕ) (value : BareValue) (q : List ℕ) → index_of e ≡ Some index
-    → bare_at version t ≡ Ok (value, q) → (after : S) × takes from (bare_item value) after
-TookBare takes version t from (Visitor f) = ⊤
-
--- The same for a bare item after spaces.
-abbrev pub TookFirst : {S E : Type 0} → (S → TreeEvent → S → Type 0) → Version → List ℕ → S → ParseError E → Type 0
-TookFirst takes version t from error = (s r : List ℕ) → span is_space t ≡ Ok (s, r)
-    → TookBare takes version r from error
 
 -- If the text begins with a field, an error with an index comes only for an item, after the visitor has finished.
 abbrev pub IsFinishedAt : {S O : Type 0} → (S → TreeEvent → S → Type 0) → (S → O → Type 0) → Version → FieldKind

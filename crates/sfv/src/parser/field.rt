@@ -1,10 +1,10 @@
 //! Parsing of whole fields (RFC 9651, section 4.2).
 
-ghost use Rattle.std.specs.Prelude.{IfOk, IfErr};
+ghost use Rattle.std.specs.Prelude.{IfOk};
 ghost use Rattle.sfv_spec.specs.declared.field_kind.FieldKind.TheVariants.{Item as item_field};
 ghost use Rattle.sfv.specs.parser.Members.{field_of};
-ghost use Rattle.sfv.specs.Parsers.{input_of, version_of, ReceivesAsReadBy};
-ghost use Rattle.sfv.specs.parser.Visits.{VisitsField, TookFirst};
+ghost use Rattle.sfv.specs.Parsers.{ReceivesAsReadBy};
+ghost use Rattle.sfv.specs.parser.AsRead.{VisitsFieldAsRead};
 
 use crate::parser::Parser;
 use crate::parser::cursor::Cursor;
@@ -22,10 +22,8 @@ pub(crate) fn parse_item_field<'de, V: Visitor<'de>>(
     mut visitor: V,
 ) -> Result<V::Out, ParseError<V::Error>>
     requires { V.is_ready visitor }
-    ensures visited { VisitsField V.takes V.fails V.finishes V.finish_fails
-        (version_of parser.entry) item_field (input_of parser.entry) visitor result }
+    ensures visited { VisitsFieldAsRead V.Visitor parser.entry item_field visitor result }
     ensures as_read { IfOk result (ReceivesAsReadBy V.Visitor parser.entry item_field visitor) }
-    ensures taken_first { IfErr result (TookFirst V.takes (version_of parser.entry) (input_of parser.entry) visitor) }
 {
     let mut cursor = Cursor::new(parser, alloc);
     cursor.skip_sp();
@@ -47,8 +45,7 @@ pub(crate) fn parse_members_field<'de, M: Member<'de, V>, V: Visitor<'de>>(
     mut visitor: V,
 ) -> Result<V::Out, ParseError<V::Error>>
     requires { V.is_ready visitor }
-    ensures visited { VisitsField V.takes V.fails V.finishes V.finish_fails
-        (version_of parser.entry) (field_of M.keyed) (input_of parser.entry) visitor result }
+    ensures visited { VisitsFieldAsRead V.Visitor parser.entry (field_of M.keyed) visitor result }
     ensures as_read { IfOk result (ReceivesAsReadBy V.Visitor parser.entry (field_of M.keyed) visitor) }
 {
     Cursor::new(parser, alloc).members::<M, V>(&mut visitor)?;

@@ -5,8 +5,7 @@ ghost use Rattle.sfv_spec.specs.Events.{parameters_events, item_events};
 ghost use Rattle.sfv_values.specs.BareItems.{input_value};
 ghost use Rattle.sfv_model.specs.Items.{value_at, parameter_at, parameters_at, item_at};
 ghost use Rattle.sfv.specs.parser.Cursor.{version, rest, ReadsOrOutOfMemory};
-ghost use Rattle.sfv.specs.parser.AsRead.{IsNextValue, ReadsEvents};
-ghost use Rattle.sfv.specs.parser.Visits.{Visits, TookBare};
+ghost use Rattle.sfv.specs.parser.AsRead.{IsNextValue, IsNextParameter, VisitsAsRead};
 
 use crate::parser::cursor::Cursor;
 use crate::parser::visit::visit;
@@ -47,7 +46,7 @@ impl<'de> Cursor<'de> {
         ensures read { ReadsOrOutOfMemory (option_map read_pair) self.old self.new result
             (parameter_at (version self.old)) }
         ensures next { IfOk result (λ parameter. MatchOption parameter (rest self.new ≡ rest self.old)
-            (λ p. IsNextValue (version self.old) p.value (rest self.old) (rest self.new))) }
+            (λ p. IsNextParameter (version self.old) p.key p.value (rest self.old) (rest self.new))) }
     {
         if !self.take_if(b';') {
             return Ok(None);
@@ -66,10 +65,8 @@ impl<'de> Cursor<'de> {
     ) -> Result<(), ParseError<V::Error>>
         requires { V.is_ready visitor.old }
         ensures ready { OnOk result (V.is_ready visitor.new) }
-        ensures visited { Visits V.takes V.fails parameters_events self.old self.new visitor.old visitor.new
-            result parameters_at }
-        ensures as_read { OnOk result (ReadsEvents V.takes V.takes_read parameters_events self.old self.new
-            visitor.old visitor.new parameters_at) }
+        ensures visited { VisitsAsRead V.Visitor parameters_events
+            self.old self.new visitor.old visitor.new result parameters_at }
     {
         while let Some(parameter) = self.parameter()? {
             visit(visitor, Event::Parameter(parameter.key, parameter.value))?;
@@ -85,10 +82,8 @@ impl<'de> Cursor<'de> {
     ) -> Result<(), ParseError<V::Error>>
         requires { V.is_ready visitor.old }
         ensures ready { OnOk result (V.is_ready visitor.new) }
-        ensures visited { Visits V.takes V.fails parameters_events self.old self.new visitor.old visitor.new
-            result parameters_at }
-        ensures as_read { OnOk result (ReadsEvents V.takes V.takes_read parameters_events self.old self.new
-            visitor.old visitor.new parameters_at) }
+        ensures visited { VisitsAsRead V.Visitor parameters_events
+            self.old self.new visitor.old visitor.new result parameters_at }
     {
         // Most items have no parameters. This path avoids the stack frame of the loop.
         if !self.next_is(b';') {
@@ -105,10 +100,7 @@ impl<'de> Cursor<'de> {
     ) -> Result<(), ParseError<V::Error>>
         requires { V.is_ready visitor.old }
         ensures ready { OnOk result (V.is_ready visitor.new) }
-        ensures visited { Visits V.takes V.fails item_events self.old self.new visitor.old visitor.new result item_at }
-        ensures as_read { OnOk result (ReadsEvents V.takes V.takes_read item_events self.old self.new
-            visitor.old visitor.new item_at) }
-        ensures taken_first { IfErr result (TookBare V.takes (version self.old) (rest self.old) visitor.old) }
+        ensures visited { VisitsAsRead V.Visitor item_events self.old self.new visitor.old visitor.new result item_at }
     {
         let bare_item = self.bare_item()?;
         visit(visitor, Event::BareItem(bare_item))?;

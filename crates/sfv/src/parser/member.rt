@@ -7,8 +7,7 @@ ghost use Rattle.sfv_model.specs.Fields.{members_at};
 ghost use Rattle.sfv.specs.parser.Cursor.{rest, Reads};
 ghost use Rattle.sfv.specs.parser.Members.{item_delimiter_at, member_delimiter_at, after_begin, member_parts};
 ghost use Rattle.sfv.specs.parser.Members.{one_member_at};
-ghost use Rattle.sfv.specs.parser.Visits.{Visits};
-ghost use Rattle.sfv.specs.parser.AsRead.{ReadsEvents};
+ghost use Rattle.sfv.specs.parser.AsRead.{VisitsAsRead};
 
 use crate::parser::cursor::Cursor;
 use crate::parser::visit::visit;
@@ -21,10 +20,8 @@ impl<'de> Cursor<'de> {
     fn inner_item<V: Visitor<'de>>(&mut self, visitor: &mut V) -> Result<(), ParseError<V::Error>>
         requires { V.is_ready visitor.old }
         ensures ready { OnOk result (V.is_ready visitor.new) }
-        ensures visited { Visits V.takes V.fails inner_item_events self.old self.new visitor.old visitor.new
-            result inner_item_at }
-        ensures as_read { OnOk result (ReadsEvents V.takes V.takes_read inner_item_events self.old self.new
-            visitor.old visitor.new inner_item_at) }
+        ensures visited { VisitsAsRead V.Visitor inner_item_events
+            self.old self.new visitor.old visitor.new result inner_item_at }
     {
         visit(visitor, Event::Item)?;
         self.item(visitor)
@@ -55,10 +52,8 @@ impl<'de> Cursor<'de> {
     fn inner_items<V: Visitor<'de>>(&mut self, visitor: &mut V) -> Result<(), ParseError<V::Error>>
         requires { V.is_ready visitor.old }
         ensures ready { OnOk result (V.is_ready visitor.new) }
-        ensures visited { Visits V.takes V.fails (λ items. flat_map inner_item_events items)
+        ensures visited { VisitsAsRead V.Visitor (λ items. flat_map inner_item_events items)
             self.old self.new visitor.old visitor.new result inner_items_at }
-        ensures as_read { OnOk result (ReadsEvents V.takes V.takes_read (λ items. flat_map inner_item_events items)
-            self.old self.new visitor.old visitor.new inner_items_at) }
     {
         if self.peek().is_none() {
             let error = self.error(ErrorKind::UnterminatedInnerList);
@@ -80,10 +75,7 @@ impl<'de> Cursor<'de> {
     fn inner_list<V: Visitor<'de>>(&mut self, visitor: &mut V) -> Result<(), ParseError<V::Error>>
         requires { V.is_ready visitor.old }
         ensures ready { OnOk result (V.is_ready visitor.new) }
-        ensures visited { Visits V.takes V.fails after_begin self.old self.new visitor.old visitor.new
-            result inner_at }
-        ensures as_read { OnOk result (ReadsEvents V.takes V.takes_read after_begin self.old self.new
-            visitor.old visitor.new inner_at) }
+        ensures visited { VisitsAsRead V.Visitor after_begin self.old self.new visitor.old visitor.new result inner_at }
     {
         self.inner_items(visitor)?;
         visit(visitor, Event::InnerListEnd)?;
@@ -98,10 +90,8 @@ impl<'de> Cursor<'de> {
     ) -> Result<(), ParseError<V::Error>>
         requires { V.is_ready visitor.old }
         ensures ready { OnOk result (V.is_ready visitor.new) }
-        ensures visited { Visits V.takes V.fails member_events self.old self.new visitor.old visitor.new
-            result member_at }
-        ensures as_read { OnOk result (ReadsEvents V.takes V.takes_read member_events self.old self.new
-            visitor.old visitor.new member_at) }
+        ensures visited { VisitsAsRead V.Visitor member_events
+            self.old self.new visitor.old visitor.new result member_at }
     {
         if self.take_if(b'(') {
             visit(visitor, Event::InnerList)?;
@@ -139,10 +129,8 @@ impl<'de> Cursor<'de> {
     fn member_value<V: Visitor<'de>>(&mut self, visitor: &mut V) -> Result<(), ParseError<V::Error>>
         requires { V.is_ready visitor.old }
         ensures ready { OnOk result (V.is_ready visitor.new) }
-        ensures visited { Visits V.takes V.fails member_events self.old self.new visitor.old visitor.new
-            result member_value_at }
-        ensures as_read { OnOk result (ReadsEvents V.takes V.takes_read member_events self.old self.new
-            visitor.old visitor.new member_value_at) }
+        ensures visited { VisitsAsRead V.Visitor member_events
+            self.old self.new visitor.old visitor.new result member_value_at }
     {
         if self.take_if(b'=') {
             return self.member(visitor);
@@ -159,12 +147,9 @@ impl<'de> Cursor<'de> {
     ) -> Result<(), ParseError<V::Error>>
         requires { V.is_ready visitor.old }
         ensures ready { OnOk result (V.is_ready visitor.new) }
-        ensures visited { Visits V.takes V.fails (λ members. flat_map (member_parts M.keyed) members) self.old self.new
-            visitor.old visitor.new result
-            (λ version. members_at (member_parts M.keyed) (one_member_at M.keyed version)) }
-        ensures as_read { OnOk result (ReadsEvents V.takes V.takes_read
-            (λ members. flat_map (member_parts M.keyed) members) self.old self.new visitor.old visitor.new
-            (λ version. members_at (member_parts M.keyed) (one_member_at M.keyed version))) }
+        ensures visited { VisitsAsRead V.Visitor (λ members. flat_map (member_parts M.keyed) members)
+            self.old self.new visitor.old visitor.new
+            result (λ version. members_at (member_parts M.keyed) (one_member_at M.keyed version)) }
         ensures end { OnOk result (rest self.new ≡ []) }
     {
         self.skip_sp();
@@ -187,11 +172,8 @@ pub(super) trait Member<'de, V: Visitor<'de>> {
     fn consume(cursor: &mut Cursor<'de>, visitor: &mut V) -> Result<(), ParseError<V::Error>>
         requires { V.is_ready visitor.old }
         ensures ready { OnOk result (V.is_ready visitor.new) }
-        ensures visited { Visits V.takes V.fails (member_parts keyed) cursor.old cursor.new
-            visitor.old visitor.new result
-            (one_member_at keyed) }
-        ensures as_read { OnOk result (ReadsEvents V.takes V.takes_read (member_parts keyed) cursor.old cursor.new
-            visitor.old visitor.new (one_member_at keyed)) };
+        ensures visited { VisitsAsRead V.Visitor (member_parts keyed)
+            cursor.old cursor.new visitor.old visitor.new result (one_member_at keyed) };
 }
 
 /// A member of a list. The visitor receives its first event before the member is parsed.

@@ -18,6 +18,7 @@ pub(crate) fn visit<'de, V: Visitor<'de>>(
     ensures taken { OnOk result (V.takes visitor.old (event_of event.entry) visitor.new) }
     ensures taken_read { OnOk result (V.takes_read visitor.old event.entry visitor.new) }
     ensures failed { IfErr result (IsOfVisitor (V.fails visitor.old (event_of event.entry))) }
+    ensures failed_read { IfErr result (IsOfVisitor (V.fails_read visitor.old event.entry)) }
 {
     visitor.event(event).map_err(ParseError::Visitor)
 }

@@ -46,11 +46,11 @@ impl<'de> DictionaryReader<'de> for LastMembers {
 
     type Items = IgnoredItems;
 
-    ghost text = { key_of };
+    ghost text = { λ _. key_of };
 
-    ghost reads = { λ found members. held_value found ≡ held_of members };
+    ghost reads = { λ _ found members. held_value found ≡ held_of members };
 
-    fn key(key: KeyRef<'de>) -> Option<Algorithm> {
+    fn key(&self, key: KeyRef<'de>) -> Option<Algorithm> {
         if key.as_str() == "sha-256" {
             Some(Algorithm::Sha256)
         } else if key.as_str() == "sha-512" {

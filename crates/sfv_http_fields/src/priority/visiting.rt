@@ -27,11 +27,11 @@ impl<'de> DictionaryReader<'de> for Priority {
 
     type Items = IgnoredItems;
 
-    ghost text = { key_of };
+    ghost text = { λ _. key_of };
 
-    ghost reads = { λ found members. value_of found ≡ priority members };
+    ghost reads = { λ _ found members. value_of found ≡ priority members };
 
-    fn key(key: KeyRef<'de>) -> Option<Member> {
+    fn key(&self, key: KeyRef<'de>) -> Option<Member> {
         if key.as_str() == "u" {
             Some(Member::Urgency)
         } else if key.as_str() == "i" {

@@ -110,13 +110,13 @@ impl<'de> ListReader<'de> for LastProxy<'de> {
 
     type Items = IgnoredItems;
 
-    ghost keeps = { λ member head ps. kept_value member ≡ kept_of head ps };
+    ghost keeps = { λ _ member head ps. kept_value member ≡ kept_of head ps };
 
-    ghost reads = { λ s members. option_map proxy_value s.found ≡ last_proxy_of members };
+    ghost reads = { λ _ s members. option_map proxy_value s.found ≡ last_proxy_of members };
 
     ghost may_fail = { ⊥ };
 
-    fn item(item: BareItemFromInput<'de>) -> Member<'de> {
+    fn item(&self, item: BareItemFromInput<'de>) -> Member<'de> {
         Member {
             name: name_of(item),
             error: None,
@@ -124,7 +124,7 @@ impl<'de> ListReader<'de> for LastProxy<'de> {
         }
     }
 
-    fn inner_list(_items: IgnoredItems) -> Member<'de> {
+    fn inner_list(&self, _items: IgnoredItems) -> Member<'de> {
         Member {
             name: None,
             error: None,
@@ -132,7 +132,7 @@ impl<'de> ListReader<'de> for LastProxy<'de> {
         }
     }
 
-    fn parameter(member: &mut Member<'de>, key: KeyRef<'de>, value: BareItemFromInput<'de>) {
+    fn parameter(&self, member: &mut Member<'de>, key: KeyRef<'de>, value: BareItemFromInput<'de>) {
         member.error = error_after(member.error, key.as_str(), &value);
         member.received_status = status_after(member.received_status, key.as_str(), &value);
     }

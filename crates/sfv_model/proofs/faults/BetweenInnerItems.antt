@@ -1,16 +1,17 @@
 -- Where the faults between the bare items of an inner list stand.
 use Rattle.std.proofs.Common.{◌≡◌, ℕ, true, List, [], ◌∷◌, ◌++◌, Option, refl, sym, ap, subst, ◌∙◌, append_assoc, rules}
-use Rattle.std.specs.Prelude.{⊤, codes}
+use Rattle.std.specs.Prelude.{⊤, codes, flat_map}
 use Rattle.std.proofs.lemmas.List.{append-nil}
 use Rattle.std.proofs.lemmas.Bool.{eqb-true}
 use Rattle.sfv_spec.proofs.Marks.{space, equals_sign, left_parenthesis, right_parenthesis, comma, is_space}
 use Rattle.sfv_spec.proofs.Marks.{is_space_or_tab}
-use Rattle.sfv_spec.specs.Texts.{RunOf, IsJoining}
+use Rattle.sfv_spec.specs.Texts.{RunOf, IsJoining, ◌⨾◌}
 use Rattle.sfv_spec.specs.Values.{boolean, RawItem}
 use Rattle.sfv_spec.specs.declared.version.Version.{Version}
 use Rattle.sfv_spec.specs.Grammar.{IsItemText, IsMemberText, IsMemberValueText, IsDictionaryMemberText, IsParameterText}
 use Rattle.sfv_spec.specs.Grammar.{IsKeyText}
-use Rattle.sfv_spec.specs.Events.{inner_item_events}
+use Rattle.sfv_spec.specs.Events.{TreeEvent, entry, keyed_entry, begins_inner_list, inner_list_end, parameters_end}
+use Rattle.sfv_spec.specs.Events.{inner_item_events, member_events, entry_events, keyed_events}
 use Rattle.sfv_spec.specs.declared.error_kind.ErrorKind.{ErrorKind}
 use Rattle.sfv_spec.specs.declared.error_kind.ErrorKind.TheVariants.{TrailingCharactersAfterMember, TrailingComma}
 use Rattle.sfv_spec.specs.declared.error_kind.ErrorKind.TheVariants.{TrailingCharactersAfterParsedValue}
@@ -35,22 +36,26 @@ use Rattle.sfv_model.proofs.faults.InnerListCutOff.{joining_last}
 use Rattle.sfv_model.proofs.faults.ItemEnds.{IsTight, tight_after, item_tight, outer_space, second_longer, tight_both}
 use Rattle.sfv_model.proofs.faults.ItemEnds.{joining_tight, after_front}
 
--- front ends in an inner list, where a parenthesis can stand, and, after an item, a parameter too
-pub record IsOpen {A : Type 0} (P : A → List ℕ → Type 0) (k : ErrorKind) (t rest : List ℕ) : Type 0 where
+-- front ends in an inner list, where a parenthesis can stand, and, after an item, a parameter too. The events `es` come
+-- before its end
+pub record IsOpen {A : Type 0} (P : A → List ℕ → Type 0) (parts : A → List TreeEvent) (k : ErrorKind)
+    (t rest : List ℕ) (es : List TreeEvent) : Type 0 where
   pub front : List ℕ
   pub text : t ≡ front ++ rest
-  pub closes : (v : A) × P v (front ++ codes ")")
+  pub closes : (v : A) × P v (front ++ codes ")") × (parts v ≡ es ++ inner_list_end ∷ parameters_end ∷ [])
   pub tight : IsTight space front
   pub longer : k ≡ ExpectedInnerListDelimiter → (v : A) × P v (front ++ codes ";a)")
   pub ends : k ≡ UnterminatedInnerList → rest ≡ []
 
--- front is a whole text with a member
-pub record IsWhole {A : Type 0} (P : A → List ℕ → Type 0) (Has : A → Type 0) (t rest : List ℕ) : Type 0 where
+-- front is a whole text with a member, and has these events
+pub record IsWhole {A : Type 0} (P : A → List ℕ → Type 0) (parts : A → List TreeEvent) (Has : A → Type 0)
+    (t rest : List ℕ) (es : List TreeEvent) : Type 0 where
   pub front : List ℕ
   pub value : A
   pub text : t ≡ front ++ rest
   pub means : P value front
   pub has : Has value
+  pub seen : parts value ≡ es
 
 -- the comma at the end, after such a text
 pub record IsLastComma {A : Type 0} (P : A → List ℕ → Type 0) (Has : A → Type 0) (t rest : List ℕ) : Type 0 where
@@ -63,41 +68,49 @@ pub record IsLastComma {A : Type 0} (P : A → List ℕ → Type 0) (Has : A →
   pub has : Has value
   pub here : rest ≡ comma ∷ whitespace
 
--- where a fault of this kind stands
-abbrev pub Stands : {A : Type 0} → (A → List ℕ → Type 0) → (A → Type 0) → ErrorKind → List ℕ → List ℕ → Type 0
-Stands P Has ExpectedInnerListDelimiter t rest = IsOpen P ExpectedInnerListDelimiter t rest
-Stands P Has UnterminatedInnerList t rest = IsOpen P UnterminatedInnerList t rest
-Stands P Has TrailingCharactersAfterMember t rest = IsWhole P Has t rest
-Stands P Has TrailingComma t rest = IsLastComma P Has t rest
-Stands P Has TrailingCharactersAfterParsedValue t rest = ⊥
-Stands P Has _ t rest = ⊤
+-- where a fault of this kind stands, after these events
+abbrev pub Stands : {A : Type 0} → (A → List ℕ → Type 0) → (A → List TreeEvent) → (A → Type 0) → ErrorKind → List ℕ
+    → List ℕ → List TreeEvent → Type 0
+Stands P parts Has ExpectedInnerListDelimiter t rest es = IsOpen P parts ExpectedInnerListDelimiter t rest es
+Stands P parts Has UnterminatedInnerList t rest es = IsOpen P parts UnterminatedInnerList t rest es
+Stands P parts Has TrailingCharactersAfterMember t rest es = IsWhole P parts Has t rest es
+Stands P parts Has TrailingComma t rest es = IsLastComma P Has t rest
+Stands P parts Has TrailingCharactersAfterParsedValue t rest es = ⊥
+Stands P parts Has _ t rest es = ⊤
 
 -- no value has members
 abbrev pub HasNone : {A : Type 0} → A → Type 0
 HasNone v = ⊥
 
-open_within : {A B : Type 0} (P : A → List ℕ → Type 0) (Q : B → List ℕ → Type 0) (p : List ℕ)
-    → ((v : A) (s : List ℕ) → P v s → (w : B) × Q w (p ++ s)) → (k : ErrorKind) (t rest : List ℕ) → IsOpen P k t rest
-    → IsOpen Q k (p ++ t) rest
-open_within P Q p h k t rest o = record {
+open_within : {A B : Type 0} (P : A → List ℕ → Type 0) (Q : B → List ℕ → Type 0) (parts : A → List TreeEvent)
+    (longer : B → List TreeEvent) (p : List ℕ) (ds : List TreeEvent)
+    → ((v : A) (s : List ℕ) → P v s → (w : B) × Q w (p ++ s) × (longer w ≡ ds ++ parts v)) → (k : ErrorKind)
+    (t rest : List ℕ) (es : List TreeEvent) → IsOpen P parts k t rest es → IsOpen Q longer k (p ++ t) rest (ds ++ es)
+open_within P Q parts longer p ds h k t rest es o = record {
   front = p ++ o.front;
   text = rw o.text (simp append_assoc);
-  closes = let m = h o.closes.0 (o.front ++ codes ")") o.closes.1 in (m.0, rw append_assoc m.1);
+  closes = let m = h o.closes.0 (o.front ++ codes ")") o.closes.1 in (
+    m.0,
+    rw append_assoc m.1,
+    m.2 ∙ ap (λ (l : List TreeEvent). ds ++ l) o.closes.2
+        ∙ sym (append_assoc ds es (inner_list_end ∷ parameters_end ∷ [])),
+  );
   tight = tight_after space p o.front o.tight;
   longer = λ e. let w = o.longer e in let m = h w.0 (o.front ++ codes ";a)") w.1 in (m.0, rw append_assoc m.1);
   ends = o.ends;
 }
 
 -- in a longer text
-pub stands_within : {A B : Type 0} (P : A → List ℕ → Type 0) (Q : B → List ℕ → Type 0) (Has : A → Type 0)
-    (More : B → Type 0) (p : List ℕ)
-    → ((v : A) (s : List ℕ) → P v s → (w : B) × Q w (p ++ s) × (Has v → More w)) → (k : ErrorKind) (t rest : List ℕ)
-    → Stands P Has k t rest → Stands Q More k (p ++ t) rest
-stands_within P Q Has More p h ExpectedInnerListDelimiter t rest o =
-    open_within P Q p (λ v s m. let w = h v s m in (w.0, w.1)) _ t rest o
-stands_within P Q Has More p h UnterminatedInnerList t rest o =
-    open_within P Q p (λ v s m. let w = h v s m in (w.0, w.1)) _ t rest o
-stands_within P Q Has More p h TrailingCharactersAfterMember t rest o =
+pub stands_within : {A B : Type 0} (P : A → List ℕ → Type 0) (Q : B → List ℕ → Type 0) (parts : A → List TreeEvent)
+    (longer : B → List TreeEvent) (Has : A → Type 0) (More : B → Type 0) (p : List ℕ) (ds : List TreeEvent)
+    → ((v : A) (s : List ℕ) → P v s → (w : B) × Q w (p ++ s) × (Has v → More w) × (longer w ≡ ds ++ parts v))
+    → (k : ErrorKind) (t rest : List ℕ) (es : List TreeEvent) → Stands P parts Has k t rest es
+    → Stands Q longer More k (p ++ t) rest (ds ++ es)
+stands_within P Q parts longer Has More p ds h ExpectedInnerListDelimiter t rest es o =
+    open_within P Q parts longer p ds (λ v s m. let w = h v s m in (w.0, w.1, w.3)) _ t rest es o
+stands_within P Q parts longer Has More p ds h UnterminatedInnerList t rest es o =
+    open_within P Q parts longer p ds (λ v s m. let w = h v s m in (w.0, w.1, w.3)) _ t rest es o
+stands_within P Q parts longer Has More p ds h TrailingCharactersAfterMember t rest es o =
     let w = h o.value o.front o.means in
     record {
       front = p ++ o.front;
@@ -105,8 +118,9 @@ stands_within P Q Has More p h TrailingCharactersAfterMember t rest o =
       text = ap (λ (l : List ℕ). p ++ l) o.text ∙ sym (append_assoc p o.front rest);
       means = w.1;
       has = w.2 o.has;
+      seen = w.3 ∙ ap (λ (l : List TreeEvent). ds ++ l) o.seen;
     }
-stands_within P Q Has More p h TrailingComma t rest o =
+stands_within P Q parts longer Has More p ds h TrailingComma t rest es o =
     let w = h o.value o.front o.means in
     record {
       front = p ++ o.front;
@@ -118,19 +132,20 @@ stands_within P Q Has More p h TrailingComma t rest o =
       has = w.2 o.has;
       here = o.here;
     }
-stands_within P Q Has More p h TrailingCharactersAfterParsedValue t rest o = o
-stands_within P Q Has More p h _ t rest o = tt
+stands_within P Q parts longer Has More p ds h TrailingCharactersAfterParsedValue t rest es o = o
+stands_within P Q parts longer Has More p ds h _ t rest es o = tt
 
 -- all other kinds stand anywhere
-stands_other : {A : Type 0} (P : A → List ℕ → Type 0) (Has : A → Type 0) (k : ErrorKind) (t rest : List ℕ)
-    → IsOther k → Stands P Has k t rest
-stands_other P Has ExpectedInnerListDelimiter t rest o = absurd o
-stands_other P Has _ t rest o = search (rules, o)
+stands_other : {A : Type 0} (P : A → List ℕ → Type 0) (parts : A → List TreeEvent) (Has : A → Type 0) (k : ErrorKind)
+    (t rest : List ℕ) (es : List TreeEvent) → IsOther k → Stands P parts Has k t rest es
+stands_other P parts Has ExpectedInnerListDelimiter t rest es o = absurd o
+stands_other P parts Has _ t rest es o = search (rules, o)
 
-pub Rules-other : {A B : Type 0} (f : Reader A) (P : B → List ℕ → Type 0) (Has : B → Type 0) (at : List ℕ → List ℕ)
-    → Shuns f → Rules f (λ t e. Stands P Has e.kind (at t) e.rest)
-Rules-other f P Has at h =
-    record { rules = λ t e i. stands_other P Has e.kind (at t) e.rest (h.rules t e i) }
+pub Rules-other : {A B : Type 0} (f : Reader A) (P : B → List ℕ → Type 0) (parts : B → List TreeEvent)
+    (Has : B → Type 0) (at : List ℕ → List ℕ) (seen : List TreeEvent → List TreeEvent) → Shuns f
+    → Rules f (λ t e. Stands P parts Has e.kind (at t) e.rest (seen e.events))
+Rules-other f P parts Has at seen h =
+    record { rules = λ t e i. stands_other P parts Has e.kind (at t) e.rest (seen e.events) (h.rules t e i) }
 
 -- ---- items, of which the last gets one more parameter
 
@@ -189,6 +204,10 @@ module _ (version : Version) where
   abbrev Opened : List RawItem → List ℕ → Type 0
   Opened is s = (b : List ℕ) × (s ≡ left_parenthesis ∷ b) × IsItems version is b
 
+  -- their events, with the end of the inner list
+  abbrev Ended : List RawItem → List TreeEvent
+  Ended is = flat_map inner_item_events is ++ inner_list_end ∷ parameters_end ∷ []
+
   shuns-inner_item : Shuns (inner_item_at version)
   unfolding inner_item_at
   shuns-inner_item = Shuns-led _ _ (Shuns-item version)
@@ -197,39 +216,45 @@ module _ (version : Version) where
       (j : IsJoining (IsNextItem version) is u) where
     -- after spaces, an item and others
     abbrev Here : List ℕ → Fault → Type 0
-    Here x e = Stands Opened HasNone e.kind (left_parenthesis ∷ (s ++ (t ++ (u ++ x)))) e.rest
+    Here x e = Stands Opened Ended HasNone e.kind (left_parenthesis ∷ (s ++ (t ++ (u ++ x)))) e.rest
+        (inner_item_events i ++ (flat_map inner_item_events is ++ e.events))
 
     -- the parenthesis can close an item and others
-    opened : (x : List ℕ) → AreItems x → (is : List RawItem) × Opened is ((left_parenthesis ∷ (s ++ x)) ++ codes ")")
+    opened : (x : List ℕ) (a : AreItems x) → Opened (a.i ∷ a.is) ((left_parenthesis ∷ (s ++ x)) ++ codes ")")
     opened x a = (
-      a.i ∷ a.is,
-      (
-        s ++ (a.one ++ (a.others ++ codes ")")),
-        ap (λ (l : List ℕ). left_parenthesis ∷ l) (ap (λ (l : List ℕ). (s ++ l) ++ codes ")") a.text
-            ∙ simp append_assoc),
-        items_with version s a.one (a.others ++ codes ")") a.i a.is each a.first
-            (joined_split (IsNextItem version) IsClosed a.is a.others (codes ")") a.second bracket),
-      ),
+      s ++ (a.one ++ (a.others ++ codes ")")),
+      ap (λ (l : List ℕ). left_parenthesis ∷ l) (ap (λ (l : List ℕ). (s ++ l) ++ codes ")") a.text
+          ∙ simp append_assoc),
+      items_with version s a.one (a.others ++ codes ")") a.i a.is each a.first
+          (joined_split (IsNextItem version) IsClosed a.is a.others (codes ")") a.second bracket),
     )
 
+    regroup : (xs ys zs : List TreeEvent) → (xs ++ ys) ++ zs ≡ (xs ++ (ys ++ [])) ++ zs
+    regroup xs ys zs = simp (append_assoc, append-nil)
+
     placed : (k : ErrorKind) (x : List ℕ) → (k ≡ UnterminatedInnerList → x ≡ [])
-        → IsOpen Opened k (left_parenthesis ∷ (s ++ (t ++ (u ++ x)))) x
+        → IsOpen Opened Ended k (left_parenthesis ∷ (s ++ (t ++ (u ++ x)))) x
+        (inner_item_events i ++ (flat_map inner_item_events is ++ []))
     placed k x ends = record {
       front = left_parenthesis ∷ (s ++ (t ++ u));
       text = ap (λ (l : List ℕ). left_parenthesis ∷ l) (simp append_assoc);
-      closes = opened (t ++ u) (record { i = i; is = is; one = t; others = u; text = refl; first = h; second = j });
+      closes = (
+        i ∷ is,
+        opened (t ++ u) (record { i = i; is = is; one = t; others = u; text = refl; first = h; second = j }),
+        regroup (inner_item_events i) (flat_map inner_item_events is) (inner_list_end ∷ parameters_end ∷ []),
+      );
       tight = tight_after space (left_parenthesis ∷ s) (t ++ u) (tight_both space outer_space t u
           (item_tight space outer_space version i t h) (joining_tight space outer_space (IsNextItem version)
           (λ v x k. after_front space outer_space x k (item_tight space outer_space version v k.back k.second))
           is u j));
-      longer = λ _. let o = opened ((t ++ u) ++ codes ";a") (items_longer i is t u h j) in
-          (o.0, subst (Opened o.0) (simp append_assoc) o.1);
+      longer = λ _. let a = items_longer i is t u h j in
+          (a.i ∷ a.is, subst (Opened (a.i ∷ a.is)) (simp append_assoc) (opened ((t ++ u) ++ codes ";a") a));
       ends = ends;
     }
 
     next_item_rules : Rules (next_item_at version) Here
     unfolding next_item_at
-    next_item_rules = Rules-branch _ _ _ _ (λ c _. Rules-other _ Opened HasNone _
+    next_item_rules = Rules-branch _ _ _ _ (λ c _. Rules-other _ Opened Ended HasNone _ _
         (Shuns-bind _ _ (Shuns-span _) (λ _. Shuns-branch _ _ _ (λ _. Shuns-give _)
         (Shuns-bind _ _ shuns-inner_item (λ i. Shuns-give _)))))
         (Rules-branch _ _ _ _ (λ _ _. Rules-give _ _) (Rules-ahead any _ _ _
@@ -239,84 +264,112 @@ module _ (version : Version) where
         (λ e q. fail_at (Option RawItem) UnterminatedInnerList Here [] e q
         (placed UnterminatedInnerList [] (λ _. refl)))))
 
+  -- the last item of an open inner list gets one more parameter
+  pub open_longer : (i : RawItem) (is : List RawItem) (s t : List ℕ) → RunOf is_space s
+      → (IsItemText version i ⨾ IsJoining (IsNextItem version) is) t
+      → (js : List RawItem)
+      × IsMemberText version (inner_of js []) ((left_parenthesis ∷ (s ++ (t ++ codes ";a"))) ++ codes ")")
+  open_longer i is s t each h =
+      let a = items_longer i is h.front h.back h.first h.second in
+      let o = opened s h.front h.back i is each h.first h.second ((h.front ++ h.back) ++ codes ";a") a in (
+        a.i ∷ a.is,
+        subst (IsMemberText version (inner_of (a.i ∷ a.is) []))
+            (ap (λ (l : List ℕ). left_parenthesis ∷ l) (append-nil o.0) ∙ sym o.1
+            ∙ ap (λ (l : List ℕ). (left_parenthesis ∷ (s ++ (l ++ codes ";a"))) ++ codes ")") (sym h.text))
+            (inner_text version (a.i ∷ a.is) [] o.0 [] o.2 (joining_none (IsParameterText version))),
+      )
+
   abbrev AfterBracket : List ℕ → Fault → Type 0
-  AfterBracket x e = Stands Opened HasNone e.kind (left_parenthesis ∷ x) e.rest
+  AfterBracket x e = Stands Opened Ended HasNone e.kind (left_parenthesis ∷ x) e.rest e.events
 
   items_rules : Rules (inner_items_at version) AfterBracket
   unfolding inner_items_at
   items_rules = Rules-any _ _ _
       (Rules-span is_space _ _ (λ s each. Rules-branch _ _ _ _ (λ _ _. Rules-give _ _)
       (Rules-bind (IsItemText version) _ _ (inner_item_at version) _ _ (Sound-inner_item version)
-      (Rules-other _ Opened HasNone _ shuns-inner_item)
+      (Rules-other _ Opened Ended HasNone _ _ shuns-inner_item)
       (λ t i h. Rules-led _ _ _ (Rules-bind _ _ _ (many inner_item_events (next_item_at version)) _ _
       (Sound-steps (IsNextItem version) IsClosed inner_item_events (right_parenthesis ∷ []) bracket
       (next_item_at version) (Sound-next_item version))
       (Rules-many (IsNextItem version) IsClosed _ _ inner_item_events (next_item_at version)
       (Consumes-next_item version) (Sound-next_item version)
-      (λ x e. Stands Opened HasNone e.kind (left_parenthesis ∷ (s ++ (t ++ x))) e.rest)
+      (λ x e. Stands Opened Ended HasNone e.kind (left_parenthesis ∷ (s ++ (t ++ x))) e.rest
+      (inner_item_events i ++ e.events))
       (λ u is j. Rules-weaker _ _ _ (next_item_rules s t u i is each h j) (λ x e o. o)))
       (λ u is q. Rules-give _ _)))))
       )
       (λ e q. fail_at (List RawItem) UnterminatedInnerList AfterBracket [] e q (record {
         front = left_parenthesis ∷ [];
         text = refl;
-        closes = ([], (right_parenthesis ∷ [], refl, bracket));
+        closes = ([], (right_parenthesis ∷ [], refl, bracket), refl);
         tight = record { before = []; last = left_parenthesis; text = refl; other = refl };
         longer = λ k. absurd cc;
         ends = λ _. refl;
       }))
 
   inner_rules : Rules (inner_at version)
-      (λ x e. Stands (IsMemberText version) HasNone e.kind (left_parenthesis ∷ x) e.rest)
+      (λ x e. Stands (IsMemberText version) member_events HasNone e.kind (left_parenthesis ∷ x) e.rest
+      (begins_inner_list ∷ e.events))
   unfolding inner_at
   inner_rules = Rules-bind (IsItems version) _ _ (inner_items_at version) _ _ (Sound-items version)
-      (Rules-weaker _ _ _ items_rules (λ x e o. stands_within Opened (IsMemberText version) HasNone HasNone []
-      (λ is b m. (
+      (Rules-weaker _ _ _ items_rules (λ x e o. stands_within Opened (IsMemberText version) Ended member_events HasNone
+      HasNone [] (begins_inner_list ∷ []) (λ is b m. (
         inner_of is [],
         subst (IsMemberText version (inner_of is [])) (ap (λ (l : List ℕ). left_parenthesis ∷ l) (append-nil m.0)
             ∙ sym m.1) (inner_text version is [] m.0 [] m.2 (joining_none (IsParameterText version))),
         λ n. n,
-      )) e.kind (left_parenthesis ∷ x) e.rest o))
-      (λ s is h. Rules-other _ (IsMemberText version) HasNone _
+        refl,
+      )) e.kind (left_parenthesis ∷ x) e.rest e.events o))
+      (λ s is h. Rules-other _ (IsMemberText version) member_events HasNone _ _
       (Shuns-led _ _ (Shuns-bind _ _ (Shuns-parameters version) (λ ps. Shuns-give _))))
 
-  member_rules : Rules (member_at version) (λ x e. Stands (IsMemberText version) HasNone e.kind x e.rest)
+  member_rules : Rules (member_at version)
+      (λ x e. Stands (IsMemberText version) member_events HasNone e.kind x e.rest e.events)
   unfolding member_at
   member_rules = Rules-branch _ _ _ _
       (λ c is. Rules-weaker _ _ _
-      (Rules-led _ _ (λ x e. Stands (IsMemberText version) HasNone e.kind (left_parenthesis ∷ x) e.rest) inner_rules)
-      (λ x e o. subst (λ (c : ℕ). Stands (IsMemberText version) HasNone e.kind (c ∷ x) e.rest)
+      (Rules-led _ _ (λ x e. Stands (IsMemberText version) member_events HasNone e.kind (left_parenthesis ∷ x) e.rest
+      e.events) inner_rules)
+      (λ x e o. subst (λ (c : ℕ). Stands (IsMemberText version) member_events HasNone e.kind (c ∷ x) e.rest e.events)
       (sym (eqb-true c left_parenthesis is)) o))
-      (Rules-other _ (IsMemberText version) HasNone (λ x. x)
+      (Rules-other _ (IsMemberText version) member_events HasNone (λ x. x) (λ es. es)
       (Shuns-led _ _ (Shuns-bind _ _ (Shuns-item version) (λ i. Shuns-give _))))
 
-  pub entry_rules : Rules (entry_at version) (λ x e. Stands (IsMemberText version) HasNone e.kind x e.rest)
+  pub entry_rules : Rules (entry_at version)
+      (λ x e. Stands (IsMemberText version) entry_events HasNone e.kind x e.rest e.events)
   unfolding entry_at
-  entry_rules = Rules-led _ _ _ member_rules
+  entry_rules = Rules-led _ _ _ (Rules-weaker _ _ _ member_rules (λ x e o.
+      stands_within (IsMemberText version) (IsMemberText version) member_events entry_events HasNone HasNone []
+      (entry ∷ []) (λ m s h. (m, h, λ n. n, refl)) e.kind x e.rest e.events o))
 
   member_value_rules : Rules (member_value_at version)
-      (λ x e. Stands (IsMemberValueText version) HasNone e.kind x e.rest)
+      (λ x e. Stands (IsMemberValueText version) member_events HasNone e.kind x e.rest e.events)
   unfolding member_value_at
   member_value_rules = Rules-branch _ _ _ _
       (λ c is. Rules-weaker _ _ _ member_rules (λ x e o.
-      stands_within (IsMemberText version) (IsMemberValueText version) HasNone HasNone (c ∷ []) (λ m s h. (
+      stands_within (IsMemberText version) (IsMemberValueText version) member_events member_events HasNone HasNone
+      (c ∷ []) [] (λ m s h. (
         m,
         subst (λ (c : ℕ). IsMemberValueText version m (c ∷ s)) (sym (eqb-true c equals_sign is)) (given version m s h),
         λ n. n,
-      )) e.kind x e.rest o))
-      (Rules-other _ (IsMemberValueText version) HasNone (λ x. x)
+        refl,
+      )) e.kind x e.rest e.events o))
+      (Rules-other _ (IsMemberValueText version) member_events HasNone (λ x. x) (λ es. es)
       (Shuns-led _ _ (Shuns-bind _ _ (Shuns-parameters version) (λ ps. Shuns-give _))))
 
-  pub keyed_rules : Rules (keyed_at version) (λ x e. Stands (IsDictionaryMemberText version) HasNone e.kind x e.rest)
+  pub keyed_rules : Rules (keyed_at version)
+      (λ x e. Stands (IsDictionaryMemberText version) keyed_events HasNone e.kind x e.rest e.events)
   unfolding keyed_at
   keyed_rules = Rules-bind IsKeyText _ _ key_at _ _ Sound-key
-      (Rules-other _ (IsDictionaryMemberText version) HasNone (λ x. x) Shuns-key)
+      (Rules-other _ (IsDictionaryMemberText version) keyed_events HasNone (λ x. x) (λ es. es) Shuns-key)
       (λ k key h. Rules-led _ _ _ (Rules-bind (IsMemberValueText version) _ _ (member_value_at version) _ _
       (Sound-member_value version)
       (Rules-weaker _ _ _ member_value_rules (λ x e o.
-      stands_within (IsMemberValueText version) (IsDictionaryMemberText version) HasNone HasNone k (λ m s g. (
+      stands_within (IsMemberValueText version) (IsDictionaryMemberText version) member_events keyed_events HasNone
+      HasNone k (keyed_entry key ∷ []) (λ m s g. (
         (key, m),
         keyed version key k s m h g,
         λ n. n,
-      )) e.kind x e.rest o))
+        refl,
+      )) e.kind x e.rest e.events o))
       (λ s m g. Rules-give _ _)))

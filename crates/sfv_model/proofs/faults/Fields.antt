@@ -12,7 +12,8 @@ use Rattle.sfv_spec.specs.declared.field_kind.FieldKind.TheVariants.{Dictionary 
 use Rattle.sfv_spec.specs.declared.version.Version.{Version}
 use Rattle.sfv_spec.specs.Grammar.{OptionalWhitespace, IsMemberText, IsDictionaryMemberText, IsFieldText}
 use Rattle.sfv_spec.specs.Grammar.{AreMembersText}
-use Rattle.sfv_spec.specs.Events.{TreeEvent, entry_events, keyed_events}
+use Rattle.std.specs.Prelude.{flat_map}
+use Rattle.sfv_spec.specs.Events.{TreeEvent, entry_events, keyed_events, events}
 use Rattle.sfv_model.specs.Commas.{HasManyMembers}
 use Rattle.sfv_spec.specs.declared.error_kind.ErrorKind.TheVariants.{TrailingComma, TrailingCharactersAfterMember}
 use Rattle.sfv_model.specs.Reader.{Fault, Reader, by_rule, byte, any, ahead, back, many, ◌>>=◌, give}
@@ -30,7 +31,7 @@ use Rattle.sfv_model.proofs.faults.Combinators.{Rules, Rules-give, Rules-span, R
 use Rattle.sfv_model.proofs.faults.Combinators.{Rules-back, Rules-ahead, Rules-any, Rules-weaker, fail_at, no_fault}
 use Rattle.sfv_model.proofs.faults.Combinators.{ahead_at}
 use Rattle.sfv_model.proofs.faults.Many.{Rules-many}
-use Rattle.sfv_model.proofs.faults.InnerListCutOff.{put, spaces, members}
+use Rattle.sfv_model.proofs.faults.InnerListCutOff.{put, put_events, spaces, members}
 use Rattle.sfv_model.proofs.faults.ItemEnds.{parted}
 use Rattle.sfv_model.proofs.faults.BetweenInnerItems.{Stands, HasNone, stands_within, Rules-other, entry_rules}
 use Rattle.sfv_model.proofs.faults.BetweenInnerItems.{keyed_rules}
@@ -61,15 +62,19 @@ HasSome {A} ms = (m : A) × (rest : List A) × (ms ≡ m ∷ rest)
 
 module _ {A : Type 0} (P : A → List ℕ → Type 0) (parts : A
     → List TreeEvent) (one : Reader A) (h : Reads one P (Goes P parts))
-    (stands : Rules one (λ t e. Stands P HasNone e.kind t e.rest)) where
+    (stands : Rules one (λ t e. Stands P parts HasNone e.kind t e.rest e.events)) where
+  abbrev All : List A → List TreeEvent
+  All ms = flat_map parts ms
+
   abbrev Placed : List ℕ → Fault → Type 0
-  Placed t e = Stands (AreMembersText P) HasSome e.kind t e.rest
+  Placed t e = Stands (AreMembersText P) All HasSome e.kind t e.rest e.events
 
   module _ (s t u : List ℕ) (m : A) (vs : List A) (each : RunOf is_space s) (k : P m t)
       (j : IsJoining (IsNext P parts one) vs u) where
     -- after spaces, a member, others and blanks
     abbrev Here : List ℕ → List ℕ → Fault → Type 0
-    Here z x e = Stands (AreMembersText P) HasSome e.kind (s ++ (t ++ (u ++ (z ++ x)))) e.rest
+    Here z x e = Stands (AreMembersText P) All HasSome e.kind (s ++ (t ++ (u ++ (z ++ x)))) e.rest
+        (parts m ++ (All vs ++ e.events))
 
     whole : (z : List ℕ) → RunOf is_space_or_tab z → AreMembersText P (m ∷ vs) (s ++ (t ++ (u ++ z)))
     whole z blank = dictionary_members_text P parts one s t (u ++ z) m vs each k
@@ -77,13 +82,17 @@ module _ {A : Type 0} (P : A → List ℕ → Type 0) (parts : A
 
     -- one more member, after a comma
     more : (z c x : List ℕ) → RunOf is_space_or_tab z → (w : Unit {0}) → IsComma w c → (e : Fault)
-        → Stands P HasNone e.kind x e.rest → Here z (c ++ x) e
+        → Stands P parts HasNone e.kind x e.rest e.events → Here z (c ++ x) e
     more z c x blank w is e o =
-        subst (λ (l : List ℕ). Stands (AreMembersText P) HasSome e.kind l e.rest) (simp append_assoc)
-        (stands_within P (AreMembersText P) HasNone HasSome (s ++ (t ++ (u ++ (z ++ c))))
+        subst (λ (es : List TreeEvent). Stands (AreMembersText P) All HasSome e.kind (s ++ (t ++ (u ++ (z ++ (c ++ x)))))
+        e.rest es) (append_assoc (parts m) (All vs) e.events)
+        (subst (λ (l : List ℕ). Stands (AreMembersText P) All HasSome e.kind l e.rest ((parts m ++ All vs) ++ e.events))
+        (simp append_assoc)
+        (stands_within P (AreMembersText P) parts All HasNone HasSome (s ++ (t ++ (u ++ (z ++ c)))) (parts m ++ All vs)
         (λ v y n.
-        let p = put P parts one _ y v (members m vs s t u (z ++ c) each k j (parted z c _ refl blank is)) n in
-        (p.0 ∷ p.1, p.2, λ n. absurd n)) e.kind x e.rest o)
+        let b = members m vs s t u (z ++ c) each k j (parted z c _ refl blank is) in
+        let p = put P parts one _ y v b n in
+        (p.0 ∷ p.1, p.2, λ n. absurd n, put_events P parts one _ y v b n)) e.kind x e.rest e.events o))
 
     met : (z r : List ℕ) → RunOf is_space_or_tab z → RunOf is_space_or_tab r
         → Here z (comma ∷ r) (by_rule TrailingComma (comma ∷ r))
@@ -109,7 +118,8 @@ module _ {A : Type 0} (P : A → List ℕ → Type 0) (parts : A
         (λ c w i. Rules-bind P (Goes P parts) (Somewhere (Goes P parts)) one _ _ h
         (Rules-weaker one _ _ stands (λ x e o r q. more z c x blank w i e o)) (λ y v n. Rules-give _ _))
 
-    pub next_rules : Rules (next_at one) (λ x e. Placed (s ++ (t ++ (u ++ x))) e)
+    pub next_rules : Rules (next_at one) (λ x e. Stands (AreMembersText P) All HasSome e.kind (s ++ (t ++ (u ++ x))) e.rest
+        (parts m ++ (All vs ++ e.events)))
     unfolding next_at
     next_rules =
         Rules-span is_space_or_tab _ _ (λ z blank. Rules-ahead any _ _ _
@@ -121,6 +131,7 @@ module _ {A : Type 0} (P : A → List ℕ → Type 0) (parts : A
           text = simp append_assoc;
           means = whole z blank;
           has = (m, vs, refl);
+          seen = ap (λ (l : List TreeEvent). parts m ++ l) (sym (append-nil (All vs)));
         })) i)
         (λ c r e y q. absurd cc)
         (λ e q. absurd (no_fault _ [] e q)))
@@ -129,13 +140,16 @@ module _ {A : Type 0} (P : A → List ℕ → Type 0) (parts : A
   unfolding members_at
   members_rules = Rules-span is_space _ _ (λ s each. Rules-any _ _ _
       (Rules-bind P (Goes P parts) (Somewhere (Goes P parts)) one _ _ h
-      (Rules-weaker one _ _ stands (λ x e o. stands_within P (AreMembersText P) HasNone HasSome s (λ v t k.
-      let p = put P parts one s t v (spaces s each) k in (p.0 ∷ p.1, p.2, λ n. absurd n)) e.kind x e.rest o))
+      (Rules-weaker one _ _ stands (λ x e o. stands_within P (AreMembersText P) parts All HasNone HasSome s [] (λ v t k.
+      let b = spaces s each in
+      let p = put P parts one s t v b k in
+      (p.0 ∷ p.1, p.2, λ n. absurd n, put_events P parts one s t v b k)) e.kind x e.rest e.events o))
       (λ t m k. Rules-led (parts m) _ _
       (Rules-bind _ _ _ (many parts (next_at one)) _ _
       (Sound-steps (IsNext P parts one) OptionalWhitespace parts [] refl (next_at one) (Sound-next P parts one h))
       (Rules-many (IsNext P parts one) OptionalWhitespace _ _ parts (next_at one) (Consumes-next P parts one h)
-      (Sound-next P parts one h) (λ x e. Stands (AreMembersText P) HasSome e.kind (s ++ (t ++ x)) e.rest)
+      (Sound-next P parts one h) (λ x e. Stands (AreMembersText P) All HasSome e.kind (s ++ (t ++ x)) e.rest
+      (parts m ++ e.events))
       (λ u vs j. Rules-weaker (next_at one) _ _ (next_rules s t u m vs each k j) (λ x e o. o)))
       (λ u ms q. Rules-give _ _))))
       (λ e q. absurd (no_fault _ [] e q)))
@@ -147,17 +161,21 @@ abbrev pub HasMembers : (kind : FieldKind) → RawField kind → Type 0
 HasMembers kind raw = HasManyMembers kind × HasMember kind raw
 
 pub field_rules : (version : Version) (kind : FieldKind)
-    → Rules (whole_field_at version kind) (λ t e. Stands (IsFieldText version kind) (HasMembers kind) e.kind t e.rest)
+    → Rules (whole_field_at version kind)
+    (λ t e. Stands (IsFieldText version kind) (events kind) (HasMembers kind) e.kind t e.rest e.events)
 unfolding whole_field_at
-field_rules version item_field = Rules-other _ (IsFieldText version item_field) (HasMembers item_field) (λ t. t)
+field_rules version item_field = Rules-other _ (IsFieldText version item_field) (events item_field)
+    (HasMembers item_field) (λ t. t) (λ es. es)
     (Shuns-bind _ _ (Shuns-span _) (λ _. Shuns-bind _ _ (Shuns-item version) (λ i. Shuns-bind _ _ (Shuns-span _)
     (λ _. Shuns-give _))))
 field_rules version list_field = Rules-weaker _ _ _
     (members_rules (IsMemberText version) entry_events (entry_at version) (Sound-entry version) (entry_rules version))
-    (λ t e o. stands_within (IsFieldText version list_field) (IsFieldText version list_field) HasSome
-    (HasMembers list_field) [] (λ ms s h. (ms, h, λ some. (tt, some))) e.kind t e.rest o)
+    (λ t e o. stands_within (IsFieldText version list_field) (IsFieldText version list_field) (events list_field)
+    (events list_field) HasSome (HasMembers list_field) [] [] (λ ms s h. (ms, h, λ some. (tt, some), refl)) e.kind t
+    e.rest e.events o)
 field_rules version dictionary_field = Rules-weaker _ _ _
     (members_rules (IsDictionaryMemberText version) keyed_events (keyed_at version) (Sound-keyed version)
     (keyed_rules version))
-    (λ t e o. stands_within (IsFieldText version dictionary_field) (IsFieldText version dictionary_field) HasSome
-    (HasMembers dictionary_field) [] (λ ms s h. (ms, h, λ some. (tt, some))) e.kind t e.rest o)
+    (λ t e o. stands_within (IsFieldText version dictionary_field) (IsFieldText version dictionary_field)
+    (events dictionary_field) (events dictionary_field) HasSome (HasMembers dictionary_field) [] []
+    (λ ms s h. (ms, h, λ some. (tt, some), refl)) e.kind t e.rest e.events o)

@@ -1,6 +1,6 @@
 -- Where the end cuts an inner list off, that is the fault.
 use Rattle.std.proofs.Common.{◌≡◌, ℕ, ◌≤◌, Bool, true, false, eqb, List, [], ◌∷◌, ◌++◌, length, Ok, Err, refl, sym, ap}
-use Rattle.std.proofs.Common.{subst, ◌∙◌, append_assoc, arith, inl, inr, ◌⊎◌}
+use Rattle.std.proofs.Common.{subst, ◌∙◌, append_assoc, arith, inl, inr, ◌⊎◌, flat_map}
 use Rattle.std.proofs.lemmas.List.{append-nil, append_cancel_right, length-append, nil_from_length}
 use Rattle.std.proofs.lemmas.Bool.{true≢false, eqb-true, both_ways, or_parts}
 use Rattle.sfv_spec.proofs.Marks.{space, equals_sign, left_parenthesis, right_parenthesis, comma, is_space}
@@ -31,7 +31,7 @@ use Rattle.sfv_model.proofs.complete.Fields.{comma_ends}
 use Rattle.sfv_model.proofs.complete.Combinators.{ahead_take, Apart-nil, Apart-cons, Apart-part, branch_past}
 use Rattle.sfv_model.proofs.complete.Combinators.{branch_take, ahead_any, bind_complete, span_complete}
 use Rattle.sfv_model.proofs.sound.Members.{IsClosed, IsNextItem, Consumes-next_item, IsItems, Sound-entry, Sound-keyed}
-use Rattle.sfv_model.proofs.texts.Joining.{split_joined, joining_none, joining_into, joining_push}
+use Rattle.sfv_model.proofs.texts.Joining.{events_push, split_joined, joining_none, joining_into, joining_push}
 use Rattle.sfv_model.proofs.complete.Members.{inner_item_complete, next_item_complete, inner_parts, entry_complete}
 use Rattle.sfv_model.proofs.complete.Members.{entry_fresh, keyed_complete, keyed_fresh}
 use Rattle.sfv_model.specs.Places.{OpenListIsRead}
@@ -147,6 +147,20 @@ module _ {A : Type 0} (P : A → List ℕ → Type 0) (parts : A → List TreeEv
     subst (AreMembersText P (m ∷ (ms ++ n ∷ []))) (simp append_assoc) (members_of s t (u ++ (c ++ x)) m (ms ++ n ∷ [])
         each k (joining_push (IsNext P parts one) ms n u (c ++ x) j (parted c x _ refl sep h))),
   )
+
+  -- the events of what stands in front
+  abbrev pub front_events : {b : List ℕ} → Before b → List TreeEvent
+  front_events (spaces _ each) = []
+  front_events (members m ms s t u c each k j sep) = flat_map parts (m ∷ ms)
+
+  pub put_events : (b x : List ℕ) (n : A) (p : Before b) (h : P n x)
+      → flat_map parts ((put b x n p h).0 ∷ (put b x n p h).1) ≡ front_events p ++ parts n
+  unfolding put
+  put_events b x n (spaces _ each) h = append-nil (parts n)
+  put_events _ x n (members m ms s t u c each k j sep) h =
+      ap (λ (l : List TreeEvent). parts m ++ l) (sym (append-nil (flat_map parts (ms ++ n ∷ [])))
+      ∙ events_push parts ms n [] ∙ ap (λ (l : List TreeEvent). flat_map parts ms ++ l) (append-nil (parts n)))
+      ∙ sym (append_assoc (parts m) (flat_map parts ms) (parts n))
 
   -- the last one, with what stands in front of it and the blanks after it
   pub record IsLast (u : List ℕ) : Type 0 where

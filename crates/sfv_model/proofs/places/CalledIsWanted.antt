@@ -125,8 +125,8 @@ at_comma version kind t e c k x = record {
 
 -- those between bare items
 by_kind : (version : Version) (kind : FieldKind) (t : List ℕ) (e : Fault) (k : ErrorKind) (b : Bool) → e.kind ≡ k
-    → e.exact ≡ b → Elsewhere k b → Stands (IsFieldText version kind) (HasMembers kind) k t e.rest
-    → Sorted version kind t e
+    → e.exact ≡ b → Elsewhere k b
+    → Stands (IsFieldText version kind) (events kind) (HasMembers kind) k t e.rest e.events → Sorted version kind t e
 by_kind version kind t e ExpectedInnerListDelimiter true i x h s = inr (inr (
   x,
   inl (record {
@@ -142,7 +142,7 @@ by_kind version kind t e UnterminatedInnerList true i x h s =
       inr (record {
         kind_of = i;
         rest = s.ends refl;
-        closes = subst (λ (l : List ℕ). IsAccepted version kind (l ++ codes ")")) (sym whole) s.closes;
+        closes = subst (λ (l : List ℕ). IsAccepted version kind (l ++ codes ")")) (sym whole) (s.closes.0, s.closes.1);
         no_space = λ u. not_last space t u (rw whole s.tight);
       }),
     ))

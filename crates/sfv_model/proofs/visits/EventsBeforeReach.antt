@@ -13,7 +13,7 @@ use Rattle.sfv_model.specs.Reader.{Fault, Answer, visited}
 use Rattle.sfv_model.specs.Fields.{whole_field_at, ending, read_field}
 use Rattle.sfv_model.specs.Bare.{bare_at}
 use Rattle.sfv_model.specs.Claims.{EventsReach}
-use Rattle.sfv_spec.specs.Visiting.{BeginsEventsAfter}
+use Rattle.sfv_model.specs.Visits.{BeginsEventsAfter}
 use Rattle.sfv_model.proofs.sound.Combinators.{Begins, Somewhere}
 use Rattle.sfv_model.proofs.sound.Fields.{FieldGoes, Sound-field}
 use Rattle.sfv_model.proofs.Theorems.{fault_is_placed, read_is_accepted}

@@ -138,8 +138,6 @@ impl<'de> Visitor<'de> for DictionaryBuilder {
 
     ghost finish_fails = { λ _ _. ⊥ };
 
-    ghost is_memory = { λ _. ⊤ };
-
     #[inline(always)]
     fn event(&mut self, event: Event<'de>) -> Result<(), OutOfMemory> {
         if let Event::Parameter(key, value) = event {

@@ -91,8 +91,6 @@ impl<'de> Visitor<'de> for ItemBuilder {
     ghost finish_fails = { λ s fault. (fault ≡ faults.NoItem)
         × ((i : RawItem) → ¬ (item_state s ≡ ended (item i))) };
 
-    ghost is_memory = { λ fault. fault ≡ faults.OutOfMemory };
-
     #[inline(always)]
     fn event(&mut self, event: Event<'de>) -> Result<(), ItemFault> {
         match self.step(event) {

@@ -133,8 +133,6 @@ impl<'de> Visitor<'de> for ListBuilder {
 
     ghost finish_fails = { λ _ _. ⊥ };
 
-    ghost is_memory = { λ _. ⊤ };
-
     #[inline(always)]
     fn event(&mut self, event: Event<'de>) -> Result<(), OutOfMemory> {
         if let Event::Parameter(key, value) = event {

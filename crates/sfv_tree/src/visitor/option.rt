@@ -26,8 +26,6 @@ impl<'de, V: Visitor<'de>> Visitor<'de> for Option<V> {
 
     ghost finish_fails = { λ s fault. MatchOption s ⊥ (λ visitor. V.finish_fails visitor fault) };
 
-    ghost is_memory = { V.is_memory };
-
     #[inline(always)]
     fn event(&mut self, event: Event<'de>) -> Result<(), V::Error> {
         match self {

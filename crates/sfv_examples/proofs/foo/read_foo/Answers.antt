@@ -2,7 +2,7 @@ use Rattle.std.specs.Prelude.{Ok, Err, ◌≡◌}
 use Rattle.sfv.specs.Field.{dictionary_field}
 use Rattle.std.proofs.Common.{sym, refl}
 use Rattle.std.proofs.lemmas.Result.{IfOk-weaker}
-use Rattle.sfv.proofs.Callers.{answer_read, failure_read}
+use Rattle.sfv.proofs.Callers.{answer_read, failure_read, has_visitor_error}
 use Rattle.sfv_examples.specs.Foo.{foo, IsFooError}
 use Rattle.sfv_examples.specs.FooSteps.{unread, foo_step, foo_found}
 use Rattle.sfv_examples.proofs.Foos.{all_found}
@@ -19,5 +19,6 @@ returns-clause-failed c = failure_read (λ s. s) foo_step foo_found (λ fault. E
     (λ same. cc) (λ s fault h. sym h) all_found refl (λ s found. foo_found s ≡ Ok found)
     c.args.version c.args.input.now c.parse_dictionary_with_visitor.result
     (rw (c.with_version-parser.ensures, c.new.ensures, c.new-2.ensures) at c.parse_dictionary_with_visitor.ensures.syntax)
-    (rw (c.with_version-parser.ensures, c.new.ensures, c.new-2.ensures) at c.parse_dictionary_with_visitor.ensures.visitor)
+    (has_visitor_error _ _ dictionary_field _ c.parse_dictionary_with_visitor.result
+    (rw (c.with_version-parser.ensures, c.new.ensures, c.new-2.ensures) at c.parse_dictionary_with_visitor.ensures.visitor))
     (IsFooError c.args.version c.args.input.now) (λ e h. h) (λ fault h. (h.0, h.1, sym h.2))

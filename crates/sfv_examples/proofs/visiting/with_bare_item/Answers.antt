@@ -1,8 +1,8 @@
-use Rattle.std.proofs.Common.{refl, ◌∙◌}
+use Rattle.std.proofs.Common.{refl}
 use Rattle.std.specs.Prelude.{⊤}
 use Rattle.std.proofs.lemmas.Result.{IfOk-weaker}
 use Rattle.sfv.specs.Types.{Rfc9651, item_field}
-use Rattle.sfv.proofs.Callers.{never_fails}
+use Rattle.sfv.proofs.Callers.{never_fails, fails_in, has_visitor_error}
 use Rattle.sfv_examples.specs.Uses.{IsMemoryError}
 use Rattle.sfv_examples.proofs.Called.{called, failed_first}
 use Rattle.sfv_examples.proofs.Uses.{of_error_alone, read_failed}
@@ -13,7 +13,8 @@ returns-clause-accepted g c a = of_error_alone _ _ c.parse_item_with_visitor.res
     (never_fails _ _ _ _ Rfc9651 item_field c.args.input.now _ a.0 c.parse_item_with_visitor.result a.1
     (rw c.new.ensures at c.parse_item_with_visitor.ensures.visited)
     (rw c.new.ensures at c.parse_item_with_visitor.ensures.syntax)
-    (rw c.new.ensures at c.parse_item_with_visitor.ensures.visitor) (IsMemoryError (λ _. ⊤)) refl
+    (has_visitor_error _ _ item_field _ c.parse_item_with_visitor.result
+    (rw c.new.ensures at c.parse_item_with_visitor.ensures.visitor)) (IsMemoryError (λ _. ⊤)) refl
     (λ error fails. tt))
 
 pub returns-clause-read : goal.returns-clause-read
@@ -22,13 +23,13 @@ returns-clause-read g c = IfOk-weaker c.parse_item_with_visitor.result _ _ (λ o
 
 pub returns-clause-called : goal.returns-clause-called
 returns-clause-called g c = IfOk-weaker c.parse_item_with_visitor.result _ _
-    (λ out h. called {T = g.row.T.Denot} (goal.F-post g) c.args.f c.with_memory_errors-visitor.result
-    (c.with_memory_errors-visitor.ensures.waiting ∙ c.item_visitor_with.ensures.waiting) c.args.input.now out h)
+    (λ out h. called {T = g.row.T.Denot} (goal.F-post g) c.args.f c.item_visitor_with.result
+    c.item_visitor_with.ensures.waiting c.args.input.now out h)
     (rw c.new.ensures at c.parse_item_with_visitor.ensures.visited)
 
 pub returns-clause-failed : goal.returns-clause-failed
 returns-clause-failed g c = read_failed _ _ _ item_field c.args.input.now (λ e h. h.0)
-    (λ error h. failed_first {T = g.row.T.Denot} (goal.F-post g) c.args.f c.with_memory_errors-visitor.result
-    (c.with_memory_errors-visitor.ensures.waiting ∙ c.item_visitor_with.ensures.waiting) c.args.input.now error h)
+    (λ error h. failed_first {T = g.row.T.Denot} (goal.F-post g) c.args.f c.item_visitor_with.result
+    c.item_visitor_with.ensures.waiting c.args.input.now h.0 error h.1 (fails_in _ _ _ _ _ _ h.2))
     c.parse_item_with_visitor.result (rw c.new.ensures at c.parse_item_with_visitor.ensures.syntax)
     (rw c.new.ensures at c.parse_item_with_visitor.ensures.first)

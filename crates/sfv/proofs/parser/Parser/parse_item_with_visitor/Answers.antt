@@ -1,21 +1,25 @@
 use Rattle.sfv_spec.specs.declared.field_kind.FieldKind.TheVariants.{Item as item_field}
 use Rattle.sfv.specs.Parsers.{input_of, version_of}
-use Rattle.sfv.proofs.visits.Fields.{visits_answer, visits_syntax, visits_before, visits_failure}
+use Rattle.sfv.proofs.visits.Fields.{visits_answer, visits_syntax, visits_before}
+use Rattle.sfv.proofs.visits.Failed.{on_tree, visits_failure}
 use Rattle.sfv.proofs.visits.First.{visits_first}
 use Rattle.sfv.proofs.Memory.{visits_memory}
 use Rattle.sfv.proofs.parser.Parser.parse_item_with_visitor.Goals as goal
 
 pub returns-clause-visited : goal.returns-clause-visited
 returns-clause-visited g c = visits_answer g.V.Visitor c.args.self item_field c.args.visitor c.parse_item_field.result
-    c.parse_item_field.ensures.visited
+    (on_tree g.V.Visitor c.args.self item_field c.args.visitor c.parse_item_field.result
+    c.parse_item_field.ensures.visited)
 
 pub returns-clause-syntax : goal.returns-clause-syntax
 returns-clause-syntax g c = visits_syntax g.V.Visitor c.args.self item_field c.args.visitor c.parse_item_field.result
-    c.parse_item_field.ensures.visited
+    (on_tree g.V.Visitor c.args.self item_field c.args.visitor c.parse_item_field.result
+    c.parse_item_field.ensures.visited)
 
 pub returns-clause-before_error : goal.returns-clause-before_error
 returns-clause-before_error g c = visits_before g.V.Visitor c.args.self item_field c.args.visitor c.parse_item_field.result
-    c.parse_item_field.ensures.visited
+    (on_tree g.V.Visitor c.args.self item_field c.args.visitor c.parse_item_field.result
+    c.parse_item_field.ensures.visited)
 
 pub returns-clause-visitor : goal.returns-clause-visitor
 returns-clause-visitor g c = visits_failure g.V.Visitor c.args.self item_field c.args.visitor c.parse_item_field.result
@@ -23,9 +27,10 @@ returns-clause-visitor g c = visits_failure g.V.Visitor c.args.self item_field c
 
 pub returns-clause-first : goal.returns-clause-first
 returns-clause-first g c = visits_first g.V.Visitor c.args.self c.args.visitor c.parse_item_field.result
-    c.parse_item_field.ensures.visited c.parse_item_field.ensures.taken_first
+    c.parse_item_field.ensures.visited
 
 pub returns-clause-memory : goal.returns-clause-memory
 returns-clause-memory g c = visits_memory g.V.Visitor.takes g.V.Visitor.fails g.V.Visitor.finishes
     g.V.Visitor.finish_fails (version_of c.args.self) item_field (input_of c.args.self) c.args.visitor
-    c.parse_item_field.result c.parse_item_field.ensures.visited
+    c.parse_item_field.result (on_tree g.V.Visitor c.args.self item_field c.args.visitor c.parse_item_field.result
+    c.parse_item_field.ensures.visited)

@@ -30,6 +30,6 @@ returns-clause-read c =
 
 pub returns-clause-next : goal.returns-clause-next
 returns-clause-next c =
-    parameter_next _ _ c.in_ok-value.value _ _ _ _ _ _ _
+    parameter_next _ _ c.in_ok-key.key c.in_ok-value.value _ _ _ _ _ _
     (ap kept_version (c.in_ok-key.ensures.read.1 ∙ c.skip_sp.ensures.kept ∙ c.take_if.ensures.kept))
     c.if-not-take_if.ensures.takes c.skip_sp.ensures.skipped.1 c.in_ok-key.ensures.read.0 c.in_ok-value.ensures.next

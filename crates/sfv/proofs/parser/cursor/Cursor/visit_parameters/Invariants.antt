@@ -1,16 +1,12 @@
 use Rattle.std.proofs.Common.{◌≡◌, length}
 use Rattle.sfv.specs.parser.Cursor.{kept, version, rest}
-use Rattle.sfv.proofs.visits.Parameters.{VisitedParameters}
 use Rattle.sfv.proofs.visits.AsRead.{ReadParameters}
 use Rattle.sfv.proofs.parser.cursor.Cursor.visit_parameters.Given as goal
 
 abbrev pub invariant-loop-parameter : goal.invariant-loop-parameter
 invariant-loop-parameter g l = record {
   ready : g.V.Visitor.is_ready l.visitor;
-  visited : VisitedParameters g.V.Visitor.takes (version l.fn.self) (rest l.fn.self) (rest l.self) l.fn.visitor
-      l.visitor;
-  as_read : ReadParameters g.V.Visitor.takes g.V.Visitor.takes_read (version l.fn.self) (rest l.fn.self) (rest l.self)
-      l.fn.visitor l.visitor;
+  visited : ReadParameters g.V.Visitor (version l.fn.self) (rest l.fn.self) (rest l.self) l.fn.visitor l.visitor;
   kept : kept l.self ≡ kept l.fn.self;
 }
 
