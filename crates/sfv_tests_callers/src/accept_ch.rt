@@ -1,8 +1,10 @@
 //! The Accept-CH field: whether it has a hint.
 
+use crate::common::{ladder, of_size};
 use sfv::Version;
 use sfv_http_fields::accept_ch::accepts;
 use std::alloc::Global;
+use std::test::Fail;
 
 // Returns `true` if the field is parsed, and has the hint if and only if `expected` is true.
 fn has_hint(alloc: Global, input: &str, hint: &str, expected: bool) -> bool {
@@ -34,6 +36,20 @@ fn hints_are_found(rt: HostRuntime) {
             "{input} {hint}"
         );
     }
+}
+
+#[test]
+fn hints_are_found_in_lists_of_many_sizes(rt: HostRuntime) -> Result<(), Fail> {
+    for &count in ladder(rt.alloc(), 40, 1 << 14)?.iter() {
+        let input = of_size(rt.alloc(), ("DPR;q=1", ", k#", "", ", Width"), count)?;
+        for (hint, expected) in [("DPR", true), ("Width", true), ("ECT", false)] {
+            assert!(rt;
+                has_hint(rt.alloc(), input.as_str(), hint, expected),
+                "{count} {hint}"
+            );
+        }
+    }
+    Ok(())
 }
 
 #[test]

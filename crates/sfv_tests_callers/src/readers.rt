@@ -2,13 +2,14 @@
 
 ghost use Rattle.std.specs.Prelude.{⊤, codes};
 
-use crate::common::has_text;
+use crate::common::{has_text, ladder, of_size};
 use sfv::{BareItemFromInput, KeyRef, OutOfMemory, Version};
 use sfv_examples::member_integers::integer_of_member;
 use sfv_examples::rows::last_row;
 use sfv_first_field::cdn_cache_control::max_age;
 use sfv_readers::{DictionaryReader, InnerListReader, ListReader, read_dictionary, read_list};
 use std::alloc::Global;
+use std::test::Fail;
 
 // Returns `true` if the last row has these integers.
 fn has_row(alloc: Global, input: &str, expected: Option<&[i64]>) -> bool {
@@ -84,6 +85,20 @@ fn members_of_keys_known_at_run_time_are_found(rt: HostRuntime) {
             "{input} {key}"
         );
     }
+}
+
+#[test]
+fn members_of_dictionaries_of_many_sizes_are_found(rt: HostRuntime) -> Result<(), Fail> {
+    for &count in ladder(rt.alloc(), 40, 1 << 14)?.iter() {
+        let input = of_size(rt.alloc(), ("a=1", ", k#=3", "", ", z=2"), count)?;
+        for (key, expected) in [("a", Some(1)), ("z", Some(2)), ("k", None)] {
+            assert!(rt;
+                has_integer(rt.alloc(), input.as_str(), key, expected),
+                "{count} {key}"
+            );
+        }
+    }
+    Ok(())
 }
 
 /// Appends a token. Ignores a boolean. Runs out of memory at the token `no`, and at any other kind of value.

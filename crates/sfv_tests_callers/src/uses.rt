@@ -6,7 +6,7 @@ use sfv::{
     BareItem, BareItemFromInput, BareItemType, DictSerializer, Dictionary, FieldType,
     GenericBareItem, Integer, Item, KeyRef, List, ListEntry, ListSerializer, ParseError, Parser,
     RefBareItem, SerializeError, TokenRef, Version, find_entry, find_param, integer, key_ref,
-    token_ref,
+    remove_entry, remove_param, token_ref,
 };
 use sfv_examples::expecting::string;
 use sfv_examples::lookups::{has_member, member, param, remove_member, replace_member};
@@ -202,6 +202,35 @@ fn members_are_changed_by_borrowed_keys(rt: HostRuntime) -> Result<(), Fail> {
         holds &= is_changed(rt.alloc(), count)?;
     }
     assert!(rt; holds);
+    Ok(())
+}
+
+/// Returns `true` if a member is removed, an absent one is not, and the others keep their order.
+fn is_entry_removed(alloc: Global, count: usize) -> Result<bool, Fail> {
+    let text = of_size(alloc, ("b=2, a=1", ", k#", "", ""), count)?;
+    let mut members = Parser::new(text.as_str().as_bytes()).parse::<Dictionary>(alloc)?;
+    let is_removed = remove_entry(&mut members, key_ref("a")).is_some()
+        & remove_entry(&mut members, key_ref("d")).is_none();
+    let wanted = of_size(alloc, ("b=2", ", k#", "", ""), count)?;
+    Ok(is_removed & has_text(members.serialize(alloc)?, wanted.as_str()))
+}
+
+/// Returns `true` if a parameter is removed, an absent one is not, and the others keep their order.
+fn is_param_removed(alloc: Global, count: usize) -> Result<bool, Fail> {
+    let text = of_size(alloc, ("1;b=2;a", ";k#", "", ""), count)?;
+    let mut item = Parser::new(text.as_str().as_bytes()).parse::<Item>(alloc)?;
+    let is_removed = remove_param(&mut item.params, key_ref("a")).is_some()
+        & remove_param(&mut item.params, key_ref("d")).is_none();
+    let wanted = of_size(alloc, ("1;b=2", ";k#", "", ""), count)?;
+    Ok(is_removed & is_text(item.serialize(alloc)?.as_str(), wanted.as_str()))
+}
+
+#[test]
+fn members_and_parameters_are_removed_at_many_sizes(rt: HostRuntime) -> Result<(), Fail> {
+    for &count in ladder(rt.alloc(), 40, 1 << 14)?.iter() {
+        assert!(rt; is_entry_removed(rt.alloc(), count)?, "{count}");
+        assert!(rt; is_param_removed(rt.alloc(), count)?, "{count}");
+    }
     Ok(())
 }
 

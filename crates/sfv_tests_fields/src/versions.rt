@@ -1,11 +1,12 @@
 //! Serialization for a version.
 
-use crate::common::{has_text, is_text, value};
+use crate::common::{counted, has_text, is_text, numbers, value};
 use sfv::{
     BareItemType, Dictionary, Error, FieldType, Item, ItemSerializer, List, ListEntry,
     ListSerializer, Parser, SerializeError, Version, append_inner_list, append_member,
 };
 use std::alloc::Global;
+use std::test::Fail;
 
 const DATE: SerializeError = SerializeError::Unsupported(BareItemType::Date);
 
@@ -115,6 +116,26 @@ fn members_are_appended_alone(rt: HostRuntime) {
     let input = "a;x, (1  \"b\";y);z=?0, @1, (1;d=@2), ()";
     let wanted = "|a;x|(1 \"b\";y);z=?0=(1 \"b\";y);z=?0|!|!=!|()=()";
     assert!(rt; has_text(members_alone(rt.alloc(), input), wanted));
+}
+
+#[test]
+fn members_of_many_sizes_are_appended_alone(rt: HostRuntime) -> Result<(), Fail> {
+    let alloc = rt.alloc();
+    for &count in numbers(alloc, 40, 20_000)?.iter() {
+        let item = counted(alloc, "a", ";k", "", "", count)?;
+        let wanted = format!(in alloc; "|{item}")?;
+        assert!(rt;
+            has_text(members_alone(alloc, item.as_str()), wanted.as_str()),
+            "{count}"
+        );
+        let list = counted(alloc, "(", "k", " ", ");x", count)?;
+        let wanted = format!(in alloc; "|{list}={list}")?;
+        assert!(rt;
+            has_text(members_alone(alloc, list.as_str()), wanted.as_str()),
+            "{count}"
+        );
+    }
+    Ok(())
 }
 
 /// Returns `true` if a failed item leaves the text unchanged.

@@ -7,11 +7,9 @@ use Rattle.std.proofs.lemmas.Bool.{true≢false, eqb-true, and_from}
 use Rattle.std.proofs.lemmas.List.Folds.{list_all-append}
 use Rattle.sfv_spec.proofs.Marks.{double_quote, is_space, is_space_or_tab, comma, right_parenthesis}
 use Rattle.sfv_spec.specs.Texts.{RunOf}
-use Rattle.sfv_spec.specs.Classes.{is_key_start, is_key_inner}
 use Rattle.sfv_spec.specs.declared.error_kind.ErrorKind.{ErrorKind}
 use Rattle.sfv_model.specs.Reader.{Answer, Reader, and_then, give, fail, bind, ◌>>=◌, branch, ahead, at_start, back}
 use Rattle.sfv_model.specs.Reader.{span, byte, any}
-use Rattle.sfv_model.specs.Items.{key_at}
 use Rattle.sfv_model.specs.Fields.{comma_at}
 use Rattle.sfv_model.proofs.sound.Combinators.{Steady-span, run_cons, run_head, run_tail}
 use Rattle.sfv.specs.Parsers.{HasNoQuote}
@@ -145,11 +143,6 @@ Passing-span class apart = record {
       subst (λ a. Passed t a) (sym m.3)
       (m.0, m.4, subst HasNoQuote (sym m.5.0) (run_apart class m.1 apart m.5.1));
 }
-
-pub Passing-key : Passing key_at
-unfolding key_at
-Passing-key = Passing-branch is_key_start _ _ refl (λ c. Passing-bind (span is_key_inner) _
-    (Passing-span is_key_inner refl) (λ cs. Passing-give (c ∷ cs))) (Passing-fail _)
 
 pub Passing-item_delimiter : Passing item_delimiter_at
 unfolding item_delimiter_at
