@@ -25,6 +25,8 @@ HEADER = re.compile(r"^( *)(?:pub(?:\([a-z ]+\))? )?(?:const )?(?:unsafe )?(?:ex
 REFUSAL = re.compile(r"^(?:note: )?(?:\./)?((?:src|specs|proofs)/\S+?):(\d+):\d+: (.*)")
 UNREAD = "is not in scope|has no field|is no name|operand is missing|expected the end|cannot continue"
 PROVING = threading.Lock()
+# More of them in one check take more than 3 GB in the largest crates.
+AT_ONCE = 40
 
 
 class Edit:
@@ -186,6 +188,7 @@ def try_edits(crate, edits):
         copy = Copy(crate, room)
         while left:
             together, rest = apart(left)
+            together, rest = together[:AT_ONCE], together[AT_ONCE:] + rest
             if len(together) < 2:
                 break
             found = list(refusals(copy.check(together)))
