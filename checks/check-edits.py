@@ -75,9 +75,15 @@ def function_of(path, text, at):
     return found
 
 
+def verdict_of(output):
+    """Returns the first word of the crate's verdict. The crates below may have printed others before."""
+    lines = [it for it in output.split("\n") if it.startswith("logic=")]
+    return lines[-1].split(" ")[0] if lines else None
+
+
 def refusals(output):
     """Returns where `rt check` names what it does not prove: the file, the line, and the words. None if it stops earlier."""
-    if "\nlogic=not-proved" not in output:
+    if verdict_of(output) != "logic=not-proved":
         return
     for line in output.split("\n"):
         found = REFUSAL.match(line)
@@ -173,7 +179,7 @@ def alone(copy, edit):
     """Tries one edit in a check of its own."""
     output = copy.check([edit])
     found = next(refusals(output), None)
-    if "\nlogic=proved" in output:
+    if verdict_of(output) == "logic=proved":
         return verdict(edit, False, "the crate is still proved")
     if not found or found[0].startswith("proofs/"):
         return verdict(edit, False, found[2] if found else output[-160:])
@@ -211,7 +217,7 @@ def prove(crate):
     with PROVING:
         how = {"stdin": subprocess.DEVNULL, "stdout": subprocess.PIPE, "stderr": subprocess.STDOUT, "text": True}
         output = subprocess.run(["rt", "check"], cwd=f"{TOP}/crates/{crate}", errors="replace", **how).stdout
-    return "logic=proved" in output.rstrip("\n").split("\n")[-1]
+    return verdict_of(output) == "logic=proved"
 
 
 def task(crate, edits):
