@@ -4,7 +4,7 @@
 Tries the must-fail edits crates/CRATE/must-fail/EDIT.edit, by default all, as `rt must-fail` does, but many in one check: each
 in another function. `rt check` names the clause of each function that it does not prove. An edit is refused if such a line
 names a place of its function in src/. A function that calls an edited one may wait for the next check. An edit that no
-such check decides is tried alone: then the crate must not be proved, and the first error must not be in proofs/.
+such check decides is tried alone: then such a line must name any place outside proofs/.
 
 Prints a line for each edit, with what refused it. The status is 1 if one is not refused, or cannot be applied. The crate is
 proved first, and its copies use what `rt check` keeps in out/. RT_JOBS is the number of crates at a time, by default that of
@@ -178,12 +178,13 @@ def verdict(edit, refused, words):
 def alone(copy, edit):
     """Tries one edit in a check of its own."""
     output = copy.check([edit])
-    found = next(refusals(output), None)
     if verdict_of(output) == "logic=proved":
         return verdict(edit, False, "the crate is still proved")
-    if not found or found[0].startswith("proofs/"):
-        return verdict(edit, False, found[2] if found else output[-160:])
-    return verdict(edit, True, found[2])
+    found = list(refusals(output))
+    for path, _, words in found:
+        if not path.startswith("proofs/"):
+            return verdict(edit, True, words)
+    return verdict(edit, False, found[0][2] if found else output.strip()[-160:])
 
 
 def try_edits(crate, edits):
