@@ -2,9 +2,8 @@
 """Usage: checks/check-edits.py [CRATE [EDIT ..]]
 
 Tries the must-fail edits crates/CRATE/must-fail/EDIT.edit, by default all, as `rt must-fail` does, but many in one check: each
-in another function. `rt check` names the clause of each function that it does not prove. An edit is refused if such a line
-names a place of its function in src/. A function that calls an edited one may wait for the next check. An edit that no
-such check decides is tried alone: then such a line must name any place outside proofs/.
+in another function. `rt check` names the place and the clause of what it does not prove. An edit is refused if such a place is
+in its function. An edit that no such check decides is tried alone. Then such a place must be in the crate, outside proofs/.
 
 Prints a line for each edit, with what refused it. The status is 1 if one is not refused, or cannot be applied. The crate is
 proved first, and its copies use what `rt check` keeps in out/. RT_JOBS is the number of crates at a time, by default that of
@@ -50,6 +49,8 @@ class Edit:
                 texts[path] = texts[path].replace(old, new)
                 self.lines[path, at] = texts[path].split("\n")[at]
                 self.functions.add(function_of(path, texts[path], at))
+        if not self.lines:
+            self.why = "it has no 'old:' and 'new:' pair"
 
 
 def read(path):
@@ -230,13 +231,20 @@ def task(crate, edits):
 def edits_of(crate):
     folder = f"{TOP}/crates/{crate}/must-fail"
     names = sorted(os.listdir(folder)) if os.path.isdir(folder) else []
-    return [it.removesuffix(".edit") for it in names if it.endswith(".edit")]
+    return [it.removesuffix(".edit") for it in names if not it.endswith(".md")]
 
 
 def main():
     crates = sys.argv[1:2] or list(dependencies())
-    parts = [(crate, [Edit(crate, it) for it in sys.argv[2:] or edits_of(crate)]) for crate in crates]
+    try:
+        parts = [(crate, [Edit(crate, it) for it in sys.argv[2:] or edits_of(crate)]) for crate in crates]
+    except OSError as error:
+        print(f"check-edits: {error.filename}: {error.strerror}", file=sys.stderr)
+        return 2
     parts = sorted((part for part in parts if part[1]), key=lambda part: -len(part[1]))
+    if not parts:
+        print("check-edits: there is no edit", file=sys.stderr)
+        return 2
     lanes = int(os.environ.get("RT_JOBS") or len(os.sched_getaffinity(0)))
     failed = 0
     with concurrent.futures.ThreadPoolExecutor(lanes) as pool:
