@@ -3,7 +3,7 @@
 
 Tries the must-fail edits crates/CRATE/must-fail/EDIT.edit, by default all, as `rt must-fail` does, but many in one check: each
 in another function. `rt check` names the place and the clause of what it does not prove. An edit is refused if such a place is
-in its function. An edit that no such check decides is tried alone. Then such a place must be in the crate, outside proofs/.
+in its function. An edit that no such check decides is tried alone, and then the crate must not be proved.
 
 Prints a line for each edit, with what refused it. The status is 1 if one is not refused, or cannot be applied. The crate is
 proved first, and its copies use what `rt check` keeps in out/. RT_JOBS is the number of crates at a time, by default that of
@@ -82,14 +82,24 @@ def verdict_of(output):
     return lines[-1].split(" ")[0] if lines else None
 
 
+def proved(output):
+    return verdict_of(output) == "logic=proved"
+
+
 def refusals(output):
     """Returns where `rt check` names what it does not prove: the file, the line, and the words. None if it stops earlier."""
     if verdict_of(output) != "logic=not-proved":
         return
     for line in output.split("\n"):
         found = REFUSAL.match(line)
-        if found and ("is not proved" in found[3] or re.match(f"error: `[^`]*`: (?!.*({UNREAD}))", found[3])):
+        if found and ("is not proved" in found[3] or re.match("error: `[^`]*`: ", found[3])) and not re.search(UNREAD, found[3]):
             yield found[1], int(found[2]) - 1, line.removeprefix("note: ")
+
+
+def is_unread(output):
+    """Returns `True` if the prover cannot read a text of src/ or specs/, so that no contract was tried."""
+    lines = [it for it in output.split("\n") if re.match(r"(\./)?(src|specs)/\S+?:\d+:\d+: error: ", it)]
+    return any(not re.search("error: `[^`]*`: ", it) or re.search(UNREAD, it) for it in lines)
 
 
 def link(source, target):
@@ -179,13 +189,9 @@ def verdict(edit, refused, words):
 def alone(copy, edit):
     """Tries one edit in a check of its own."""
     output = copy.check([edit])
-    if verdict_of(output) == "logic=proved":
-        return verdict(edit, False, "the crate is still proved")
-    found = list(refusals(output))
-    for path, _, words in found:
-        if not path.startswith("proofs/"):
-            return verdict(edit, True, words)
-    return verdict(edit, False, found[0][2] if found else output.strip()[-160:])
+    found = sorted(refusals(output), key=lambda it: it[0].startswith("proofs/"))
+    words = found[0][2] if found else "the crate is still proved" if proved(output) else output.strip()[-160:]
+    return verdict(edit, verdict_of(output) == "logic=not-proved" and not is_unread(output), words)
 
 
 def try_edits(crate, edits):
@@ -219,7 +225,7 @@ def prove(crate):
     with PROVING:
         how = {"stdin": subprocess.DEVNULL, "stdout": subprocess.PIPE, "stderr": subprocess.STDOUT, "text": True}
         output = subprocess.run(["rt", "check"], cwd=f"{TOP}/crates/{crate}", errors="replace", **how).stdout
-    return verdict_of(output) == "logic=proved"
+    return proved(output)
 
 
 def task(crate, edits):
