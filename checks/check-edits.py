@@ -24,8 +24,8 @@ HEADER = re.compile(r"^( *)(?:pub(?:\([a-z ]+\))? )?(?:const )?(?:unsafe )?(?:ex
 REFUSAL = re.compile(r"^(?:note: )?(?:\./)?((?:src|specs|proofs)/\S+?):(\d+):\d+: (.*)")
 UNREAD = "is not in scope|has no field|is no name|operand is missing|expected the end|cannot continue"
 PROVING = threading.Lock()
-# More of them in one check take more than 3 GB in the largest crates.
-AT_ONCE = 40
+# More of them in one check take more than 2.5 GB.
+AT_ONCE = 25
 
 
 class Edit:
