@@ -150,6 +150,15 @@ pub use Rattle.sfv.proofs.Elements.{members_all, items_all, entries_all}
 pub use Rattle.sfv.proofs.Elements.{one_member, one_entry, one_inner_item, one_parameter}
 -- Under RFC 9651, the error of `serialize_for`, `append_member` and `append_inner_list` is out of memory.
 pub use Rattle.sfv.proofs.Elements.{newer_error}
+-- A list or a dictionary with a member comes from a text with a byte that may need memory (`member_needs`). Then any
+-- error of a function that also writes the value meets `NeedsMemory` (`needed`).
+pub use Rattle.sfv.proofs.Needed.{HasByte, member_needs, needed}
+-- Canonical texts are printable ASCII: those of items, of inner lists, and of whole fields. `run_append`: two runs of a
+-- class in order are one. `run_weaker`: a run of a class is one of a wider class.
+pub use Rattle.sfv_spec.proofs.Printable.{item_printable, inner_list_printable, printable_texts_lem, run_append}
+pub use Rattle.sfv_spec.proofs.Printable.{run_weaker}
+-- two fields have the same canonical text if and only if they are equal
+pub use Rattle.sfv_spec.proofs.Laws.{equal_texts_lem}
 -- the text of a whole inner list without a key, from the texts of the calls that wrote it
 pub use Rattle.sfv.proofs.Elements.{inner_list_ended}
 -- a test of some element, and a fact of some element, through a function of each element

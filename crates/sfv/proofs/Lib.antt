@@ -12,4 +12,5 @@ pub mod Lines
 mod FirstByteFaults
 mod Emptiness
 pub mod Elements
+pub mod Needed
 pub mod Callers

@@ -4,5 +4,4 @@ mod RowItems
 mod Pairs
 mod Foos
 mod Called
-mod Needed
 mod Exits

@@ -1,14 +1,16 @@
 use Rattle.sfv.specs.Types.{dictionary_field, Rfc9651}
 use Rattle.sfv.specs.Statements.{IsParsedAs}
 use Rattle.sfv.specs.Trees.{dictionary_tree}
-use Rattle.sfv_examples.proofs.Needed.{member_needs, needed}
+use Rattle.sfv.proofs.Callers.{member_needs, needed}
 use Rattle.sfv_examples.proofs.start.write_again.Goals as goal
 
 pub returns-in_err-line-clause-memory : goal.returns-in_err-line-clause-memory
 returns-in_err-line-clause-memory c =
     let value = dictionary_tree c.in_ok-dictionary.dictionary.entries in
     let read : IsParsedAs Rfc9651 dictionary_field c.args.input.now value = rw c.new.ensures at c.in_ok-dictionary.ensures.read in
-    needed c.args.input.now c.from_residual-in_err-line.result (member_needs c.args.input.now value read c.in_err-line.ensures.out_of_memory)
+    needed dictionary_field c.args.input.now c.from_residual-in_err-line.result
+    (member_needs Rfc9651 dictionary_field c.args.input.now value (λ same. absurd (cc)) read
+    c.in_err-line.ensures.out_of_memory)
 
 pub returns-clause-written : goal.returns-clause-written
 returns-clause-written c =
