@@ -6,8 +6,10 @@
 
 /* What the processor answers: whether it has the leaves, and the register ECX of each. */
 static unsigned has_leaf, ecx_1, ecx_extended;
+static int is_asked;
 
 static int answer(unsigned leaf, unsigned *a, unsigned *b, unsigned *c, unsigned *d) {
+    is_asked = 1;
     *a = *b = *d = 0;
     *c = leaf == 1 ? ecx_1 : leaf == 0x80000001 ? ecx_extended : 0;
     return leaf == 1 ? has_leaf & 1 : has_leaf >> 1 & 1;
@@ -28,6 +30,7 @@ static void set(unsigned leaves, unsigned first, unsigned second) {
     has_leaf = leaves;
     ecx_1 = first;
     ecx_extended = second;
+    is_known = 0;
 }
 
 static void check(const char *name, unsigned leaves, unsigned first, unsigned second) {
@@ -47,6 +50,8 @@ int main(void) {
     expect(sfv_processor_error() == NULL, "a processor with these features alone");
     set(3, ~0u, ~0u);
     expect(sfv_processor_error() == NULL, "a processor with all features");
+    is_asked = 0;
+    expect(sfv_processor_error() == NULL && !is_asked, "a processor is asked again");
     for (i = 0; i < sizeof bits / sizeof *bits; i++) check("without a feature", 3, ~(1u << bits[i]), ~0u);
     check("without LAHF", 3, ~0u, ~1u);
     check("without the first leaf", 2, ~0u, ~0u);

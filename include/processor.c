@@ -1,4 +1,5 @@
-/* Whether the processor has what the library's code needs. This file is compiled for every x86-64 processor. */
+/* Whether the processor has what the library's code needs. This file is compiled for every x86-64 processor, and asks it
+ * once: where a system runs in another, the instruction takes long. */
 #include <cpuid.h>
 #include <stddef.h>
 
@@ -13,7 +14,14 @@ static int has(unsigned leaf, unsigned features) {
     return __get_cpuid(leaf, &a, &b, &c, &d) && (c & features) == features;
 }
 
+/* Whether the processor is known to have all. */
+static int is_known;
+
 const char *sfv_processor_error(void) {
-    if (has(1, SSE3 | SSSE3 | CMPXCHG16B | SSE4_1 | SSE4_2 | POPCNT) && has(0x80000001, LAHF_SAHF)) return NULL;
+    if (__atomic_load_n(&is_known, __ATOMIC_RELAXED)) return NULL;
+    if (has(1, SSE3 | SSSE3 | CMPXCHG16B | SSE4_1 | SSE4_2 | POPCNT) && has(0x80000001, LAHF_SAHF)) {
+        __atomic_store_n(&is_known, 1, __ATOMIC_RELAXED);
+        return NULL;
+    }
     return "libsfv needs an x86-64-v2 processor (SSE4.2, POPCNT)";
 }
