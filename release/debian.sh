@@ -1,7 +1,7 @@
 # The Debian packages: the shared library, and the files for development.
 
 triplet=x86_64-linux-gnu
-maintainer="The maintainers of sfv <sfv@localhost.localdomain>"
+maintainer=${MAINTAINER:-"The maintainers of sfv <sfv@example.org>"}
 
 # Writes the documents of a package.
 debian_documents() {
