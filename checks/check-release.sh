@@ -41,12 +41,13 @@ make_copy() {
     (cd "$copy" && git init -q . && git config user.name check && git config user.email check@localhost && git add -A -f &&
         git commit -qm copy) || return 1
     mkdir -p "$copy/crates/sfv_c/out" "$copy/crates/sfv_tool/out"
-    sed -n 's/^\(sfv_answer\|uint32_t\) \(sfv_c_[a-z]*\)(.*/\1 \2(void); \1 \2(void) { static \1 none; return none; }/p;
-        s/^sfv_answer sfv_c_[a-z_]*_spans(.*/sfv_answer sfv_c_write_spans(void); sfv_answer sfv_c_write_spans(void) { static sfv_answer none; return none; }/p' \
-        include/sfv.h | sort -u >"$room/calls"
-    { echo '#include <stdint.h>
-#include <stddef.h>
-typedef struct { uint32_t status, kind; size_t index, length, rows; } sfv_answer;'; cat "$room/calls"; } >"$room/library.c"
+    {
+        echo '#include <stddef.h>'
+        echo '#include <stdint.h>'
+        echo 'typedef struct { uint32_t status, kind; size_t index, length, rows; } sfv_answer;'
+        sed -n 's/^\(sfv_answer\|uint32_t\) \(sfv_c_[a-z_]*\)(.*/\1 \2(void);\n\1 \2(void) { static \1 none; return none; }/p' \
+            include/sfv.h
+    } >"$room/library.c"
     echo '#include <stdio.h>
 int main(void) { return puts("a=3, b=2") < 0; }' >"$room/tool.c"
     echo 'int rattle_alloc(void); int rattle_alloc(void) { return 0; }' >"$room/heap.c"

@@ -1,7 +1,7 @@
 //! The calls of libsfv. The header sfv.h describes each call and struct.
 
 use std::collections::TryReserveError;
-use std::ffi::c_char;
+use std::os::raw::c_char;
 use std::marker::PhantomData;
 use std::{slice, str};
 
