@@ -14,19 +14,11 @@ sfv.ParseError: expected boolean ('0' or '1') at index 1
 from __future__ import annotations
 
 from decimal import Decimal
+from importlib import import_module
 from typing import Any, Dict, Iterable, List, Union
 
 from ._values import BareItem, Date, DisplayString, ErrorKind, FieldValue, InnerList, Item, Member, Parameters, ParseError
 from ._values import Token
-
-# The extension and the module over ctypes have the same two calls. Only an extension that is absent has a substitute.
-_native: Any
-try:
-    import sfv._sfv as _native
-except ModuleNotFoundError as _error:
-    if _error.name != "sfv._sfv":
-        raise
-    import sfv._ctypes as _native
 
 __all__ = ["BareItem", "Date", "DisplayString", "ErrorKind", "FieldValue", "InnerList", "Item", "Member", "Parameters"]
 __all__ += ["ParseError", "Token", "join_lines", "parse_dictionary", "parse_item", "parse_list", "serialize"]
@@ -35,10 +27,22 @@ __version__ = "0.16.0.post1"
 for _type in (Date, DisplayString, ErrorKind, ParseError, Token):
     _type.__module__ = __name__
 
+
+def _calls() -> Any:
+    """Returns the extension, or the module over ctypes if there is none. Both have the same two calls."""
+    try:
+        return import_module("sfv._sfv")
+    except ModuleNotFoundError as error:
+        if error.name != "sfv._sfv":
+            raise
+    return import_module("sfv._ctypes")
+
+
 # The bytes of a field.
 Field = Union[bytes, bytearray, memoryview]
 
 _ITEM, _LIST, _DICTIONARY = 1, 2, 3
+_native = _calls()
 _parse, _serialize = _native.parse, _native.serialize
 
 
