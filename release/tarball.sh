@@ -30,7 +30,7 @@ make_build_file() {
         echo "sfv $version"
         echo "commit: $commit"
         echo "kit: $(value_of kit "$library.proof")"
-        grep -h '^proof: ' "$library.proof" "$tool.proof"
+        grep -h '^proof: ' "$library.proof" "$tool.proof" | sort -u
         echo "sha256 of libsfv_c.a: $(sum_of "$library")"
         echo "sha256 of sfv_tool.o: $(sum_of "$tool")"
         echo "C compiler: $("$CC" --version | head -n 1)"
