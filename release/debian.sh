@@ -22,7 +22,7 @@ debian_documents() {
     cp "$room/BUILD" "$doc/BUILD"
 }
 
-# Packs a package. Its fields follow those of every package.
+# Packs a package. Its fields follow those of every package. dpkg-deb takes the time from SOURCE_DATE_EPOCH.
 debian_pack() {
     (cd "$root" && find usr -type f | sort | xargs md5sum) >"$root/DEBIAN/md5sums"
     {
@@ -31,7 +31,6 @@ debian_pack() {
         cat
     } >"$root/DEBIAN/control"
     chmod -R u=rwX,go=rX "$root"
-    find "$root" -exec touch -h -d "@$SOURCE_DATE_EPOCH" {} +
     dpkg-deb --root-owner-group -Zxz --build "$root" "$made/${package}_${version}_amd64.deb" >"$room/log" 2>&1 ||
         { cat "$room/log" >&2; fail "$package is not packed"; }
 }

@@ -432,7 +432,9 @@ class Module(unittest.TestCase):
             self.assertEqual(it.__module__, "sfv")
 
     def test_memory_is_constant(self):
-        field, other = b'a=1.5;x, b=(tok "s" :AAEC:);y=@1, c=%"f%c3%bc"', b"a=1, b=?2"
+        # Python shares texts of one letter and small numbers.
+        field = b'first=1.5;left, second=(tok "text" :AAEC: 4000);right=@1, third=%"f%c3%bc"'
+        other = b"first=1, second=?2"
 
         def work():
             for _ in range(200):
