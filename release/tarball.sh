@@ -17,8 +17,8 @@ needs_glibc() {
 
 # Links the program statically, so it runs with any C library.
 make_tool() {
-    "$TOOL_CC" -static -Wl,-z,relro -Wl,-z,now -Wl,-z,noexecstack "$tool" "$calls" "$heap" -o "$room/sfv_tool" 2>"$room/log" ||
-        { cat "$room/log" >&2; fail "$TOOL_CC links no static program"; }
+    "$CC" -static -Wl,-z,relro -Wl,-z,now -Wl,-z,noexecstack "$tool" "$calls" "$heap" -o "$room/sfv_tool" 2>"$room/log" ||
+        { cat "$room/log" >&2; fail "$CC links no static program"; }
     strip "$room/sfv_tool"
     printf 'a=1;x, b=2, a=3\n' | "$room/sfv_tool" dict 9651 >"$room/log" && [ "$(cat "$room/log")" = 'a=3, b=2' ] ||
         fail "the static program does not run"
@@ -40,10 +40,7 @@ make_build_file() {
         echo "not proved: include/processor.c, the inline functions of sfv.h, the bindings, the C compiler and the linker"
         grep -h '^piece: ' "$library.proof" "$tool.proof" | sort -u
         echo "piece: functions over malloc and the system (c/liblibc_c.a, c/libos_c.a): no licence in the kit"
-        case $TOOL_CC in
-        *musl*) echo "piece: musl, in bin/sfv_tool: MIT" ;;
-        *) echo "piece: the C library of $TOOL_CC, in bin/sfv_tool: LGPL-2.1-or-later for glibc" ;;
-        esac
+        echo "piece: the C library in bin/sfv_tool: LGPL-2.1-or-later, if it is glibc"
     } >"$room/BUILD"
 }
 
