@@ -40,7 +40,7 @@ make_build_file() {
         echo "not proved: include/processor.c, the inline functions of sfv.h, the bindings, the C compiler and the linker"
         grep -h '^piece: ' "$library.proof" "$tool.proof" | sort -u
         echo "piece: functions over malloc and the system (c/liblibc_c.a, c/libos_c.a): no licence in the kit"
-        echo "piece: the C library in bin/sfv_tool: LGPL-2.1-or-later, if it is glibc"
+        echo "piece: glibc, in bin/sfv_tool: LGPL-2.1-or-later"
     } >"$room/BUILD"
 }
 
