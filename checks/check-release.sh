@@ -111,8 +111,10 @@ check_paths() {
 check_bad_input() {
     library=$copy/crates/sfv_c/out/libsfv_c.a tool=$copy/crates/sfv_tool/out/sfv_tool.o
     for file in "$library" "$tool"; do
-        mv "$file" "$room/kept" && fails "${file#"$copy"/} is missing" "$room/out" && mv "$room/kept" "$file"
-        mv "$file.proof" "$room/kept" && fails "${file#"$copy"/} has no record" "$room/out" && mv "$room/kept" "$file.proof"
+        mv "$file" "$room/kept" && fails "${file#"$copy"/} is missing" "$room/out"
+        mv "$room/kept" "$file"
+        mv "$file.proof" "$room/kept" && fails "${file#"$copy"/} has no record" "$room/out"
+        mv "$room/kept" "$file.proof"
     done
     cp "$library" "$room/kept" && ar rcD "$library" "$room/tool.o"
     fails "is not the file that release/prove recorded" "$room/out"
@@ -129,8 +131,12 @@ check_bad_input() {
     fails "OUT is no folder that can be written" "$room/file/out"
     fails "OUT is no folder that can be written" /proc/none/out
     fails "OUT is not empty" "$room/first"
-    SFV_KIT=$room CC=none fails "none is missing" "$room/out"
-    mv "$room/kit/c" "$room/kit/d" && fails "SFV_KIT names the kit's folder" "$room/out" && mv "$room/kit/d" "$room/kit/c"
+    CC=none fails "none is missing" "$room/out"
+    mkdir "$room/parent" && CC=none fails "none is missing" "$room/parent/a/b"
+    [ -z "$(ls -A "$room/parent")" ] || wrong "a folder is left above OUT"
+    CC=false fails "" "$room/out"
+    mv "$room/kit/c" "$room/kit/d" && fails "SFV_KIT names the kit's folder" "$room/out"
+    mv "$room/kit/d" "$room/kit/c"
 }
 
 missing=

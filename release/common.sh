@@ -2,6 +2,7 @@
 
 # Says why the script stops, in one line, and stops it.
 fail() {
+    said=1
     echo "$script: $1" >&2
     exit 1
 }

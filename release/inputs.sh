@@ -9,7 +9,7 @@ need_out() {
     fi
     parent=$(dirname -- "$1")
     while ! [ -e "$parent" ]; do parent=$(dirname -- "$parent"); done
-    [ -d "$parent" ] && [ -w "$parent" ] && mkdir -p "$1" 2>/dev/null && rmdir "$1" ||
+    probe=$(mktemp -d "$parent/.release-XXXXXX" 2>/dev/null) && rmdir "$probe" ||
         fail "OUT is no folder that can be written: $1"
 }
 
