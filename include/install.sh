@@ -6,7 +6,7 @@
 # folders of PREFIX that are empty then, except those of /usr and /usr/local.
 #
 # `rt lib` in crates/sfv_c comes first. SFV_LIBRARY and SFV_HEAP name the two archives, if they are elsewhere: libsfv_c.a,
-# and liblibc_c.a of the kit. DESTDIR is a folder that stands for the root, LIBDIR the folder for the libraries if it is not
+# and liblibc_c.a of the kit. DESTDIR is a folder to use as the root, LIBDIR the folder for the libraries if it is not
 # PREFIX/lib, and PC_PREFIX the prefix that sfv.pc states. CC, LD, AR, OBJCOPY and STRIP name the tools.
 set -eu
 umask 022

@@ -1,8 +1,8 @@
 /* The calls of the module sfv as an extension, under the limited API of Python 3.9: one binary for all later versions.
  *
  * `parse` makes Python values of rows. `serialize` makes rows of exact types. Python code (`rows_of`) makes the rows of every
- * other value, and raises the error of a value that no field can hold. No memory comes from elsewhere than Python's
- * allocators and the library, and each state is one of a module, so each interpreter can have its own. */
+ * other value, and raises the error of a value that no field can hold. All memory comes from Python's allocators and the
+ * library. All state is that of a module, so each interpreter has its own. */
 #define Py_LIMITED_API 0x03090000
 #define PY_SSIZE_T_CLEAN
 #include <Python.h>
