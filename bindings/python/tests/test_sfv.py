@@ -446,13 +446,15 @@ class Module(unittest.TestCase):
                     except (ValueError, TypeError):
                         pass
 
-        work()
-        gc.collect()
-        before = sys.getallocatedblocks()
-        work()
-        gc.collect()
-        # A block that is lost in each call would be 200 of them.
-        self.assertLess(sys.getallocatedblocks() - before, 190)
+        def growth():
+            gc.collect()
+            before = sys.getallocatedblocks()
+            work()
+            gc.collect()
+            return sys.getallocatedblocks() - before
+
+        # A block that is lost in each call would be 200 each time. Python's own caches grow at times.
+        self.assertLess(min(growth() for _ in range(5)), 100)
 
     def test_subinterpreters(self):
         script = """if True:
