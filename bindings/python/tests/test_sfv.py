@@ -485,7 +485,7 @@ class Module(unittest.TestCase):
         try:
             import _testcapi
         except ImportError:
-            return print("no request fails: this Python has no _testcapi", file=sys.stderr)
+            return print("no request is made to fail: this Python has no _testcapi", file=sys.stderr)
         if NATIVE != "sfv._sfv":
             return
         field = b'a=1.5;x, b=(tok "s" :AAEC:);y=@1, c=%"f%c3%bc", d=@253402300800'
