@@ -472,6 +472,7 @@ static void check_numbers(void) {
     char version[64];
     sprintf(version, "%d.%d.%d", SFV_VERSION_MAJOR, SFV_VERSION_MINOR, SFV_VERSION_PATCH);
     CHECK(strcmp(version, SFV_VERSION) == 0);
+    CHECK(sfv_processor_error() == NULL);
     CHECK(sfv_abi() == SFV_ABI && sfv_c_abi() == SFV_ABI && sfv_seed() % 2 == 1 && sfv_seed() == sfv_seed());
 }
 

@@ -7,7 +7,8 @@
 #include <stdlib.h>
 #include <string.h>
 #include <sys/auxv.h>
-#include <sys/random.h>
+#include <sys/syscall.h>
+#include <unistd.h>
 
 uint64_t sfv_seed(void);
 
@@ -24,9 +25,10 @@ static int asked;
 
 static int has(const char *name) { return strcmp(source, name) == 0 || strcmp(source, "both") == 0; }
 
-static ssize_t take_random(void *to, size_t length, unsigned flags) {
+static long take_random(long number, void *to, size_t length, unsigned flags) {
     if (asked++ == 0) early = sfv_seed();
-    return has("getrandom") ? getrandom(to, length, flags) : -1;
+    expect(number == SYS_getrandom, "another system call");
+    return has("getrandom") ? syscall(number, to, length, flags) : -1;
 }
 
 static unsigned long take_auxval(unsigned long type) { return has("AT_RANDOM") ? getauxval(type) : 0; }
@@ -38,7 +40,7 @@ static int is_at_random(uint64_t seed) {
     return seed == (bytes | 1);
 }
 
-#define getrandom take_random
+#define syscall take_random
 #define getauxval take_auxval
 #include "../include/seed.c"
 

@@ -8,6 +8,7 @@
  *     sfv_canonical    parses a field, and writes it in its canonical form
  *     sfv_lines        joins several lines of one field
  *     sfv_error_text   returns the text of an error
+ *     sfv_processor_error  says whether the processor can run the library
  *
  * Pointers. The library keeps no pointer after a call, and returns no memory to free. An input can contain any bytes and
  * needs no NUL. A buffer that a call writes must not overlap another argument, nor the bytes of a row or line.
@@ -22,8 +23,8 @@
  * Threads. Any number of calls can run at once. The only state is the seed of sfv_canonical. Do not call from a signal
  * handler, or after fork in a process with threads.
  *
- * Linking. include/install.sh installs the library: cc program.c $(pkg-config --cflags --libs sfv). Builds are for
- * x86-64-v2 processors (SSE4.2, POPCNT).
+ * Linking. cc program.c $(pkg-config --cflags --libs sfv). Builds are for x86-64-v2 processors (SSE4.2, POPCNT), which
+ * sfv_processor_error checks, and for glibc 2.16 or later.
  *
  * Proved for all arguments: the answers of the exported calls, the contents of rows, and the texts. Only tested: the
  * functions of this header, that SFV_ROWS_FOR rows and `input_length` bytes of room suffice, where rows point, and what a
@@ -195,6 +196,10 @@ sfv_answer sfv_c_message(uint32_t kind, uint8_t *out, size_t out_length);
 /* Returns the number that its first call chooses. Its lowest bit is 1. The other 63 bits are random: from getrandom(2), or
  * from the kernel's AT_RANDOM if getrandom fails. Without either the number is 1. A forked child keeps the number. */
 uint64_t sfv_seed(void);
+
+/* Returns NULL if the processor can run the library, and otherwise one line that says what it lacks. Then every call but
+ * this one, sfv_abi and sfv_seed may end the program with SIGILL. */
+const char *sfv_processor_error(void);
 
 /* Returns the SFV_ABI of the library that the program runs with. */
 SFV_INLINE uint32_t sfv_abi(void) { return sfv_c_abi(); }

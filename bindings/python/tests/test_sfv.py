@@ -1,27 +1,50 @@
-"""Tests of the module over the installed library. They read the replay and the header of the repository."""
+"""Tests of the module over the installed library. They read the replay and the header of the repository.
+
+If SFV_NATIVE is set, it names the module whose calls are tested: sfv._sfv or sfv._ctypes.
+"""
 
 import copy
 import ctypes
 import doctest
 import gc
+import os
 import pickle
 import re
 import subprocess
 import sys
 import unittest
+from collections import ChainMap, OrderedDict
 from concurrent.futures import ThreadPoolExecutor
-from datetime import datetime, timedelta, timezone
+from datetime import datetime, timedelta, timezone, tzinfo
 from decimal import Decimal, localcontext
+from enum import IntEnum
 from pathlib import Path
-from typing import Any, get_type_hints
+from types import MappingProxyType
+from typing import Any, NamedTuple, get_type_hints
 
 import sfv
-from sfv import Date, DisplayString, ErrorKind, ParseError, Token, parse_dictionary, parse_item, parse_list, serialize
+from sfv import Date, DisplayString, ErrorKind, ParseError, Token, join_lines, parse_dictionary, parse_item, parse_list
+from sfv import _values, serialize
 
 TOP = Path(__file__).resolve().parents[3]
 PARSERS = {"item": parse_item, "list": parse_list, "dict": parse_dictionary}
 LARGEST = 999_999_999_999_999
 UTC = timezone.utc
+NATIVE = sfv._native.__name__
+WITHOUT_EXTENSION = "import sys; sys.modules['sfv._sfv'] = None\n"
+
+
+def has_library():
+    """Whether the shared library is there, which the module needs without the extension."""
+    try:
+        return bool(ctypes.CDLL("libsfv.so.1"))
+    except OSError:
+        return False
+
+
+def output_of(script):
+    """Returns what a new process of Python prints."""
+    return subprocess.run([sys.executable, "-c", script], stdout=subprocess.PIPE, check=True, text=True).stdout
 
 
 def replayed(line):
@@ -49,9 +72,9 @@ class Replay(unittest.TestCase):
         header = (TOP / "include/sfv.h").read_text()
         kinds = {name: int(number) for name, number in re.findall(r"SFV_ERR_(\w+) = (\d+)", header)}
         self.assertEqual(kinds, {kind.name: kind.value for kind in ErrorKind})
-        for enum in (sfv._Type, sfv._Status, sfv._Tag, sfv._Kind):
+        for enum in (_values.Type, _values.Status, _values.Tag, _values.Kind):
             for member in enum:
-                name = "NO_VALUE" if member is sfv._Kind.NONE else member.name
+                name = "NO_VALUE" if member is _values.Kind.NONE else member.name
                 self.assertRegex(header, rf"\bSFV_{name} = {member.value}\b")
 
     def test_examples(self):
@@ -156,6 +179,7 @@ class Parsing(unittest.TestCase):
         finally:
             gc.enable()
 
+    @unittest.skipIf("ASAN_OPTIONS" in os.environ, "the sanitizer needs the address space")
     def test_a_limit_of_memory(self):
         script = """if True:
             import resource, sfv
@@ -166,8 +190,7 @@ class Parsing(unittest.TestCase):
             except MemoryError:
                 print("out of memory")
         """
-        output = subprocess.run([sys.executable, "-c", script], stdout=subprocess.PIPE, check=True, text=True).stdout
-        self.assertEqual(output, "out of memory\n")
+        self.assertEqual(output_of(script), "out of memory\n")
 
     def test_errors(self):
         with self.assertRaises(ParseError) as caught:
@@ -199,8 +222,30 @@ class Parsing(unittest.TestCase):
         self.assertRaises(ValueError, serialize, [1], version=8941 + 2**32)
 
     def test_fields_are_bytes(self):
-        for field in ("1", None, 1, bytearray(b"1")):
-            self.assertRaises(TypeError, parse_item, field)
+        for field in ("1", None, 1, [49], (b"1",), iter(b"1")):
+            for parse in (parse_item, parse_list, parse_dictionary):
+                self.assertRaises(TypeError, parse, field)
+
+    def test_other_bytes(self):
+        class Bytes(bytes):
+            pass
+
+        field = b"u=1, i;q=:AAEC:"
+        expected = parse_dictionary(field)
+        for same in (bytearray(field), memoryview(field), memoryview(bytearray(field)), Bytes(field)):
+            self.assertEqual(parse_dictionary(same), expected)
+        self.assertEqual(parse_item(memoryview(b"1x2x")[::2]), (12, {}))
+        # The result keeps nothing of a buffer that changes.
+        changing = bytearray(b'"abc";d=:AAEC:')
+        parsed = parse_item(changing)
+        changing[:] = b"x" * len(changing)
+        self.assertEqual(parsed, ("abc", {"d": b"\0\1\2"}))
+
+    def test_lines(self):
+        self.assertEqual(join_lines([b"a=1", bytearray(b"b"), memoryview(b"a=2")]), b"a=1, b, a=2")
+        self.assertEqual(list(parse_dictionary(join_lines([b"a=1", b"b", b"a=2"])).items()), [("a", (2, {})), ("b", (True, {}))])
+        self.assertEqual((join_lines([]), join_lines([b"a"]), join_lines(iter([b"", b""]))), (b"", b"a", b", "))
+        self.assertRaises(TypeError, join_lines, ["a"])
 
     def test_threads(self):
         lines = [f"a{n};n={n}, ({n} b);q=:AAAA:".encode() for n in range(2000)]
@@ -219,7 +264,8 @@ class Errors(unittest.TestCase):
     def test_parsing(self):
         self.check(TypeError, "a field is bytes, not str", parse_item, "1")
         self.check(TypeError, "a field is bytes, not NoneType", parse_list, None)
-        self.check(ValueError, "1 is not a valid _Version", parse_dictionary, b"", 1)
+        self.check(ValueError, "1 is not a valid Version", parse_dictionary, b"", 1)
+        self.check(ValueError, "None is not a valid Version", parse_item, b"1", None)
 
     def test_values(self):
         self.check(ValueError, "no integer of at most 15 digits: 1000000000000000", serialize, LARGEST + 1)
@@ -231,7 +277,10 @@ class Errors(unittest.TestCase):
         self.check(ValueError, "no field can hold a float: 1.5", serialize, [1.5])
         naive = "a date needs a time zone and whole seconds: datetime.datetime(2020, 1, 1, 0, 0)"
         self.check(ValueError, naive, serialize, datetime(2020, 1, 1))
-        self.check(ValueError, "1 is not a valid _Version", serialize, 1, 1)
+        self.check(ValueError, "1 is not a valid Version", serialize, 1, 1)
+        # The error is that of the first wrong value.
+        self.check(ValueError, "no string of printable ASCII: 'é'", serialize, ["é", Decimal("1e12"), 1.5])
+        self.check(ValueError, "no decimal of at most 12 digits before the point: 1E+12", serialize, [Decimal("1e12"), "é"])
 
     def test_types_that_fail_at_once(self):
         for text in ("", "a b", "1a", "a\n", "é", 'a"'):
@@ -250,23 +299,25 @@ class Errors(unittest.TestCase):
         self.check(ValueError, "RFC 8941 does not support display strings", serialize, (DisplayString("a"), {"a": Date(1)}), 8941)
 
     def test_statuses(self):
-        self.check(MemoryError, "", sfv._raise_error, sfv._Answer(4, 1))
-        for status in (2, 5, 7, 8, 2**32 - 1):
-            self.check(RuntimeError, f"libsfv returned the status {status}", sfv._raise_error, sfv._Answer(status))
-        for status in (0, 1):
-            self.assertIsNone(sfv._raise_error(sfv._Answer(status)))
+        self.check(MemoryError, "", _values.fail, 4, 1, 0, "")
+        for status in (0, 2, 5, 7, 8, 2**32 - 1):
+            self.check(RuntimeError, f"libsfv returned the status {status}", _values.fail, status, 0, 0, "")
 
-    def test_another_binary_interface(self):
-        script = """if True:
+    def test_another_library(self):
+        script = WITHOUT_EXTENSION + """if True:
             import ctypes, types
-            ctypes.CDLL = lambda name: types.SimpleNamespace(sfv_c_abi=lambda: 2)
+            class Call:
+                def __init__(self, result): self.result = result
+                def __call__(self): return self.result
+            calls = {"sfv_c_abi": Call(%s), "sfv_processor_error": Call(%s)}
+            ctypes.CDLL = lambda name: types.SimpleNamespace(**calls)
             try:
                 import sfv
             except ImportError as error:
                 print(error)
         """
-        output = subprocess.run([sys.executable, "-c", script], stdout=subprocess.PIPE, check=True, text=True).stdout
-        self.assertEqual(output, "libsfv has another binary interface\n")
+        self.assertEqual(output_of(script % (2, None)), "libsfv has another binary interface\n")
+        self.assertEqual(output_of(script % (1, b"too old")), "too old\n")
 
     def test_annotations(self):
         for function in (serialize, parse_item, parse_list, parse_dictionary):
@@ -278,6 +329,46 @@ class Serializing(unittest.TestCase):
         self.assertEqual(serialize({"a": 1, "b": (True, {"q": Token("x")}), "c": [1, ("s", {"p": False})]}), 'a=1, b;q=x, c=(1 "s";p=?0)')
         self.assertEqual(serialize([Token("a"), ([], {"x": 1}), [b""]]), "a, ();x=1, (::)")
         self.assertEqual((serialize([]), serialize({})), ("", ""))
+
+    def test_mappings(self):
+        members = {"a": 1, "b": (True, {"q": Token("x")})}
+        for same in (OrderedDict(members), MappingProxyType(members), ChainMap(members)):
+            self.assertEqual(serialize(same), "a=1, b;q=x")
+        for parameters in (OrderedDict(q=1), MappingProxyType({"q": 1})):
+            self.assertEqual(serialize((2, parameters)), "2;q=1")
+            self.assertEqual(serialize([(2, parameters), ([3], parameters)]), "2;q=1, (3);q=1")
+        self.assertEqual(serialize(MappingProxyType({})), "")
+
+    def test_types_of_callers(self):
+        class Text(str):
+            pass
+
+        class Number(IntEnum):
+            ONE = 1
+
+        class Items(list):
+            pass
+
+        class Pair(NamedTuple):
+            value: Any
+            parameters: Any
+
+        class Moment(datetime):
+            pass
+
+        self.assertEqual(serialize(Items([Text("a"), Number.ONE, Pair(Text("b"), {Text("q"): Number.ONE})])), '"a", 1, "b";q=1')
+        self.assertEqual(serialize([Moment(1970, 1, 1, tzinfo=UTC), (Items([1]), {})]), "@0, (1)")
+
+    def test_a_value_that_changes_its_container(self):
+        members = [Decimal(1), "a" * 50, "b"]
+
+        class Zone(tzinfo):
+            def utcoffset(self, moment):
+                del members[1:]
+                return timedelta(0)
+
+        members[0] = datetime(1970, 1, 1, tzinfo=Zone())
+        self.assertIn(serialize(members), ("@0", f'@0, "{"a" * 50}", "b"'))
 
     def test_decimals_are_rounded(self):
         for value, text in (("0.0005", "0.0"), ("0.0015", "0.002"), ("-1.2345", "-1.234"), ("2", "2.0"), ("1e2", "100.0"), ("1e-99", "0.0")):
@@ -318,6 +409,135 @@ class Serializing(unittest.TestCase):
 
     def test_many_rows(self):
         self.assertEqual(len(serialize([1] * 100_000)), 299_998)
+        self.assertEqual(serialize([([n, "x"], {"y": n}) for n in range(300)]).count("x"), 300)
+
+
+class Module(unittest.TestCase):
+    def test_native(self):
+        self.assertEqual(NATIVE, os.environ.get("SFV_NATIVE", NATIVE))
+
+    @unittest.skipUnless(has_library(), "no shared library")
+    def test_without_extension(self):
+        script = WITHOUT_EXTENSION + "import sfv; print(sfv._native.__name__, sfv.serialize(sfv.parse_item(b'a;b')))"
+        self.assertEqual(output_of(script), "sfv._ctypes a;b\n")
+
+    def test_version(self):
+        upstream, number = (TOP / "release/version").read_text().strip().split("-")
+        self.assertEqual(sfv.__version__, f"{upstream}.post{number}")
+
+    def test_names(self):
+        for name in sfv.__all__:
+            self.assertTrue(hasattr(sfv, name), name)
+        for it in (Date, DisplayString, ErrorKind, ParseError, Token):
+            self.assertEqual(it.__module__, "sfv")
+
+    def test_memory_is_constant(self):
+        # Python shares texts of one letter and small numbers.
+        field = b'first=1.5;left, second=(tok "text" :AAEC: 4000);right=@1, third=%"f%c3%bc"'
+        other = b"first=1, second=?2"
+
+        def work():
+            for _ in range(200):
+                serialize(parse_dictionary(field))
+                serialize(MappingProxyType(parse_dictionary(bytearray(field))))
+                for call, value in ((parse_dictionary, other), (serialize, "é"), (parse_item, None), (serialize, [1, object()])):
+                    try:
+                        call(value)
+                    except (ValueError, TypeError):
+                        pass
+
+        def growth():
+            gc.collect()
+            before = sys.getallocatedblocks()
+            work()
+            gc.collect()
+            return sys.getallocatedblocks() - before
+
+        # A block that is lost in each call would be 200 each time. Python's own caches grow at times.
+        self.assertLess(min(growth() for _ in range(5)), 100)
+
+    def test_subinterpreters(self):
+        script = """if True:
+            import importlib
+            for name in ("_interpreters", "_xxsubinterpreters"):
+                try:
+                    interpreters = importlib.import_module(name)
+                    break
+                except ImportError:
+                    pass
+            else:
+                raise SystemExit(print("1"))
+            import sfv
+            for _ in range(3):
+                other = interpreters.create()
+                error = interpreters.run_string(other, "import sfv; assert sfv.parse_item(b'a;b=1.5')[0] == sfv.Token('a')")
+                assert not error, error
+                interpreters.destroy(other)
+            print(sfv.serialize(sfv.parse_item(b"1")[0]))
+        """
+        result = subprocess.run([sys.executable, "-c", script], stdout=subprocess.PIPE, stderr=subprocess.PIPE, text=True)
+        if NATIVE == "sfv._ctypes" and "does not support loading in subinterpreters" in result.stderr:
+            return  # ctypes itself says so, in some versions of Python
+        self.assertEqual((result.stdout, result.returncode), ("1\n", 0), result.stderr)
+
+    def test_each_failed_request(self):
+        """Fails each request of Python's memory in turn. Then a call raises MemoryError, or returns the same."""
+        try:
+            import _testcapi
+        except ImportError:
+            return print("no request is made to fail: this Python has no _testcapi", file=sys.stderr)
+        if NATIVE != "sfv._sfv":
+            return
+        field = b'a=1.5;x, b=(tok "s" :AAEC:);y=@1, c=%"f%c3%bc", d=@253402300800'
+        tree = parse_dictionary(field)
+        long_field = b"1, " * 200 + b'"' + b"\\\\" * 400 + b'"'
+        long_tree = parse_list(long_field)
+        calls = [(parse_dictionary, field), (parse_dictionary, bytearray(field)), (parse_list, long_field)]
+        calls += [(serialize, tree), (serialize, MappingProxyType(tree)), (serialize, long_tree), (parse_item, b"?2"), (serialize, "é")]
+        for call, value in calls:
+            try:
+                expected = call(value)
+            except ValueError as error:
+                expected = str(error)
+            self.assertGreater(failures(_testcapi, call, value, expected), 0)
+
+
+def is_of_python_code(error):
+    """Whether the error comes from code of the module _values: from its last frame, or from the call of a function."""
+    frame = error.__traceback__
+    while frame.tb_next:
+        frame = frame.tb_next
+    return frame.tb_frame.f_code.co_filename.endswith("_values.py") or str(error).startswith("<function ")
+
+
+def failures(testcapi, call, value, expected):
+    """Makes the call, with each request of memory failing in turn. Returns the number of calls that ran out of memory.
+
+    After the last request, the calls are as usual. Python can do without some requests, but not without many in order.
+    """
+    count = number = usual = 0
+    while usual < 50:
+        number += 1
+        result = ""
+        testcapi.set_nomemory(number, number + 1)
+        try:
+            result = call(value)
+        except ValueError as error:
+            result = error
+        except MemoryError:
+            result = None
+        except SystemError as error:
+            # Python's interpreter loses some errors of memory in Python code. The extension must lose none.
+            assert is_of_python_code(error), error
+            result = None
+        finally:
+            testcapi.remove_mem_hooks()
+        if result is None:
+            count, usual = count + 1, 0
+        else:
+            usual += 1
+            assert (str(result) if isinstance(result, ValueError) else result) == expected, (call, number, result)
+    return count
 
 
 if __name__ == "__main__":

@@ -47,6 +47,8 @@ pub enum Error {
     /// The program is linked to another version of libsfv: one with another binary interface, or one that returns a
     /// number that this crate does not know. Every call can return this error.
     Incompatible,
+    /// The processor lacks instructions of the library, which is for x86-64-v2. Every call can return this error.
+    Processor,
 }
 
 impl From<Answer> for Error {
@@ -78,6 +80,7 @@ impl fmt::Display for Error {
             Error::Unsupported(Unsupported::DisplayString) => f.write_str("RFC 8941 does not support display strings"),
             Error::WrongPart { index } => write!(f, "no field has these parts: part {index} is wrong or missing"),
             Error::OutOfMemory => f.write_str("out of memory"),
+            Error::Processor => f.write_str("libsfv needs an x86-64-v2 processor (SSE4.2, POPCNT)"),
             Error::Incompatible => f.write_str("this version of libsfv is not the one that the crate needs"),
         }
     }

@@ -1,6 +1,7 @@
 //! The calls of libsfv. The header sfv.h describes each call and struct.
 
 use std::collections::TryReserveError;
+use std::os::raw::c_char;
 use std::marker::PhantomData;
 use std::{slice, str};
 
@@ -108,13 +109,19 @@ extern "C" {
                          out_length: usize) -> Answer;
     fn sfv_c_message(kind: u32, out: *mut u8, out_length: usize) -> Answer;
     fn sfv_seed() -> u64;
+    fn sfv_processor_error() -> *const c_char;
 }
 
-/// Returns an error if the library has another binary interface. Every other call of the library comes after it.
-fn check_abi() -> Result<(), Error> {
-    // SAFETY: it has no arguments.
-    let abi = unsafe { sfv_c_abi() };
-    if abi == ABI { Ok(()) } else { Err(Error::Incompatible) }
+/// Returns an error if the library has another binary interface, or needs another processor. Every other call of the library
+/// comes after it.
+fn check_library() -> Result<(), Error> {
+    // SAFETY: they have no arguments, and run on every x86-64 processor.
+    let (abi, error) = unsafe { (sfv_c_abi(), sfv_processor_error()) };
+    match abi {
+        ABI if error.is_null() => Ok(()),
+        ABI => Err(Error::Processor),
+        _ => Err(Error::Incompatible),
+    }
 }
 
 fn reserved<T>(count: usize) -> Result<Vec<T>, TryReserveError> {
@@ -130,7 +137,7 @@ fn zeros(count: usize) -> Result<Vec<u8>, TryReserveError> {
 }
 
 pub fn parse(kind: Kind, version: Version, input: &[u8]) -> Result<Rows<'_>, Error> {
-    check_abi()?;
+    check_library()?;
     // Most fields have at most 64 rows. Others are parsed twice.
     let (mut count, mut length) = (2 * input.len().min(31) + 2, input.len());
     for _ in 0..2 {
@@ -172,7 +179,7 @@ fn written(guess: usize, write: impl Fn(*mut u8, usize) -> Answer) -> Result<Opt
 }
 
 pub fn write(kind: Kind, version: Version, rows: &[Row<'_>]) -> Result<Option<String>, Error> {
-    check_abi()?;
+    check_library()?;
     // Enough for most texts.
     let guess = rows.iter().fold(0, |sum: usize, row| {
         sum.saturating_add(row.key_length + row.bytes_length + row.bytes_length / 2 + 8)
@@ -182,7 +189,7 @@ pub fn write(kind: Kind, version: Version, rows: &[Row<'_>]) -> Result<Option<St
 }
 
 pub fn canonical(kind: Kind, reading: Version, writing: Version, input: &[u8]) -> Result<Option<String>, Error> {
-    check_abi()?;
+    check_library()?;
     // SAFETY: as in `write`.
     written(input.len(), |out, length| unsafe {
         sfv_c_canonical(kind, reading, writing, sfv_seed(), input.as_ptr(), input.len(), out, length)
@@ -191,7 +198,7 @@ pub fn canonical(kind: Kind, reading: Version, writing: Version, input: &[u8]) -
 
 /// Writes the message of a kind of syntax error to a buffer, and returns it.
 pub fn message(kind: u32, out: &mut [u8; 63]) -> Option<&str> {
-    check_abi().ok()?;
+    check_library().ok()?;
     // SAFETY: as in `write`.
     let answer = unsafe { sfv_c_message(kind, out.as_mut_ptr(), out.len()) };
     let message = out.get(..answer.length).filter(|_| answer.status == Status::OK)?;

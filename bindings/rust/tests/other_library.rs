@@ -34,9 +34,10 @@ const fn status(status: u32) -> Answer { Answer { status, kind: 0, index: 0, len
 
 /// What the library returns: its binary interface, the numbers of the row that it writes, and its answer.
 #[derive(Clone, Copy)]
-struct Library { abi: u32, tag: u32, kind: u32, answer: Answer, calls: usize }
+struct Library { abi: u32, has_processor: bool, tag: u32, kind: u32, answer: Answer, calls: usize }
 
-const ITEM: Library = Library { abi: 1, tag: 5, kind: 1, answer: Answer { rows: 1, ..status(OK) }, calls: 0 };
+const ITEM: Library =
+    Library { abi: 1, has_processor: true, tag: 5, kind: 1, answer: Answer { rows: 1, ..status(OK) }, calls: 0 };
 
 thread_local! {
     static LIBRARY: Cell<Library> = const { Cell::new(ITEM) };
@@ -58,6 +59,11 @@ extern "C" fn sfv_c_abi() -> u32 { library().abi }
 
 #[no_mangle]
 extern "C" fn sfv_seed() -> u64 { 1 }
+
+#[no_mangle]
+extern "C" fn sfv_processor_error() -> *const u8 {
+    if library().has_processor { std::ptr::null() } else { b"too old\0".as_ptr() }
+}
 
 #[no_mangle]
 extern "C" fn sfv_c_canonical(_: u32, _: u32, _: u32, _: u64, _: *const u8, _: usize, _: *mut u8, _: usize) -> Answer {
@@ -195,6 +201,20 @@ fn another_binary_interface() {
         assert_eq!(SYNTAX_ERROR.to_string(), "no such field at index 1");
         assert_eq!(library().calls, 0);
     }
+}
+
+/// Without its instructions, the library gets no call but those that every processor can run.
+#[test]
+fn another_processor() {
+    set_library(ITEM);
+    let field = parse(Kind::Item, b"1").unwrap();
+    set_library(Library { has_processor: false, ..ITEM });
+    assert_eq!(parse(Kind::Item, b"1").err(), Some(Error::Processor));
+    assert_eq!(field.serialize(Version::Rfc9651), Err(Error::Processor));
+    assert_eq!(Writer::new(Kind::List).text(Version::Rfc9651), Err(Error::Processor));
+    assert_eq!(SYNTAX_ERROR.to_string(), "no such field at index 1");
+    assert_eq!(library().calls, 0);
+    assert_eq!(Error::Processor.to_string(), "libsfv needs an x86-64-v2 processor (SSE4.2, POPCNT)");
 }
 
 const SYNTAX_ERROR: Error = Error::Syntax { kind: ErrorKind::ExpectedBoolean, index: 1 };
