@@ -152,7 +152,8 @@ else
     build "$room/first" >"$room/said" 2>&1 || { wrong "release/build fails"; cat "$room/said"; }
     (umask 077 && cd / && build "$room/second") >/dev/null 2>&1
     diff -r "$room/first" "$room/second" || wrong "two runs differ"
-    (cd "$room/first" && sha256sum --quiet -c SHA256SUMS) || wrong "SHA256SUMS is wrong"
+    (cd "$room/first" && sha256sum --quiet -c SHA256SUMS && [ "$(ls | grep -vx SHA256SUMS | sort)" = "$(cut -c67- SHA256SUMS | sort)" ]) ||
+        wrong "SHA256SUMS is wrong, or lacks an artefact"
     check_names
     check_paths
     check_bad_input

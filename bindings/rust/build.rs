@@ -17,7 +17,7 @@ fn main() {
 
 fn link_native(native: &Path) {
     let target = env::var("TARGET").expect("cargo sets it");
-    let is_built = target.starts_with("x86_64-") && target.contains("-linux-");
+    let is_built = target == "x86_64-unknown-linux-gnu";
     assert!(is_built, "no library for {target} in the crate: install libsfv, and set SFV_SYSTEM=1");
     println!("cargo:rerun-if-changed={}", native.display());
     println!("cargo:rustc-link-search=native={}", native.display());
