@@ -42,7 +42,8 @@ impl<'r, 'a> Collector<'r, 'a> {
     }
 
     /// Counts a row, and writes it if the buffer has a place for it.
-    #[inline(always)]
+    // By a hint only: the compiler stops inlining where `receive` is large.
+    #[inline]
     #[tactic(auto, using(crate::proofs::Kept::row_kept))]
     fn put(&mut self, row: Row<'a>)
         ensures { IsRowKept self.old (row_parts row.entry) 0 self.new }

@@ -50,7 +50,7 @@ impl<'de> Cursor<'de> {
     }
 
     /// Parses a boolean as a bare item.
-    #[inline(never)]
+    #[inline(always)]
     fn boolean_item(&mut self) -> Result<BareItemFromInput<'de>, Error>
         requires { NextIs (byte question_mark) true (rest self.old) }
         ensures read { Reads input_value self.old self.new result (bare_at (version self.old)) }
@@ -62,7 +62,7 @@ impl<'de> Cursor<'de> {
     }
 
     /// Parses a string as a bare item.
-    #[inline(never)]
+    #[inline(always)]
     #[tactic(auto, using(crate::proofs::trees::Needs::quote_next))]
     fn string_item(&mut self) -> Result<BareItemFromInput<'de>, Error>
         requires { NextIs (byte double_quote) true (rest self.old) }
@@ -119,6 +119,41 @@ impl<'de> Cursor<'de> {
         }
     }
 
+    /// Parses a byte sequence as a bare item, by a call.
+    #[inline(always)]
+    fn byte_sequence_item_by_call(&mut self) -> Result<BareItemFromInput<'de>, Error>
+        requires { NextIs (byte colon) true (rest self.old) }
+        ensures read { ReadsOrOutOfMemory input_value self.old self.new result (bare_at (version self.old)) }
+        ensures borrowed { IfOk result (λ item. IsBorrowedUnlessEscaped item self.old self.new) }
+        ensures memory { IfOk result (λ item. IsTrue (is_borrowed item) → MayNeedMemory item_field (input self.old)) }
+        ensures out_of_memory { IfErr result (λ e. e ≡ out_of_memory → MayAllocate (rest self.old)) }
+    {
+        self.byte_sequence_item()
+    }
+
+    /// Parses a date as a bare item, by a call.
+    #[inline(always)]
+    fn date_item_by_call(&mut self) -> Result<BareItemFromInput<'de>, Error>
+        requires { NextIs (byte at_sign) true (rest self.old) }
+        ensures read { Reads input_value self.old self.new result (bare_at (version self.old)) }
+        ensures borrowed { IfOk result (λ item. IsBorrowedUnlessEscaped item self.old self.new) }
+        ensures memory { IfOk result (λ item. IsTrue (is_borrowed item) → MayNeedMemory item_field (input self.old)) }
+    {
+        self.date_item()
+    }
+
+    /// Parses a display string as a bare item, by a call.
+    #[inline(always)]
+    fn display_string_item_by_call(&mut self) -> Result<BareItemFromInput<'de>, Error>
+        requires { NextIs (byte percent_sign) true (rest self.old) }
+        ensures read { ReadsOrOutOfMemory input_value self.old self.new result (bare_at (version self.old)) }
+        ensures borrowed { IfOk result (λ item. IsBorrowedUnlessEscaped item self.old self.new) }
+        ensures memory { IfOk result (λ item. IsTrue (is_borrowed item) → MayNeedMemory item_field (input self.old)) }
+        ensures out_of_memory { IfErr result (λ e. e ≡ out_of_memory → MayAllocate (rest self.old)) }
+    {
+        self.display_string_item()
+    }
+
     /// Parses an integer or a decimal as a bare item.
     #[inline(always)]
     fn number_item(&mut self) -> Result<BareItemFromInput<'de>, Error>
@@ -134,7 +169,7 @@ impl<'de> Cursor<'de> {
     }
 
     /// Parses a token as a bare item, or fails if no bare item begins here.
-    #[inline(never)]
+    #[inline(always)]
     fn token_item(&mut self) -> Result<BareItemFromInput<'de>, Error>
         requires { bare_at (version self.old) (rest self.old) ≡ token_at (rest self.old) }
         ensures read { Reads input_value self.old self.new result (bare_at (version self.old)) }
@@ -162,8 +197,8 @@ impl<'de> Cursor<'de> {
         ensures memory { IfOk result (λ item. IsTrue (is_borrowed item) → MayNeedMemory item_field (input self.old)) }
         ensures out_of_memory { IfErr result (λ e. e ≡ out_of_memory → MayAllocate (rest self.old)) }
     {
-        // Each kind except a number is parsed in its own function, so a call reserves stack only for the kind it
-        // parses.
+        // Rare kinds are parsed by calls. A function clears the room for the result of a call when it begins. So each
+        // call is made by a function that is inlined at its branch, and the other branches clear nothing.
         if self.next_is_number_start() {
             return self.number_item();
         }
@@ -174,13 +209,13 @@ impl<'de> Cursor<'de> {
             return self.boolean_item();
         }
         if self.next_is(b':') {
-            return self.byte_sequence_item();
+            return self.byte_sequence_item_by_call();
         }
         if self.next_is(b'@') {
-            return self.date_item();
+            return self.date_item_by_call();
         }
         if self.next_is(b'%') {
-            return self.display_string_item();
+            return self.display_string_item_by_call();
         }
         self.token_item()
     }

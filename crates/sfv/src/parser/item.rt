@@ -74,6 +74,21 @@ impl<'de> Cursor<'de> {
         visit(visitor, Event::ParametersEnd)
     }
 
+    /// Parses parameters, as `visit_parameters` does, by a call.
+    // Inlined at the branch of a semicolon: the other branch then clears no room for the result of the call.
+    #[inline(always)]
+    fn visit_parameters_by_call<V: Visitor<'de>>(
+        &mut self,
+        visitor: &mut V,
+    ) -> Result<(), ParseError<V::Error>>
+        requires { V.is_ready visitor.old }
+        ensures ready { OnOk result (V.is_ready visitor.new) }
+        ensures visited { VisitsAsRead V.Visitor parameters_events
+            self.old self.new visitor.old visitor.new result parameters_at }
+    {
+        self.visit_parameters(visitor)
+    }
+
     /// Parses any number of parameters, and passes each of them and their end to `visitor`.
     #[inline(always)]
     pub(crate) fn parameters<V: Visitor<'de>>(
@@ -89,7 +104,7 @@ impl<'de> Cursor<'de> {
         if !self.next_is(b';') {
             return visit(visitor, Event::ParametersEnd);
         }
-        self.visit_parameters(visitor)
+        self.visit_parameters_by_call(visitor)
     }
 
     /// Parses an item, and passes its parts to `visitor`.

@@ -82,6 +82,20 @@ impl<'de> Cursor<'de> {
         self.parameters(visitor)
     }
 
+    /// Parses an inner list, as `inner_list` does, by a call.
+    // Inlined at the branch of a parenthesis: the other branch then clears no room for the result of the call.
+    #[inline(always)]
+    fn inner_list_by_call<V: Visitor<'de>>(
+        &mut self,
+        visitor: &mut V,
+    ) -> Result<(), ParseError<V::Error>>
+        requires { V.is_ready visitor.old }
+        ensures ready { OnOk result (V.is_ready visitor.new) }
+        ensures visited { VisitsAsRead V.Visitor after_begin self.old self.new visitor.old visitor.new result inner_at }
+    {
+        self.inner_list(visitor)
+    }
+
     /// Parses an item or an inner list, and passes its parts to `visitor`.
     #[inline(always)]
     pub(crate) fn member<V: Visitor<'de>>(
@@ -95,7 +109,7 @@ impl<'de> Cursor<'de> {
     {
         if self.take_if(b'(') {
             visit(visitor, Event::InnerList)?;
-            return self.inner_list(visitor);
+            return self.inner_list_by_call(visitor);
         }
         visit(visitor, Event::Item)?;
         self.item(visitor)

@@ -185,7 +185,19 @@ impl<'de> Cursor<'de> {
         Ok(bytes)
     }
 
+    /// Parses the rest of a quoted text, as `unescape_rest` does, by a call.
+    // Inlined at the branch of an escape: the other branches then clear no room for the result of the call.
+    #[inline(always)]
+    fn unescape_rest_by_call<Q: QuotedText>(&mut self, plain: &[u8]) -> Result<Vec<u8>, Error>
+        requires { HoldsMark (input self.old) }
+        ensures { ReadsOrOutOfMemory vec_bytes self.old self.new result
+            (λ t. after_bytes plain.now (inside Q.display t)) }
+    {
+        self.unescape_rest::<Q>(plain)
+    }
+
     /// Parses a quoted text after its opening quote, with the closing quote.
+    #[inline(always)]
     pub(super) fn quoted_text<Q: QuotedText>(&mut self) -> Result<QuotedBytes<'de>, Error>
         ensures read { ReadsOrOutOfMemory quoted_bytes self.old self.new result (inside Q.display) }
         ensures each { IfOk result (λ text. IsTrue (is_plain text) → RunOf (plain_of Q.display) (quoted_bytes text)) }
@@ -199,7 +211,7 @@ impl<'de> Cursor<'de> {
         if !self.next_is(Q::mark()) {
             return Err(self.end_error::<Q>());
         }
-        let bytes = self.unescape_rest::<Q>(plain)?;
+        let bytes = self.unescape_rest_by_call::<Q>(plain)?;
         Ok(QuotedBytes::Unescaped(bytes))
     }
 }

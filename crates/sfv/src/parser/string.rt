@@ -19,6 +19,7 @@ use std::string::String as StdString;
 impl<'de> Cursor<'de> {
     /// Parses a string after its opening quote, with the closing quote. Without an escape, the result is a slice of the
     /// input.
+    #[inline(always)]
     pub(super) fn string(&mut self) -> Result<StringFromInput<'de>, Error>
         ensures read { ReadsOrOutOfMemory read_text self.old self.new result string_at }
         ensures borrowed { IfOk result (λ text. IsTrue (is_borrowed_string text) ↔ HasNoMark false self.old self.new) }

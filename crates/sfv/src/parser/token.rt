@@ -22,6 +22,7 @@ impl<'de> Cursor<'de> {
     }
 
     /// Parses a token. The error is that of a bare item.
+    #[inline(always)]
     #[tactic(auto, using(crate::proofs::reads::Steps::token_steps))]
     pub(crate) fn token(&mut self) -> Result<TokenRef<'de>, Error>
         ensures { Reads (λ t. token (text_of t)) self.old self.new result token_at }

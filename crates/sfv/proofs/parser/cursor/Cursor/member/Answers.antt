@@ -10,10 +10,10 @@ returns-in_err-visit-clause-visited g c =
 
 pub returns-then-take_if-clause-visited : goal.returns-then-take_if-clause-visited
 returns-then-take_if-clause-visited g c =
-    list_member_reads g.V.Visitor c.args.self.now c.take_if.new.self c.inner_list.new.self c.args.visitor.now
-    c.visit.new.visitor c.inner_list.new.visitor c.inner_list.result c.take_if.ensures.kept
+    list_member_reads g.V.Visitor c.args.self.now c.take_if.new.self c.inner_list_by_call.new.self c.args.visitor.now
+    c.visit.new.visitor c.inner_list_by_call.new.visitor c.inner_list_by_call.result c.take_if.ensures.kept
     c.if-take_if.ensures.takes c.in_ok-visit.ensures.taken c.in_ok-visit.ensures.taken_read
-    c.inner_list.ensures.visited
+    c.inner_list_by_call.ensures.visited
 
 pub returns-in_err-visit-2-clause-visited : goal.returns-in_err-visit-2-clause-visited
 returns-in_err-visit-2-clause-visited g c =
