@@ -7,3 +7,4 @@ mod Joined
 mod Heads
 mod Faults
 mod Rows
+mod BrandLists

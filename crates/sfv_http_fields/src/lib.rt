@@ -8,3 +8,4 @@ pub mod priority;
 pub mod proxy_status;
 pub mod registry;
 pub mod request;
+pub mod sec_ch_ua;
