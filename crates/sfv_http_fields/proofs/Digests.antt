@@ -12,9 +12,9 @@ use Rattle.sfv_http_fields.specs.ContentDigests.{Members, sha_256_key, sha_512_k
 use Rattle.sfv_http_fields.specs.ContentDigests.{digests_in, AreDigests, HasWrongType, IsDictionary, IsContentDigest}
 use Rattle.sfv_http_fields.specs.ContentDigests.{HasDigests, IsDigestError, ReturnsDigests, digest_members}
 use Rattle.sfv_http_fields.specs.ContentDigests.{NeedsMarkFor}
-use Rattle.sfv_readers.specs.Field.{IsReadBy, NeedsMarkUnless}
-use Rattle.sfv_readers.proofs.Memory.{mark_needed}
-use Rattle.sfv_http_fields.specs.DigestSteps.{Held, held_of, held_value, HoldsDigests, HoldsWrongType, GivesDigests}
+use Rattle.sfv_readers.specs.Field.{ErrorNeedsMark}
+use Rattle.sfv_http_fields.specs.LastDigests.{Held, held_value, HoldsMembers}
+use Rattle.sfv_http_fields.specs.DigestSteps.{HoldsDigests, HoldsWrongType, GivesDigests}
 use Rattle.sfv_http_fields.specs.declared.content_digest.DigestError.TheVariants as errors
 use Rattle.sfv_http_fields.specs.declared.content_digest.reading.LastMembers.{LastMembers}
 use Rattle.sfv_http_fields.specs.declared.content_digest.ContentDigest.{ContentDigest}
@@ -78,11 +78,7 @@ module _ (text : List ℕ) (value : Members) (parsed : IsParsedAs Rfc9651 dictio
   are_read : (d : Digests) → IsContentDigest text d → AreDigests parsed.raw d
   are_read d h = rw (parsed.only h.members h.accepted) at h.holds
 
--- the text parses to a dictionary with these last members
-abbrev IsHeld : List ℕ → LastMembers → Type 0
-IsHeld text found = IsReadBy Rfc9651 dictionary_field (λ (f : LastMembers) (ms : Members). held_value f ≡ held_of ms) text found
-
-module _ (text : List ℕ) (found : LastMembers) (h : IsHeld text found) where
+module _ (text : List ℕ) (found : LastMembers) (h : HoldsMembers text found) where
   kept_are : (d : Digests) → HoldsDigests (held_value found) d → AreDigests h.0 d
   kept_are d holds = let same = subst (λ (held : Held). HoldsDigests held d) h.2 holds in
       record { sha_256 = same.0; sha_512 = same.1 }
@@ -113,8 +109,8 @@ module _ (text : List ℕ) (found : LastMembers) (h : IsHeld text found) where
       absurd (right_members h.1.raw d (are_read text h.0 h.1 d is) (wrong text h.0 h.1 (kept_wrong g.1)))
 
 -- an error of the reading
-pub error_memory : (text : List ℕ) (e : Error) → NeedsMarkUnless ⊥ text e → NeedsMarkFor text (errors.Field e)
-error_memory text e h = mark_needed text e h
+pub error_memory : (text : List ℕ) (e : Error) → ErrorNeedsMark text e → NeedsMarkFor text (errors.Field e)
+error_memory text e h = h
 
 pub ruleset reading = (digests_read, digests_failed, digests_memory, digests_returned, error_memory)
 

@@ -6,3 +6,5 @@ mod ReadBack
 mod Joined
 mod Heads
 mod Faults
+mod Rows
+mod BrandLists

@@ -1,7 +1,5 @@
 -- The results of the private functions of the Content-Digest field.
 use Rattle.std.specs.Prelude.{◌≡◌, ◌⊎◌, ℕ, List, Option, Some, None, option_map, bytes_eq, Result, MatchResult}
-use Rattle.std.specs.declared.alloc.Global.{Global}
-use Rattle.std.specs.declared.vec.Vec.{Vec}
 use Rattle.sfv.specs.Maps.{insert_entry}
 use Rattle.sfv_http_fields.specs.ContentDigests.{Members, Digests, sha_256_key, sha_512_key, last_bytes, digest_bytes}
 use Rattle.sfv_http_fields.specs.ContentDigests.{digests_in, bytes_member}
@@ -10,25 +8,11 @@ use Rattle.sfv_http_fields.specs.declared.content_digest.DigestError.{DigestErro
 use Rattle.sfv_http_fields.specs.declared.content_digest.DigestError.TheVariants as errors
 use Rattle.sfv_http_fields.specs.declared.content_digest.reading.Algorithm.{Algorithm}
 use Rattle.sfv_http_fields.specs.declared.content_digest.reading.Algorithm.TheVariants as algorithms
-use Rattle.sfv_http_fields.specs.declared.content_digest.reading.LastMembers.{LastMembers}
+use Rattle.sfv_http_fields.specs.LastDigests.{Held}
 
 abbrev pub key_of : Algorithm → List ℕ
 key_of algorithms.Sha256 = sha_256_key
 key_of algorithms.Sha512 = sha_512_key
-
--- for each algorithm, the bytes of its last member, as `last_bytes` has them
-pub record Held : Type 0 where
-  pub sha_256 : Option (Option (List ℕ))
-  pub sha_512 : Option (Option (List ℕ))
-
-abbrev pub held_of : Members → Held
-held_of members = record { sha_256 = last_bytes sha_256_key members; sha_512 = last_bytes sha_512_key members }
-
-abbrev pub held_in : Option (Option (Vec ℕ Global)) → Option (Option (List ℕ))
-held_in member = option_map digest_bytes member
-
-abbrev pub held_value : LastMembers → Held
-held_value found = record { sha_256 = held_in found.sha_256; sha_512 = held_in found.sha_512 }
 
 -- these are the bytes of the digests
 abbrev pub HoldsDigests : Held → Digests → Type 0

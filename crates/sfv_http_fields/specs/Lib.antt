@@ -2,6 +2,7 @@ pub mod AcceptCh
 pub mod CacheStatus
 pub mod CacheStatusSteps
 pub mod ContentDigests
+pub mod LastDigests
 pub mod DigestSteps
 pub mod Priority
 pub mod PrioritySteps
@@ -10,3 +11,5 @@ pub mod Kept
 pub mod Writing
 pub mod Requests
 pub mod Lines
+pub mod Registry
+pub mod SecChUa

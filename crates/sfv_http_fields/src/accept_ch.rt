@@ -2,12 +2,15 @@
 //!
 //! `HasHint` is a `ListReader` with an argument that is known at run time. Its proofs need no file.
 
-ghost use Rattle.std.specs.Prelude.{◌≡◌, IfOk, IfErr};
+ghost use Rattle.std.specs.Prelude.{◌≡◌, IfOk, IfErr, codes};
 ghost use Rattle.std.specs.List.{list_any};
 ghost use Rattle.sfv_readers.specs.Field.{list_field, IsParseError, ErrorNeedsMark};
-ghost use Rattle.sfv_http_fields.specs.AcceptCh.{is_hint, is_hint_head, IsAcceptance};
+ghost use Rattle.sfv_headers.specs.Fields.{IsReadError};
+ghost use Rattle.sfv_http_fields.specs.AcceptCh.{is_hint, is_hint_head, IsAcceptance, IsAcceptanceIn};
 
+use http_header::HeaderMap;
 use sfv::{BareItemFromInput, Error, GenericBareItem, KeyRef, OutOfMemory, Version};
+use sfv_headers::field_text;
 use sfv_readers::{IgnoredItems, ListReader, read_list};
 use std::alloc::Global;
 
@@ -63,4 +66,25 @@ pub fn accepts(alloc: Global, input: &[u8], version: Version, hint: &str) -> Res
 {
     let read = read_list(alloc, input, version, HasHint { hint, found: false })?;
     Ok(read.found)
+}
+
+/// Returns `true` if the Accept-CH field of a header map has the token `hint`, as `accepts` does. Returns `false` if the
+/// map lacks the field.
+///
+/// # Errors
+///
+/// Returns the error of `Parser::parse` if the text of `field_text` is not a list, or if memory runs out.
+pub fn accepts_in(
+    alloc: Global,
+    headers: &HeaderMap,
+    version: Version,
+    hint: &str,
+) -> Result<bool, Error>
+    ensures read { IfOk result (IsAcceptanceIn version headers.now hint.now) }
+    ensures rejected { IfErr result (IsReadError version list_field headers.now (codes "accept-ch")) }
+{
+    match field_text(alloc, headers, "accept-ch")? {
+        Some(text) => accepts(alloc, text.as_slice(), version, hint),
+        None => Ok(false),
+    }
 }

@@ -17,7 +17,7 @@ ghost use Rattle.sfv_http_fields.specs.declared.content_digest.DigestError.TheVa
 
 mod reading;
 
-pub use reading::read;
+pub use reading::{Algorithm, LastMembers, read, read_members};
 use sfv::{
     BareItem, Dictionary, Error, FieldType, Item, KeyRef, ListEntry, OutOfMemory, insert_entry,
     key_ref,

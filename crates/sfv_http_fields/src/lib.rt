@@ -6,4 +6,6 @@ pub mod cache_status;
 pub mod content_digest;
 pub mod priority;
 pub mod proxy_status;
+pub mod registry;
 pub mod request;
+pub mod sec_ch_ua;

@@ -1,12 +1,14 @@
 //! The lines of a field.
 
-ghost use Rattle.std.specs.Prelude.{◌≡◌, ◌≢◌, ◌++◌, [], length, All, IfOk, OnOk, OnErr, map, codes};
+ghost use Rattle.std.specs.Prelude.{◌≡◌, ◌≢◌, [], length, All, IfOk, OnErr, map};
 ghost use Rattle.std.specs.Str.{str_eq_ignore_ascii_case};
 ghost use Rattle.httparse.specs.Spans.{IsHeaderWithin, header_bytes};
-ghost use Rattle.sfv_http_fields.specs.Lines.{text_of_lines, next_part};
+ghost use Rattle.sfv_http_fields.specs.Lines.{text_of_lines, bytes_of};
 
 use httparse::spans::HeaderSpan;
+use sfv_headers::add_line;
 use std::alloc::{AllocError, Global};
+use std::borrow::CowSlice;
 
 // Returns `true` if the line has this name, in any case.
 fn is_named(line: &[u8], name: &str) -> bool
@@ -15,15 +17,20 @@ fn is_named(line: &[u8], name: &str) -> bool
     line.eq_ignore_ascii_case(name.as_bytes())
 }
 
-// Appends the value of a line, after a comma and a space unless it is the first.
-fn append_line(text: &mut Vec<u8>, is_first: bool, value: &[u8]) -> Result<(), AllocError>
-    ensures text { OnOk result (text.new.items ≡ text.old.items ++ next_part is_first value.now) }
-    ensures memory { OnErr result (next_part is_first value.now ≢ []) }
+// Returns the bytes of a text, or none without a text. Only bytes that are borrowed need memory.
+fn owned_bytes(alloc: Global, text: Option<CowSlice<'_, u8, Global>>) -> Result<Vec<u8>, AllocError>
+    ensures bytes { IfOk result (λ bytes. bytes.items ≡ bytes_of text.entry) }
+    ensures memory { OnErr result (bytes_of text.entry ≢ []) }
 {
-    if !is_first {
-        text.extend_from_slice(b", ")?;
+    match text {
+        None => Ok(Vec::new(alloc)),
+        Some(CowSlice::Owned(bytes)) => Ok(bytes),
+        Some(CowSlice::Borrowed(line)) => {
+            let mut bytes = Vec::new(alloc);
+            bytes.extend_from_slice(line)?;
+            Ok(bytes)
+        }
     }
-    text.extend_from_slice(value)
 }
 
 // Returns the joined values of the lines with this name. Memory can run out only if they are not empty.
@@ -38,13 +45,11 @@ pub(crate) fn joined_lines(
         text.items ≡ text_of_lines name.now (map (header_bytes input.now) headers.now)) }
     ensures memory { OnErr result (text_of_lines name.now (map (header_bytes input.now) headers.now) ≢ []) }
 {
-    let mut text = Vec::new(alloc);
-    let mut is_first = true;
+    let mut text = None;
     for header in headers {
         if is_named(header.name.of(input), name) {
-            append_line(&mut text, is_first, header.value.of(input))?;
-            is_first = false;
+            text = Some(add_line(alloc, text, header.value.of(input))?);
         }
     }
-    Ok(text)
+    owned_bytes(alloc, text)
 }

@@ -1,0 +1,11 @@
+use Rattle.std.specs.Cow.{cow_slice_items}
+use Rattle.sfv_digests.specs.Verifying.{name_of}
+use Rattle.sfv_digests.proofs.Headers.{named_text, verified_in}
+use Rattle.sfv_digests.proofs.verify_digest_in.Goals as goal
+
+pub returns-in-Some-clause-verified : goal.returns-in-Some-clause-verified
+returns-in-Some-clause-verified c = verified_in c.args.content.now c.args.headers.now (name_of c.args.field)
+    (cow_slice_items c.in-Some.text) c.verify_digest.result
+    (named_text c.args.field c.args.headers.now c.name.result.now c.in_ok-text.field-0 c.in-Some.text c.name.ensures
+    c.in_ok-text.ensures.text c.in-Some.is)
+    (rw c.as_slice.ensures.value at c.verify_digest.ensures.verified)
