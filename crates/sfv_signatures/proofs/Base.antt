@@ -1,6 +1,6 @@
 -- The signature base is unambiguous.
 use Rattle.std.proofs.Common.{◌≡◌, ℕ, List, [], ◌∷◌, ◌++◌, length, map, refl, sym, ◌∙◌, ap, subst, true, arith}
-use Rattle.std.specs.Prelude.{codes, Some}
+use Rattle.std.specs.Prelude.{codes, Ok}
 use Rattle.std.specs.List.{zip, AllByRecursion}
 use Rattle.std.proofs.lemmas.List.{append_cancel_left}
 use Rattle.std.proofs.lemmas.Bool.Decides.{nat_tests}
@@ -10,7 +10,8 @@ use Rattle.sfv_spec.specs.declared.field_kind.FieldKind.TheVariants.{List as lis
 use Rattle.sfv_spec.specs.Canonical.{item_text, inner_list_text}
 use Rattle.sfv_spec.proofs.Laws.{equal_texts_lem}
 use Rattle.sfv_signatures.specs.SignatureBase.{component_line, params_line, is_line_byte, AreComponents, OneBase}
-use Rattle.sfv_signatures.specs.SignatureBase.{OneMessage}
+use Rattle.sfv_signatures.specs.SignatureBase.{OneMessage, component_value}
+use Rattle.sfv_signatures.proofs.Rules.{base_components, base_values}
 use Rattle.sfv_spec.proofs.Printable.{run_append, run_weaker, item_printable, inner_list_printable}
 use Rattle.sfv_spec.specs.Texts.{RunOf}
 use Rattle.sfv_signatures.proofs.Lines.{Line, same_lines}
@@ -73,6 +74,7 @@ one_base_lem l m v w h k e =
 
 pub one_message_lem : OneMessage
 one_message_lem a b l m t h k =
-    let s = one_base_lem l m h.values k.values h.components k.components (sym h.text ∙ k.text) in
-    let found : map b l.items ≡ map Some k.values = subst (λ n. map b n.items ≡ map Some k.values) (sym s.0) k.found in
-    (s.0, h.found ∙ ap (map Some) s.1 ∙ sym found)
+    let s = one_base_lem l m h.values k.values (base_components a l t h) (base_components b m t k) (sym h.text ∙ k.text) in
+    let found : map (component_value b) l.items ≡ map Ok k.values =
+        subst (λ n. map (component_value b) n.items ≡ map Ok k.values) (sym s.0) (base_values b m t k) in
+    (s.0, base_values a l t h ∙ ap (map Ok) s.1 ∙ sym found)

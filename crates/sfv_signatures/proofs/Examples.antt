@@ -5,7 +5,7 @@ use Rattle.sfv_spec.specs.Values.{RawItem, RawInnerList, integer, string, inner_
 use Rattle.sfv_spec.specs.declared.field_kind.FieldKind.TheVariants.{List as list_field}
 use Rattle.sfv_spec.specs.Statements.{IsValue}
 use Rattle.sfv_spec.specs.Ordered.{last_of, collapse}
-use Rattle.sfv_signatures.specs.SignatureBase.{signature_base, AreComponents}
+use Rattle.sfv_signatures.specs.SignatureBase.{base_text, AreComponents}
 
 -- a name without parameters
 abbrev named : List ℕ → RawItem
@@ -25,7 +25,7 @@ values = codes "POST" ∷ codes "example.com" ∷ codes "/foo"
     ∷ codes "sha-512=:WZDPaVn/7XgHaAy8pmojAkGWoRx2UFChF41A2svX+TaPm+AbwAgBWnrIiYllu7BNNyealdVLvRwEmTHWXvJwew==:"
     ∷ codes "18" ∷ codes "application/json" ∷ []
 
-base_is_written : signature_base example values ≡ codes "\"@method\": POST\n" ++ codes "\"@authority\": example.com\n"
+base_is_written : base_text example values ≡ codes "\"@method\": POST\n" ++ codes "\"@authority\": example.com\n"
     ++ codes "\"@path\": /foo\n"
     ++ codes "\"content-digest\": sha-512=:WZDPaVn/7XgHaAy8pmojAkGWoRx2UFChF41A2svX+TaPm+AbwAgBWnrIiYllu7BNNyealdVL"
     ++ codes "vRwEmTHWXvJwew==:\n" ++ codes "\"content-length\": 18\n" ++ codes "\"content-type\": application/json\n"
@@ -59,7 +59,7 @@ another_way = codes "x\n\"b\": y" ∷ codes "z" ∷ []
 -- the law without its premise on line feeds
 abbrev WithLineFeeds : Type 0
 WithLineFeeds = (l : RawInnerList) (v w : List (List ℕ)) → IsValue list_field (inner_list l ∷ [])
-    → length v ≡ length l.items → length w ≡ length l.items → signature_base l v ≡ signature_base l w → v ≡ w
+    → length v ≡ length l.items → length w ≡ length l.items → base_text l v ≡ base_text l w → v ≡ w
 
 -- is false: with line feeds in values, one text is the base of different values
 ambiguous_with_line_feeds : ¬ WithLineFeeds

@@ -1,3 +1,4 @@
 pub mod Lines
+pub mod Rules
 pub mod Base
 mod Examples

@@ -1,16 +1,7 @@
-//! The signature base of HTTP Message Signatures (RFC 9421, section 2.5), and the law that it is unambiguous.
+//! HTTP Message Signatures (RFC 9421): the signature base, and the law that it is unambiguous.
 #![tactic(auto)]
 
-ghost use Rattle.sfv_signatures.specs.SignatureBase.{OneBase, OneMessage};
+mod base_error;
+pub mod laws;
 
-/// Two signature bases are the same text only if their inner lists are equal, in order and with all parameters, and
-/// each component has the same value in both.
-pub fn one_base()
-    ensures { OneBase }
-{}
-
-/// If two messages have the same signature base, their inner lists are equal, and each component has the same value in
-/// both messages.
-pub fn one_message()
-    ensures { OneMessage }
-{}
+pub use base_error::{BaseError, BaseErrorKind};

@@ -1,4 +1,4 @@
-use Rattle.sfv_signatures.proofs.one_message.Goals as goal
+use Rattle.sfv_signatures.proofs.laws.one_message.Goals as goal
 use Rattle.sfv_signatures.proofs.Base.{one_message_lem}
 
 pub returns : goal.returns

@@ -1,4 +1,4 @@
-use Rattle.sfv_signatures.proofs.one_base.Goals as goal
+use Rattle.sfv_signatures.proofs.laws.one_base.Goals as goal
 use Rattle.sfv_signatures.proofs.Base.{one_base_lem}
 
 pub returns : goal.returns
