@@ -1,19 +1,19 @@
 -- The signature base is unambiguous.
 use Rattle.std.proofs.Common.{◌≡◌, ℕ, List, [], ◌∷◌, ◌++◌, length, map, refl, sym, ◌∙◌, ap, subst, true, arith}
-use Rattle.std.specs.Prelude.{codes, Ok}
+use Rattle.std.specs.Prelude.{codes}
 use Rattle.std.specs.List.{zip, AllByRecursion}
 use Rattle.std.proofs.lemmas.List.{append_cancel_left}
 use Rattle.std.proofs.lemmas.Bool.Decides.{nat_tests}
-use Rattle.sfv_spec.specs.Values.{RawItem, RawInnerList, inner_list, IsItem}
-use Rattle.sfv_spec.specs.Classes.{is_string_byte}
-use Rattle.sfv_spec.specs.declared.field_kind.FieldKind.TheVariants.{List as list_field}
-use Rattle.sfv_spec.specs.Canonical.{item_text, inner_list_text}
-use Rattle.sfv_spec.proofs.Laws.{equal_texts_lem}
+use Rattle.sfv.specs.Values.{RawItem, RawInnerList, inner_list, IsItem}
+use Rattle.sfv.specs.Classes.{is_string_byte}
+use Rattle.sfv.specs.Types.{list_field}
+use Rattle.sfv.specs.Canonical.{item_text, inner_list_text}
+use Rattle.sfv.proofs.Callers.{equal_texts_lem}
 use Rattle.sfv_signatures.specs.SignatureBase.{component_line, params_line, is_line_byte, AreComponents, OneBase}
-use Rattle.sfv_signatures.specs.SignatureBase.{OneMessage, component_value}
-use Rattle.sfv_signatures.proofs.Rules.{base_components, base_values}
-use Rattle.sfv_spec.proofs.Printable.{run_append, run_weaker, item_printable, inner_list_printable}
-use Rattle.sfv_spec.specs.Texts.{RunOf}
+use Rattle.sfv_signatures.specs.SignatureBase.{Message, OneMessage, HaveValues}
+use Rattle.sfv_signatures.proofs.Rules.{base_components}
+use Rattle.sfv.proofs.Callers.{run_append, run_weaker, item_printable, inner_list_printable}
+use Rattle.sfv.specs.Texts.{RunOf}
 use Rattle.sfv_signatures.proofs.Lines.{Line, same_lines}
 
 printable_line : (c : ℕ) → is_string_byte c ≡ true → is_line_byte c ≡ true
@@ -72,9 +72,7 @@ one_base_lem l m v w h k e =
           (subst (λ n. map component_line (zip l.items v) ≡ map component_line (zip n.items w)) (sym lists) s.0),
     )
 
-pub one_message_lem : OneMessage
+pub one_message_lem : (a b : Message) → OneMessage a b
 one_message_lem a b l m t h k =
     let s = one_base_lem l m h.values k.values (base_components a l t h) (base_components b m t k) (sym h.text ∙ k.text) in
-    let found : map (component_value b) l.items ≡ map Ok k.values =
-        subst (λ n. map (component_value b) n.items ≡ map Ok k.values) (sym s.0) (base_values b m t k) in
-    (s.0, base_values a l t h ∙ ap (map Ok) s.1 ∙ sym found)
+    (s.0, (h.values, h.found, subst (λ v. HaveValues b [] m.items v) (sym s.1) k.found))

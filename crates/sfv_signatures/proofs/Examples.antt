@@ -1,10 +1,10 @@
 -- What the definitions say of one message, and of values with line feeds.
 use Rattle.std.proofs.Common.{◌≡◌, ℕ, List, [], ◌∷◌, ◌++◌, length, refl, pos, codes, lit<}
 use Rattle.std.specs.Fmt.{digits}
-use Rattle.sfv_spec.specs.Values.{RawItem, RawInnerList, integer, string, inner_list}
-use Rattle.sfv_spec.specs.declared.field_kind.FieldKind.TheVariants.{List as list_field}
-use Rattle.sfv_spec.specs.Statements.{IsValue}
-use Rattle.sfv_spec.specs.Ordered.{last_of, collapse}
+use Rattle.sfv.specs.Values.{RawItem, RawInnerList, integer, string, inner_list}
+use Rattle.sfv.specs.Types.{list_field}
+use Rattle.sfv.specs.Statements.{IsValue}
+use Rattle.sfv.specs.Ordered.{last_of, collapse}
 use Rattle.sfv_signatures.specs.SignatureBase.{base_text, AreComponents}
 
 -- a name without parameters

@@ -1,14 +1,14 @@
 -- The signature base (RFC 9421, section 2.5).
-use Rattle.std.specs.Prelude.{◌≡◌, ℕ, ◌<◌, List, [], ◌∷◌, ◌++◌, ◌⊎◌, ⊤, length, map, flat_map, Bool, not, ◌==◌, ◌||◌}
-use Rattle.std.specs.Prelude.{codes, Any, bytes_eq, if◌then◌else◌, nat_lt, Result, Ok, Err}
+use Rattle.std.specs.Prelude.{◌≡◌, ◌≢◌, ℕ, List, [], ◌∷◌, ◌++◌, ◌⊎◌, ⊤, length, map, flat_map, Bool, not, ◌==◌, ◌||◌}
+use Rattle.std.specs.Prelude.{codes, Any, bytes_eq, if◌then◌else◌, nat_lt, Result, Ok, Err, Some}
 use Rattle.std.specs.List.{zip, list_any, list_all, AllByRecursion}
-use Rattle.sfv_spec.specs.Ascii.{byte}
-use Rattle.sfv_spec.specs.Texts.{RunOf}
-use Rattle.sfv_spec.specs.Values.{BareValue, string, RawParameters, RawItem, RawInnerList, inner_list}
-use Rattle.sfv_spec.specs.declared.field_kind.FieldKind.TheVariants.{List as list_field}
-use Rattle.sfv_spec.specs.Ordered.{last_of}
-use Rattle.sfv_spec.specs.Canonical.{item_text, inner_list_text}
-use Rattle.sfv_spec.specs.Statements.{IsValue}
+use Rattle.sfv.specs.Ascii.{byte}
+use Rattle.sfv.specs.Texts.{RunOf}
+use Rattle.sfv.specs.Values.{BareValue, string, RawParameters, RawItem, RawInnerList, inner_list}
+use Rattle.sfv.specs.Types.{list_field}
+use Rattle.sfv.specs.Ordered.{last_of}
+use Rattle.sfv.specs.Canonical.{item_text, inner_list_text}
+use Rattle.sfv.specs.Statements.{IsValue}
 use Rattle.sfv_signatures.specs.declared.base_error.BaseErrorKind.{BaseErrorKind}
 use Rattle.sfv_signatures.specs.declared.base_error.BaseErrorKind.TheVariants as kinds
 
@@ -29,9 +29,10 @@ base_text l values = flat_map (λ c. component_line c ++ codes "\n") (zip l.item
 
 -- ---- the rules
 
--- A message, as its components: for a name and parameters, the value, or the rule that the identifier breaks.
-abbrev pub Message : Type 0
-Message = List ℕ → RawParameters → Result (List ℕ) BaseErrorKind
+-- A message, as its components. `message name parameters r`: r is the value of the component with this name and these
+-- parameters, or the rule that its identifier breaks.
+abbrev pub Message : Type 1
+Message = List ℕ → RawParameters → Result (List ℕ) BaseErrorKind → Type 0
 
 -- c is a line feed or a carriage return
 abbrev pub is_line_break : ℕ → Bool
@@ -41,33 +42,40 @@ is_line_break c = c == byte "\n" || c == byte "\r"
 abbrev pub checked : Result (List ℕ) BaseErrorKind → Result (List ℕ) BaseErrorKind
 checked (Err kind) = Err kind
 checked (Ok value) =
-    if list_any is_line_break value then Err kinds.LineBreak
-    else if list_all (λ c. nat_lt c 128) value then Ok value
+    if list_all (λ c. nat_lt c 128) value then (if list_any is_line_break value then Err kinds.LineBreak else Ok value)
     else Err kinds.NotAscii
 
--- the value of a component with these parameters, or the rule that its identifier breaks: it is a string, and not
--- `@signature-params`
-abbrev pub named_value : Message → RawParameters → BareValue → Result (List ℕ) BaseErrorKind
-named_value message parameters (string name) =
-    if bytes_eq name (codes "@signature-params") then Err kinds.SignatureParams else checked (message name parameters)
-named_value message parameters other = Err kinds.NotAString
+-- r is the checked value, or the rule
+abbrev pub IsChecked : (Result (List ℕ) BaseErrorKind → Type 0) → Result (List ℕ) BaseErrorKind → Type 0
+IsChecked Gives r = (given : Result (List ℕ) BaseErrorKind) × Gives given × (r ≡ checked given)
 
--- the value of the component that the identifier names, or the rule that it breaks
-abbrev pub component_value : Message → RawItem → Result (List ℕ) BaseErrorKind
-component_value message i = named_value message i.parameters i.bare
+-- r is the value of the component that an identifier names, or the rule that it breaks: an identifier is a string, and
+-- not `@signature-params`
+abbrev pub GivesFor : Message → RawParameters → BareValue → Result (List ℕ) BaseErrorKind → Type 0
+GivesFor message parameters (string name) r = ((name ≡ codes "@signature-params") × (r ≡ Err kinds.SignatureParams))
+    ⊎ ((name ≢ codes "@signature-params") × IsChecked (message name parameters) r)
+GivesFor message parameters other r = r ≡ Err kinds.NotAString
+
+-- the same for an identifier with its parameters
+abbrev pub Gives : Message → RawItem → Result (List ℕ) BaseErrorKind → Type 0
+Gives message i r = GivesFor message i.parameters i.bare r
+
+-- each of these parameters is among the others, with the same value
+abbrev pub AreWithin : RawParameters → RawParameters → Type 0
+AreWithin parameters others = AllByRecursion (λ p. last_of p.0 others ≡ Some p.1) parameters
 
 -- two identifiers are the same: their names are equal, and so are their parameters, in any order (section 2)
 abbrev pub AreSame : RawItem → RawItem → Type 0
-AreSame i j = (i.bare ≡ j.bare) × ((key : List ℕ) → last_of key i.parameters ≡ last_of key j.parameters)
+AreSame i j = (i.bare ≡ j.bare) × AreWithin i.parameters j.parameters × AreWithin j.parameters i.parameters
 
 -- the identifier i, after the identifiers `before`, is new, and its component has this value
 abbrev pub HasValue : Message → List RawItem → RawItem → List ℕ → Type 0
-HasValue message before i value = (¬ Any (AreSame i) before) × (component_value message i ≡ Ok value)
+HasValue message before i value = (¬ Any (AreSame i) before) × Gives message i (Ok value)
 
 -- the identifier i, after the identifiers `before`, breaks this rule: it is one of them, or it has no value
 abbrev pub Breaks : Message → List RawItem → RawItem → BaseErrorKind → Type 0
 Breaks message before i kind = (Any (AreSame i) before × (kind ≡ kinds.Repeated))
-    ⊎ ((¬ Any (AreSame i) before) × (component_value message i ≡ Err kind))
+    ⊎ ((¬ Any (AreSame i) before) × Gives message i (Err kind))
 
 -- each identifier in order, after those before it, has its value
 abbrev pub HaveValues : Message → List RawItem → List RawItem → List (List ℕ) → Type 0
@@ -111,12 +119,18 @@ OneBase = (l m : RawInnerList) (v w : List (List ℕ)) → AreComponents l v →
     → base_text l v ≡ base_text m w → (l ≡ m) × (v ≡ w)
 
 -- if two messages have the same base, the inner lists are equal and each component has the same value in both messages
-abbrev pub OneMessage : Type 0
-OneMessage = (a b : Message) (l m : RawInnerList) (t : List ℕ) → IsBaseOf a l t → IsBaseOf b m t
-    → (l ≡ m) × (map (component_value a) l.items ≡ map (component_value b) l.items)
+abbrev pub OneMessage : Message → Message → Type 0
+OneMessage a b = (l m : RawInnerList) (t : List ℕ) → IsBaseOf a l t → IsBaseOf b m t → (l ≡ m)
+    × ((values : List (List ℕ)) × HaveValues a [] l.items values × HaveValues b [] m.items values)
 
--- a list with an identifier that breaks a rule has no base, and its first broken rule is at one index
-abbrev pub BaseOrRule : Type 0
-BaseOrRule = (message : Message) (l : RawInnerList) (kind : BaseErrorKind) (index : ℕ) → BreaksFirst message l kind index
-    → ((t : List ℕ) → ¬ IsBaseOf message l t)
+-- a message has one outcome for a component
+abbrev pub HasOneOutcome : Message → Type 0
+HasOneOutcome message = (name : List ℕ) (parameters : RawParameters) (r s : Result (List ℕ) BaseErrorKind)
+    → message name parameters r → message name parameters s → r ≡ s
+
+-- If a message has one outcome for each component, a list with an identifier that breaks a rule has no base, and its
+-- first broken rule is at one index.
+abbrev pub BaseOrRule : Message → Type 0
+BaseOrRule message = HasOneOutcome message → (l : RawInnerList) (kind : BaseErrorKind) (index : ℕ)
+    → BreaksFirst message l kind index → ((t : List ℕ) → ¬ IsBaseOf message l t)
     × ((other : BaseErrorKind) (place : ℕ) → BreaksFirst message l other place → (other ≡ kind) × (place ≡ index))
