@@ -1,6 +1,9 @@
-pub mod Lines
+pub mod Feeds
 pub mod Ascii
 pub mod Rules
+pub mod Joined
+pub mod FieldValues
+pub mod Named
 pub mod Lined
-pub mod Base
+pub mod Unambiguous
 mod Examples

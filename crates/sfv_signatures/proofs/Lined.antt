@@ -1,15 +1,16 @@
 -- The lines of the first identifiers.
 use Rattle.std.proofs.Common.{◌≡◌, ℕ, ◌+◌, ◌<◌, List, [], ◌∷◌, ◌++◌, length, map, take, drop, refl, sym, ◌∙◌, ap, subst, arith}
-use Rattle.std.proofs.Common.{append_assoc}
+use Rattle.std.proofs.Common.{append_assoc, inl, inr, ◌≤◌}
 use Rattle.std.specs.Prelude.{flat_map, codes}
 use Rattle.std.specs.List.{zip, slice_index_or}
-use Rattle.std.proofs.lemmas.List.{append-nil, take_more, map-append, take-append-drop}
+use Rattle.std.proofs.lemmas.List.{append-nil, take_more, map-append, take-append-drop, take_all, length-map, length-take-le}
 use Rattle.sfv.specs.Types.{list_field}
 use Rattle.sfv.specs.Values.{RawItem, RawInnerList, inner_list}
 use Rattle.sfv.specs.Statements.{IsValue}
 use Rattle.sfv_signatures.specs.declared.base_error.BaseErrorKind.{BaseErrorKind}
 use Rattle.sfv_signatures.specs.SignatureBase.{Message, component_line, params_line, base_text, HasValue, Breaks}
 use Rattle.sfv_signatures.specs.SignatureBase.{HaveValues, IsBaseOf, BreaksFirst}
+use Rattle.sfv_signatures.specs.Components.{UnlessMemory}
 use Rattle.sfv_signatures.proofs.Rules.{values_snoc, values_counted}
 
 -- a line with its line feed
@@ -79,3 +80,36 @@ module _ {A B : Type 0} (f : A → B) where
   map_take_at xs n x h e = ap (map f) (sym (take-append-drop (n + 1) xs)) ∙ map-append f (take (n + 1) xs) (drop (n + 1) xs)
       ∙ ap (λ ys. ys ++ map f (drop (n + 1) xs)) (map_take_more xs n x h e)
       ∙ append_assoc (map f (take n xs)) (f x ∷ []) (map f (drop (n + 1) xs))
+
+-- ---- the steps of the loop: the list xs is seen as ys and as zs
+
+module _ {A : Type 0} (f : A → RawItem) (message : Message) (xs ys zs : List A) (d : ys ≡ xs) (e : zs ≡ xs) (n : ℕ) (x : A)
+    (h : n < length ys) (k : x ≡ slice_index_or ys n x) (t : List ℕ) (lines : HasLines message (map f (take n xs)) t) where
+  within : n < length xs
+  within = subst (λ (s : List A). n < length s) d h
+
+  here : slice_index_or xs n x ≡ x
+  here = subst (λ (s : List A). slice_index_or s n x ≡ x) d (sym k)
+
+  pub step_more : (u v : List ℕ) → HasValue message (map f (take n zs)) (f x) v
+      → u ≡ t ++ (component_line (f x, v) ++ codes "\n") → HasLines message (map f (take (n + 1) xs)) u
+  step_more u v value text = subst (λ (is : List RawItem). HasLines message is u) (sym (map_take_more f xs n x within here))
+      (one_more message (map f (take n xs)) (f x) v t u lines
+      (subst (λ (s : List A). HasValue message (map f (take n s)) (f x) v) e value) text)
+
+  pub step_fault : (l : RawInnerList) (kind : BaseErrorKind) → l.items ≡ map f xs
+      → UnlessMemory (Breaks message (map f (take n zs)) (f x)) kind
+      → UnlessMemory (λ kind. BreaksFirst message l kind n) kind
+  step_fault l kind items (inl memory) = inl memory
+  step_fault l kind items (inr broken) = inr (lined_fault message l (map f (take n xs)) (f x) (map f (drop (n + 1) xs)) t
+      kind n lines (subst (λ (s : List A). Breaks message (map f (take n s)) (f x) kind) e broken)
+      (items ∙ map_take_at f xs n x within here) counted)
+    where
+      counted : length (map f (take n xs)) ≡ n
+      counted = length-map (take n xs) f ∙ length-take-le n xs (omega (arith, within))
+
+-- all lines
+pub all_lines : {A : Type 0} (f : A → RawItem) (message : Message) (xs ys : List A) (n : ℕ) (t : List ℕ) → ys ≡ xs
+    → length ys ≤ n → HasLines message (map f (take n xs)) t → HasLines message (map f xs) t
+all_lines {A} f message xs ys n t e h lines = subst (λ (s : List A). HasLines message (map f s) t)
+    (take_all n xs (subst (λ (s : List A). length s ≤ n) e h)) lines

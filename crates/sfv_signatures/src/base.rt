@@ -1,6 +1,6 @@
 //! The signature base (RFC 9421, section 2.5).
 
-ghost use Rattle.std.specs.Prelude.{◌≡◌, ◌++◌, IfOk, IfErr, OnOk, MatchResult, Ok, Err, IsTrue, Any, map, string_bytes};
+ghost use Rattle.std.specs.Prelude.{◌≡◌, ◌++◌, ◌∷◌, [], IfOk, IfErr, OnOk, MatchResult, Ok, Err, IsTrue, Any, map, string_bytes};
 ghost use Rattle.std.specs.Prelude.{codes};
 ghost use Rattle.std.specs.List.{list_any};
 ghost use Rattle.sfv.specs.Canonical.{item_text};
@@ -86,13 +86,14 @@ fn append_line<M: Components>(
     let Some(name) = identifier.bare_item.as_string() else {
         return Err(BaseErrorKind::NotAString);
     };
-    if name.as_str() == "@signature-params" {
+    let name = name.as_str();
+    if name == "@signature-params" {
         return Err(BaseErrorKind::SignatureParams);
     }
     append_identifier(identifier, base)?;
     base.push_str(": ")?;
-    append_checked(alloc, message, name.as_str(), &identifier.params, base)?;
-    base.push('\n')?;
+    append_checked(alloc, message, name, &identifier.params, base)?;
+    base.push_str("\n")?;
     Ok(())
 }
 

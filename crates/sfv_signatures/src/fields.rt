@@ -86,7 +86,7 @@ fn append_form(
     fields: &HeaderMap,
     base: &mut String,
 ) -> Result<(), BaseErrorKind>
-    ensures { AppendsValue (FormGives kind (form_value form)
+    ensures { AppendsValue (FormGives kind (form_value form.entry)
         (map (λ v. v.bytes) (get_all fields.now (lowercase name.now)))) (string_bytes base.old) (string_bytes base.new) result }
 {
     match form {
@@ -131,7 +131,7 @@ pub(crate) fn append_field(
     section: Option<&HeaderMap>,
     base: &mut String,
 ) -> Result<(), BaseErrorKind>
-    ensures { AppendsValue (LinesGive kind (form_of (pairs_tree params.now.entries)) (lines_from name.now section))
+    ensures { AppendsValue (LinesGive kind (form_of (pairs_tree params.now.entries)) (lines_from name.now section.entry))
         (string_bytes base.old) (string_bytes base.new) result }
 {
     let form = form_of(params)?;

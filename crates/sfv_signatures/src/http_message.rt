@@ -44,14 +44,15 @@ fn only<'a>(rows: &'a [(&'a str, &'a str)], name: &str) -> Option<&'a str>
     ensures { option_map (λ text. text.now) result ≡ only rows.entry name.now }
 {
     let mut found = None;
-    let mut count = 0;
     for (row, text) in rows {
         if *row == name {
+            if found.is_some() {
+                return None;
+            }
             found = Some(*text);
-            count += 1;
         }
     }
-    if count == 1 { found } else { None }
+    found
 }
 
 // Returns `true` if the name is that of a derived component.

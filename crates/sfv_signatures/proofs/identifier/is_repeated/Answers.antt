@@ -1,4 +1,5 @@
-use Rattle.std.proofs.Common.{◌≡◌, ℕ, refl}
+use Rattle.std.proofs.Common.{refl, sym, arith}
+use Rattle.std.proofs.lemmas.Bool.{false≢true}
 use Rattle.sfv.specs.Trees.{item_tree}
 use Rattle.sfv_signatures.specs.SignatureBase.{AreSame}
 use Rattle.sfv.proofs.Callers.{Any-map, Any-from_map}
@@ -10,7 +11,7 @@ returns-then-is_same c = (
     c.loop-other.other-index,
     c.other-item.result,
     c.loop-other-test.true,
-    ?,
+    sym c.other-item.is,
     c.is_same.ensures.0 c.if-is_same.true,
   ),
   λ _. refl,
@@ -18,7 +19,7 @@ returns-then-is_same c = (
 
 pub returns : goal.returns
 returns c = (
-  λ e. absurd (?),
+  λ e. absurd (false≢true e),
   λ h. let some = Any-from_map (AreSame (item_tree c.args.identifier.now)) item_tree c.args.before.now h in
-      absurd (c.loop-other.invariant some.0 some.1 ? some.3 some.4),
+      absurd (c.loop-other.invariant some.0 some.1 (omega (arith, some.2)) some.3 some.4),
 )
