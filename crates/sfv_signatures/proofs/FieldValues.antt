@@ -1,5 +1,5 @@
 -- The values of fields that parse, or do not.
-use Rattle.std.proofs.Common.{◌≡◌, ℕ, List, [], ◌∷◌, ◌++◌, Bool, true, false, refl, sym, ◌∙◌, ap, subst, inl, inr, arith, length}
+use Rattle.std.proofs.Common.{◌≡◌, ℕ, ◌<◌, List, [], ◌∷◌, ◌++◌, Bool, true, false, refl, sym, ◌∙◌, ap, subst, inl, inr, arith, length}
 use Rattle.std.specs.Prelude.{nat_lt, not, position, Option, Some, None, Result, Ok, Err, IsTrue, IsUtf8, option_map, ok_or}
 use Rattle.std.specs.List.{list_all, position_or_len, AllByRecursion}
 use Rattle.std.proofs.lemmas.Bool.Decides.{nat_tests}
@@ -93,7 +93,7 @@ none_outside : (inner : ℕ → Bool) (cs : List ℕ) → list_all inner cs ≡ 
     → position_or_len (λ b. not (inner b)) cs ≡ length cs
 none_outside inner [] h = refl
 none_outside inner (c ∷ cs) h = let p = and_parts (inner c) (list_all inner cs) h in
-    rw (p.0, none_outside inner cs p.1) refl
+    rw p.0 (omega (arith, none_outside inner cs p.1))
 
 not_below : (n : ℕ) → nat_lt n n ≡ false
 not_below n = grind (arith, nat_tests)

@@ -75,4 +75,5 @@ one_base_lem l m v w h k e =
 pub one_message_lem : (a b : Message) → OneMessage a b
 one_message_lem a b l m t h k =
     let s = one_base_lem l m h.values k.values (base_components a l t h) (base_components b m t k) (sym h.text ∙ k.text) in
-    (s.0, (h.values, h.found, subst (λ v. HaveValues b [] m.items v) (sym s.1) k.found))
+    let found : HaveValues b [] l.items k.values = subst (λ (n : RawInnerList). HaveValues b [] n.items k.values) (sym s.0) k.found in
+    (s.0, (h.values, h.found, subst (λ v. HaveValues b [] l.items v) (sym s.1) found))

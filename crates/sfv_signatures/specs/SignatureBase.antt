@@ -118,10 +118,13 @@ abbrev pub OneBase : Type 0
 OneBase = (l m : RawInnerList) (v w : List (List ℕ)) → AreComponents l v → AreComponents m w
     → base_text l v ≡ base_text m w → (l ≡ m) × (v ≡ w)
 
--- if two messages have the same base, the inner lists are equal and each component has the same value in both messages
+-- each component of the list has the same value in both messages
+abbrev pub AgreeOn : Message → Message → RawInnerList → Type 0
+AgreeOn a b l = (values : List (List ℕ)) × HaveValues a [] l.items values × HaveValues b [] l.items values
+
+-- if two messages have the same base, the inner lists are equal, and each component has the same value in both messages
 abbrev pub OneMessage : Message → Message → Type 0
-OneMessage a b = (l m : RawInnerList) (t : List ℕ) → IsBaseOf a l t → IsBaseOf b m t → (l ≡ m)
-    × ((values : List (List ℕ)) × HaveValues a [] l.items values × HaveValues b [] m.items values)
+OneMessage a b = (l m : RawInnerList) (t : List ℕ) → IsBaseOf a l t → IsBaseOf b m t → (l ≡ m) × AgreeOn a b l
 
 -- a message has one outcome for a component
 abbrev pub HasOneOutcome : Message → Type 0

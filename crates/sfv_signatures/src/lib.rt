@@ -10,8 +10,10 @@ mod identifier;
 pub mod laws;
 mod lines;
 mod parameters;
+mod same_base;
 
 pub use base::signature_base;
 pub use base_error::{BaseError, BaseErrorKind};
 pub use components::Components;
+pub use same_base::have_same_base;
 pub use http_message::{HttpMessage, MessagePart};

@@ -1,6 +1,7 @@
 use Rattle.std.specs.Prelude.{Ok}
 use Rattle.sfv.specs.Canonical.{canonical}
 use Rattle.sfv.specs.Types.{Rfc9651}
+use Rattle.sfv.specs.Parsers.{IsParseError}
 use Rattle.sfv_signatures.specs.declared.base_error.BaseErrorKind.{BaseErrorKind}
 use Rattle.sfv_signatures.specs.Components.{UnlessMemory}
 use Rattle.sfv_signatures.specs.SignatureBase.{IsChecked}
@@ -12,6 +13,8 @@ use Rattle.sfv_signatures.proofs.fields.append_strict.Goals as goal
 pub returns-in_err-field : goal.returns-in_err-field
 returns-in_err-field g c =
     let kind = g.T.FieldType.kind in
-    on_error c.from_residual-in_err-field.result _ _ _ c.from_residual-in_err-field.ensures.1
+    let rejected : IsParseError Rfc9651 kind c.args.text.now c.in_err-field.field-0.0 =
+        rw c.new.ensures at c.in_err-field.ensures.rejected in
+    on_error c.from_residual.result _ _ _ c.from_residual.ensures.1
     (λ (e : BaseErrorKind) h. parse_failed kind (λ value. Ok (canonical kind value)) c.args.text.now
-    c.in_err-field.field-0.0 e h c.in_err-field.ensures.rejected)
+    c.in_err-field.field-0.0 e h rejected)

@@ -5,5 +5,5 @@ use Rattle.sfv_signatures.proofs.lines.without_end.Given as goal
 abbrev pub invariant-loop-end : goal.invariant-loop-end
 invariant-loop-end l = (l.end ≤ length l.text) × (without_end (take l.end l.text) ≡ without_end l.text)
 
-abbrev pub measure-loop-end : goal.measure-loop-end
-measure-loop-end l = l.end
+abbrev pub decreases-loop-end : goal.decreases-loop-end
+decreases-loop-end l = l.end

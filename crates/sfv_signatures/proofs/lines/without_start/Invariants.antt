@@ -5,5 +5,5 @@ use Rattle.sfv_signatures.proofs.lines.without_start.Given as goal
 abbrev pub invariant-loop-start : goal.invariant-loop-start
 invariant-loop-start l = (l.start ≤ length l.text) × (without_start (drop l.start l.text) ≡ without_start l.text)
 
-abbrev pub measure-loop-start : goal.measure-loop-start
-measure-loop-start l = length l.text - l.start
+abbrev pub decreases-loop-start : goal.decreases-loop-start
+decreases-loop-start l = length l.text - l.start
