@@ -1,6 +1,6 @@
 -- Lines, without the spaces and tabs at their ends, and joined.
 use Rattle.std.proofs.Common.{◌≡◌, ℕ, ◌+◌, ◌<◌, Bool, true, false, List, [], ◌∷◌, ◌++◌, length, take, drop, map, refl, sym, ◌∙◌, ap}
-use Rattle.std.proofs.Common.{append_assoc, append-nil, get_or}
+use Rattle.std.proofs.Common.{append_assoc, append-nil, get_or, ◌-◌, ◌≤◌, arith}
 use Rattle.std.specs.Prelude.{codes, if◌then◌else◌}
 use Rattle.std.proofs.lemmas.List.{take_more}
 use Rattle.sfv.specs.Texts.{joined}
@@ -25,12 +25,31 @@ end_kept (d ∷ t) c h = ap (kept_before d) (end_kept t c h) ∙ snoc_kept d t c
 
 separated : (s x : List ℕ) (xs : List (List ℕ)) → joined s (x ∷ xs) ≡ x ++ with_separators false s xs
 separated s x [] = sym (append-nil x)
-separated s x (y ∷ xs) = ap (λ (t : List ℕ). x ++ (s ++ t)) (separated s y xs) 
+separated s x (y ∷ xs) = ap (λ (t : List ℕ). (x ++ s) ++ t) (separated s y xs)
+    ∙ append_assoc x s (y ++ with_separators false s xs)
+    ∙ ap (λ (t : List ℕ). x ++ t) (sym (append_assoc s y (with_separators false s xs)))
 
 pub joined_parts : (s : List ℕ) (xs : List (List ℕ)) → joined s xs ≡ with_separators true s xs
 joined_parts s [] = refl
 joined_parts s (x ∷ xs) = separated s x xs
 
--- one more part
-pub part_more : (t s x r u : List ℕ) → t ++ (s ++ x ++ r) ≡ u → (t ++ (s ++ x)) ++ r ≡ u
-part_more t s x r u h = simp append_assoc (simp append_assoc at h)
+-- ---- steps of the loops
+
+pub end_step : (text : List ℕ) (n : ℕ) → 0 < n → n ≤ length text → is_blank (get_or text (n - 1) 0) ≡ true
+    → without_end (take (n - 1) text) ≡ without_end (take n text)
+end_step text n h k blank =
+    let more : take (n - 1 + 1) text ≡ take (n - 1) text ++ get_or text (n - 1) 0 ∷ [] = take_more text (n - 1) 0 (omega (arith, h, k)) in
+    let same : n - 1 + 1 ≡ n = omega (arith, h) in
+    sym (ap without_end (sym (ap (λ m. take m text) same) ∙ more) ∙ end_blank (take (n - 1) text) (get_or text (n - 1) 0) blank)
+
+pub end_stop : (text : List ℕ) (n : ℕ) → 0 < n → n ≤ length text → is_blank (get_or text (n - 1) 0) ≡ false
+    → take n text ≡ without_end (take n text)
+end_stop text n h k kept =
+    let more : take (n - 1 + 1) text ≡ take (n - 1) text ++ get_or text (n - 1) 0 ∷ [] = take_more text (n - 1) 0 (omega (arith, h, k)) in
+    let same : n - 1 + 1 ≡ n = omega (arith, h) in
+    let split : take n text ≡ take (n - 1) text ++ get_or text (n - 1) 0 ∷ [] = sym (ap (λ m. take m text) same) ∙ more in
+    split ∙ sym (ap without_end split ∙ end_kept (take (n - 1) text) (get_or text (n - 1) 0) kept)
+
+pub end_joined : (t u : List ℕ) (xs : List (List ℕ)) → t ++ [] ≡ u ++ with_separators true (codes ", ") xs
+    → t ≡ u ++ joined (codes ", ") xs
+end_joined t u xs h = sym (append-nil t) ∙ h ∙ ap (λ (s : List ℕ). u ++ s) (sym (joined_parts (codes ", ") xs))

@@ -3,6 +3,7 @@ pub mod Ascii
 pub mod Rules
 pub mod Joined
 pub mod FieldValues
+pub mod Dispatch
 pub mod Named
 pub mod Lined
 pub mod Unambiguous

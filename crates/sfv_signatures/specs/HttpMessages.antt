@@ -1,6 +1,6 @@
 -- The components of an HTTP message (RFC 9421, sections 2.1 to 2.4).
 use Rattle.std.specs.Prelude.{◌≡◌, ◌⊎◌, ℕ, List, [], ◌∷◌, map, Bool, true, false, ◌==◌, ◌||◌, ◌&&◌, if◌then◌else◌}
-use Rattle.std.specs.Prelude.{codes, bytes_eq, filter, Option, Some, None, is_some, option_map, Result, Ok, Err}
+use Rattle.std.specs.Prelude.{codes, bytes_eq, Option, Some, None, is_some, option_map, Result, Ok, Err}
 use Rattle.std.specs.Prelude.{option_and_then, ok_or}
 use Rattle.std.specs.Char.{is_ascii_uppercase}
 use Rattle.std.specs.List.{list_any, find}
@@ -183,13 +183,9 @@ lines_of m name ps = lines_from name (option_and_then (section_of ps) (part_of m
 abbrev pub type_of : HttpMessage → List ℕ → Option FieldKind
 type_of m name = option_map (λ row. row.1) (find (λ row. bytes_eq row.0.now name) m.types.now)
 
--- the text of the only row with this name
-abbrev pub only_row : List (Bor (List ℕ) × Bor (List ℕ)) → Option (List ℕ)
-only_row (row ∷ []) = Some row.1.now
-only_row rows = None
-
-abbrev pub only : Bor (List (Bor (List ℕ) × Bor (List ℕ))) → List ℕ → Option (List ℕ)
-only rows name = only_row (filter (λ row. bytes_eq row.0.now name) rows.now)
+-- the text of the first row with this name
+abbrev pub text_in : Bor (List (Bor (List ℕ) × Bor (List ℕ))) → List ℕ → Option (List ℕ)
+text_in rows name = option_map (λ row. row.1.now) (find (λ row. bytes_eq row.0.now name) rows.now)
 
 -- the derived components (section 2.2)
 abbrev pub derived_names : List (List ℕ)
@@ -199,7 +195,7 @@ derived_names = codes "@method" ∷ codes "@target-uri" ∷ codes "@authority" �
 -- the text that the program supplies for a derived component; for `@query-param` by the parameter `name`
 abbrev pub derived_in : List ℕ → RawParameters → MessagePart → Option (List ℕ)
 derived_in name ps part = if bytes_eq name (codes "@query-param")
-    then option_and_then (only part.query_params) (string_param (codes "name") ps) else only part.derived name
+    then option_and_then (text_in part.query_params) (string_param (codes "name") ps) else text_in part.derived name
 
 abbrev pub derived_unless : Option BaseErrorKind → Option (List ℕ) → Result (List ℕ) BaseErrorKind
 derived_unless (Some kind) text = Err kind

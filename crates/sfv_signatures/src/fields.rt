@@ -138,8 +138,11 @@ pub(crate) fn append_field(
     let Some(fields) = section else {
         return Err(BaseErrorKind::Absent);
     };
-    if has_upper_case(name) || !fields.contains_key(name) {
+    if has_upper_case(name) {
         return Err(BaseErrorKind::Absent);
     }
+    let Some(_) = fields.get(name) else {
+        return Err(BaseErrorKind::Absent);
+    };
     append_form(alloc, form, kind, name, fields, base)
 }

@@ -1,9 +1,9 @@
 //! HTTP messages, as maps of their fields and texts of their derived components.
 
-ghost use Rattle.std.specs.Prelude.{◌≡◌, option_map, option_copied, bytes_eq, string_bytes};
+ghost use Rattle.std.specs.Prelude.{◌≡◌, option_map, option_and_then, option_copied, bytes_eq, string_bytes};
 ghost use Rattle.std.specs.List.{find, list_any};
 ghost use Rattle.sfv.specs.Trees.{pairs_tree};
-ghost use Rattle.sfv_signatures.specs.HttpMessages.{HttpGives, part_of, section_of, type_of, only, derived_names};
+ghost use Rattle.sfv_signatures.specs.HttpMessages.{HttpGives, part_of, section_of, type_of, text_in, derived_names};
 ghost use Rattle.sfv_signatures.specs.HttpMessages.{derived_in, derived_value, is_derived};
 ghost use Rattle.sfv_signatures.specs.Components.{AppendsValue};
 
@@ -22,9 +22,11 @@ pub struct MessagePart<'a> {
     pub fields: &'a HeaderMap,
     /// The fields of the trailer section, if there is one.
     pub trailers: Option<&'a HeaderMap>,
-    /// The derived components, such as `("@method", "POST")` (RFC 9421, section 2.2). A name of two rows has no value.
+    /// The derived components, such as `("@method", "POST")` (RFC 9421, section 2.2). The first row of a name
+    /// counts.
     pub derived: &'a [(&'a str, &'a str)],
-    /// The values of `@query-param`, by the parameter `name` (section 2.2.8). A name of two rows has no value.
+    /// The values of `@query-param`, by the parameter `name` (section 2.2.8). The first row of a
+    /// name counts, so leave out a parameter that the query has twice.
     pub query_params: &'a [(&'a str, &'a str)],
 }
 
@@ -39,20 +41,16 @@ pub struct HttpMessage<'a> {
     pub types: &'a [(&'a str, FieldKind)],
 }
 
-// Returns the text of the only row with this name, or `None`.
-fn only<'a>(rows: &'a [(&'a str, &'a str)], name: &str) -> Option<&'a str>
-    ensures { option_map (λ text. text.now) result ≡ only rows.entry name.now }
+// Returns the text of the first row with this name, or `None`.
+fn text_of<'a>(rows: &'a [(&'a str, &'a str)], name: &str) -> Option<&'a str>
+    ensures { option_map (λ text. text.now) result ≡ text_in rows.entry name.now }
 {
-    let mut found = None;
     for (row, text) in rows {
         if *row == name {
-            if found.is_some() {
-                return None;
-            }
-            found = Some(*text);
+            return Some(*text);
         }
     }
-    found
+    None
 }
 
 // Returns `true` if the name is that of a derived component.
@@ -68,6 +66,16 @@ fn is_known(name: &str) -> bool
         || name == "@query"
         || name == "@query-param"
         || name == "@status"
+}
+
+// Returns `true` if the name begins with `@`.
+fn is_derived(name: &str) -> bool
+    ensures { result ≡ is_derived name.now }
+{
+    match name.as_bytes().first() {
+        Some(byte) => *byte == b'@',
+        None => false,
+    }
 }
 
 impl<'a> MessagePart<'a> {
@@ -88,9 +96,9 @@ impl<'a> MessagePart<'a> {
     {
         if name == "@query-param" {
             let param = string_param(params, key_ref("name"))?;
-            only(self.query_params, param.as_str())
+            text_of(self.query_params, param.as_str())
         } else {
-            only(self.derived, name)
+            text_of(self.derived, name)
         }
     }
 }
@@ -104,6 +112,17 @@ impl<'a> HttpMessage<'a> {
             self.request.as_ref()
         } else {
             Some(&self.own)
+        }
+    }
+
+    // Returns the fields that the parameters name, or `None` if the message lacks them.
+    fn section(&self, params: &Parameters) -> Option<&'a HeaderMap>
+        ensures { result ≡ option_and_then (section_of (pairs_tree params.now.entries))
+            (part_of self.now (pairs_tree params.now.entries)) }
+    {
+        match self.part(params) {
+            Some(part) => part.section(params),
+            None => None,
         }
     }
 
@@ -156,13 +175,10 @@ impl Components for HttpMessage<'_> {
         params: &Parameters,
         base: &mut String,
     ) -> Result<(), BaseErrorKind> {
-        if name.as_bytes().first() == Some(&b'@') {
+        if is_derived(name) {
             return self.append_derived(name, params, base);
         }
-        let section = match self.part(params) {
-            Some(part) => part.section(params),
-            None => None,
-        };
+        let section = self.section(params);
         append_field(alloc, self.type_of(name), name, params, section, base)
     }
 }
