@@ -36,7 +36,7 @@ same_line (c ∷ a) [] s t h k e = absurd (first_byte c a h (cc))
 same_line (c ∷ a) (d ∷ b) s t h k e =
     let rest : a ++ (codes "\n" ++ s) ≡ b ++ (codes "\n" ++ t) = cc in
     let r = same_line a b s t (and_parts (is_line_byte c) (list_all is_line_byte a) h).1
-        (and_parts (is_line_byte d) (list_all is_line_byte b) k).1 rest in
+    (and_parts (is_line_byte d) (list_all is_line_byte b) k).1 rest in
     (let same : c ≡ d = cc in cc (r.0), r.1)
 
 -- equal texts have equal lines

@@ -133,26 +133,29 @@ one_place : (message : Message) → HasOneOutcome message → (pre b c : List Ra
     (kind other : BaseErrorKind) → b ++ x ∷ a ≡ c ++ y ∷ d → HaveValues message pre b vs → HaveValues message pre c ws
     → Breaks message (pre ++ b) x kind → Breaks message (pre ++ c) y other → (kind ≡ other) × (length b ≡ length c)
 one_place message one pre [] [] x y a d vs ws kind other e h k p q =
-    let same : x ≡ y = cc in (one_rule message one (pre ++ []) x kind other p
-        (subst (λ i. Breaks message (pre ++ []) i other) (sym same) q), refl)
+    let same : x ≡ y = cc in (
+      one_rule message one (pre ++ []) x kind other p
+          (subst (λ i. Breaks message (pre ++ []) i other) (sym same) q),
+      refl,
+    )
 one_place message one pre [] (z ∷ c) x y a d vs [] kind other e h k p q = absurd k
 one_place message one pre [] (z ∷ c) x y a d vs (w ∷ ws) kind other e h k p q =
     let same : x ≡ z = cc in absurd (no_value message one pre z w kind k.0
-        (subst (λ i. Breaks message pre i kind) same (subst (λ b. Breaks message b x kind) (append-nil pre) p)))
+    (subst (λ i. Breaks message pre i kind) same (subst (λ b. Breaks message b x kind) (append-nil pre) p)))
 one_place message one pre (z ∷ b) [] x y a d [] ws kind other e h k p q = absurd h
 one_place message one pre (z ∷ b) [] x y a d (v ∷ vs) ws kind other e h k p q =
     let same : y ≡ z = cc in absurd (no_value message one pre z v other h.0
-        (subst (λ i. Breaks message pre i other) same (subst (λ b. Breaks message b y other) (append-nil pre) q)))
+    (subst (λ i. Breaks message pre i other) same (subst (λ b. Breaks message b y other) (append-nil pre) q)))
 one_place message one pre (z ∷ b) (u ∷ c) x y a d [] ws kind other e h k p q = absurd h
 one_place message one pre (z ∷ b) (u ∷ c) x y a d (v ∷ vs) [] kind other e h k p q = absurd k
 one_place message one pre (z ∷ b) (u ∷ c) x y a d (v ∷ vs) (w ∷ ws) kind other e h k p q =
     let same : z ≡ u = cc in
     let rest : b ++ x ∷ a ≡ c ++ y ∷ d = cc in
     let r = one_place message one (pre ++ z ∷ []) b c x y a d vs ws kind other rest h.1
-        (subst (λ i. HaveValues message (pre ++ i ∷ []) c ws) (sym same) k.1)
-        (subst (λ b. Breaks message b x kind) (sym (append_assoc pre (z ∷ []) b)) p)
-        (subst (λ i. Breaks message ((pre ++ i ∷ []) ++ c) y other) (sym same)
-        (subst (λ b. Breaks message b y other) (sym (append_assoc pre (u ∷ []) c)) q)) in
+    (subst (λ i. HaveValues message (pre ++ i ∷ []) c ws) (sym same) k.1)
+    (subst (λ b. Breaks message b x kind) (sym (append_assoc pre (z ∷ []) b)) p)
+    (subst (λ i. Breaks message ((pre ++ i ∷ []) ++ c) y other) (sym same)
+    (subst (λ b. Breaks message b y other) (sym (append_assoc pre (u ∷ []) c)) q)) in
     (r.0, omega (arith, r.1))
 
 pub base_or_rule_lem : (message : Message) → BaseOrRule message

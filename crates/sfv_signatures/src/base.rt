@@ -137,6 +137,9 @@ pub fn signature_base<M: Components>(
     }
     match append_params(list, &mut base) {
         Ok(()) => Ok(base),
-        Err(kind) => Err(BaseError { kind, index: list.items.len() }),
+        Err(kind) => Err(BaseError {
+            kind,
+            index: list.items.len(),
+        }),
     }
 }

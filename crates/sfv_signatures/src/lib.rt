@@ -15,5 +15,5 @@ mod same_base;
 pub use base::signature_base;
 pub use base_error::{BaseError, BaseErrorKind};
 pub use components::Components;
-pub use same_base::have_same_base;
 pub use http_message::{HttpMessage, MessagePart};
+pub use same_base::have_same_base;

@@ -63,7 +63,11 @@ fn join_line(is_first: bool, line: &[u8], text: &mut Vec<u8>) -> Result<(), Allo
 }
 
 /// Returns the lines of a field as they are, joined by a comma and a space.
-pub(crate) fn plain_text(alloc: Global, name: &str, fields: &HeaderMap) -> Result<Vec<u8>, AllocError>
+pub(crate) fn plain_text(
+    alloc: Global,
+    name: &str,
+    fields: &HeaderMap,
+) -> Result<Vec<u8>, AllocError>
     ensures { IfOk result (λ text. text.items
         ≡ plain_text (map (λ v. v.bytes) (get_all fields.now (lowercase name.now)))) }
 {

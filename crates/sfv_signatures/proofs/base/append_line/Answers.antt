@@ -17,27 +17,27 @@ returns-in_err-append_checked g c =
     let before = map item_tree c.args.before.now in
     let i = item_tree c.args.identifier.now in
     let new : Any (AreSame i) (map item_tree c.args.before.now) → ⊥ =
-        λ h. false≢true (sym c.if-is_repeated.false ∙ c.is_repeated.ensures.1 h) in
+    λ h. false≢true (sym c.if-is_repeated.false ∙ c.is_repeated.ensures.1 h) in
     let name = c.as_str-name.result.now in
     let named : i.bare ≡ string name = c.in-Some.ensures ∙ ap string (sym c.as_str-name.ensures.text) in
     let other : name ≢ codes "@signature-params" =
-        λ same. false≢true (sym c.if-eq.false ∙ c.eq.ensures ∙ (bytes_eq-Decides name (codes "@signature-params")).1 same) in
+    λ same. false≢true (sym c.if-eq.false ∙ c.eq.ensures ∙ (bytes_eq-Decides name (codes "@signature-params")).1 same) in
     let fault : UnlessMemory (Breaks message before i) c.in_err-append_checked.field-0.0 =
-        named_fault message before i name c.in_err-append_checked.field-0.0 new named other c.in_err-append_checked.ensures in
+    named_fault message before i name c.in_err-append_checked.field-0.0 new named other c.in_err-append_checked.ensures in
     on_error c.from_residual-in_err-append_checked.result _ _ (UnlessMemory (Breaks message before i))
     c.from_residual-in_err-append_checked.ensures.1
     (λ (e : BaseErrorKind) h. let same : c.in_err-append_checked.field-0.0 ≡ e = cc (h) in
-        subst (UnlessMemory (Breaks message before i)) same fault)
+    subst (UnlessMemory (Breaks message before i)) same fault)
 
 pub returns : goal.returns
 returns g c =
     let i = item_tree c.args.identifier.now in
     let new : Any (AreSame i) (map item_tree c.args.before.now) → ⊥ =
-        λ h. false≢true (sym c.if-is_repeated.false ∙ c.is_repeated.ensures.1 h) in
+    λ h. false≢true (sym c.if-is_repeated.false ∙ c.is_repeated.ensures.1 h) in
     let name = c.as_str-name.result.now in
     let named : i.bare ≡ string name = c.in-Some.ensures ∙ ap string (sym c.as_str-name.ensures.text) in
     let other : name ≢ codes "@signature-params" =
-        λ same. false≢true (sym c.if-eq.false ∙ c.eq.ensures ∙ (bytes_eq-Decides name (codes "@signature-params")).1 same) in
+    λ same. false≢true (sym c.if-eq.false ∙ c.eq.ensures ∙ (bytes_eq-Decides name (codes "@signature-params")).1 same) in
     let given = c.in_ok-append_checked.ensures in (
       given.0,
       named_value (g.M.Components.gives c.args.message.now) (map item_tree c.args.before.now) i name given.0 new named other

@@ -16,7 +16,7 @@ use Rattle.sfv_signatures.proofs.fields.append_dictionary_member.Goals as goal
 pub returns-in_err-dictionary : goal.returns-in_err-dictionary
 returns-in_err-dictionary c =
     let rejected : IsParseError Rfc9651 dictionary_field c.args.text.now c.in_err-dictionary.field-0.0 =
-        rw c.new.ensures at c.in_err-dictionary.ensures.rejected in
+    rw c.new.ensures at c.in_err-dictionary.ensures.rejected in
     on_error c.from_residual.result _ _ _ c.from_residual.ensures.1
     (λ (e : BaseErrorKind) h. parse_failed dictionary_field (member_of (text_of c.args.key)) c.args.text.now
     c.in_err-dictionary.field-0.0 e h rejected)
@@ -24,7 +24,7 @@ returns-in_err-dictionary c =
 pub returns-in_default : goal.returns-in_default
 returns-in_default c =
     let read : IsParsedAs Rfc9651 dictionary_field c.args.text.now (dictionary_tree c.in_ok-dictionary.dictionary.entries) =
-        rw c.new.ensures at c.in_ok-dictionary.ensures.read in
+    rw c.new.ensures at c.in_ok-dictionary.ensures.read in
     inr (not_a_key (text_of c.args.key) c.args.text.now (dictionary_tree c.in_ok-dictionary.dictionary.entries) read
     (λ key. invalid_key c.as_str.result.now c.in_default.field-0 c.in_default.ensures
     (subst (λ t. IsTrue (is_key t)) (sym c.as_str.ensures.text) key)))
@@ -32,7 +32,7 @@ returns-in_default c =
 pub returns-in_default-find_entry : goal.returns-in_default-find_entry
 returns-in_default-find_entry c =
     let read : IsParsedAs Rfc9651 dictionary_field c.args.text.now (dictionary_tree c.in_ok-dictionary.dictionary.entries) =
-        rw c.new.ensures at c.in_ok-dictionary.ensures.read in
+    rw c.new.ensures at c.in_ok-dictionary.ensures.read in
     let members = dictionary_tree c.in_ok-dictionary.dictionary.entries in
     inr (no_member (text_of c.args.key) c.args.text.now members read
     (subst (λ k. last_of k members ≡ None) (c.in-Ok.ensures.0 ∙ c.as_str.ensures.text)

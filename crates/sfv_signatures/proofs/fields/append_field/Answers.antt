@@ -15,8 +15,8 @@ pub returns-in_err-form : goal.returns-in_err-form
 returns-in_err-form c =
     on_error c.from_residual.result _ _ _ c.from_residual.ensures.1
     (λ (e : BaseErrorKind) h. let same : c.in_err-form.field-0.0 ≡ e = cc (h) in
-        lines_fault c.args.kind (form_of (pairs_tree c.args.params.now.entries)) (lines_from c.args.name.now c.args.section)
-        c.in_err-form.field-0.0 e c.in_err-form.ensures same)
+    lines_fault c.args.kind (form_of (pairs_tree c.args.params.now.entries)) (lines_from c.args.name.now c.args.section)
+    c.in_err-form.field-0.0 e c.in_err-form.ensures same)
 
 pub returns-in_default : goal.returns-in_default
 returns-in_default c =

@@ -9,5 +9,9 @@ use Rattle.sfv_signatures.proofs.fields.append_plain.Goals as goal
 pub returns-in_default : goal.returns-in_default
 returns-in_default c =
     let text = plain_text (map (λ v. v.bytes) (get_all c.args.fields.now (lowercase c.args.name.now))) in
-    inr (Ok text, refl, not_utf8_checked text (λ h. c.in_default.ensures.cases.0
-    (subst IsUtf8 (sym (c.as_slice.ensures.value ∙ c.in_ok-bytes.ensures)) h)))
+    inr (
+      Ok text,
+      refl,
+      not_utf8_checked text (λ h. c.in_default.ensures.cases.0
+          (subst IsUtf8 (sym (c.as_slice.ensures.value ∙ c.in_ok-bytes.ensures)) h)),
+    )

@@ -14,7 +14,7 @@ pub returns-in_err-field : goal.returns-in_err-field
 returns-in_err-field g c =
     let kind = g.T.FieldType.kind in
     let rejected : IsParseError Rfc9651 kind c.args.text.now c.in_err-field.field-0.0 =
-        rw c.new.ensures at c.in_err-field.ensures.rejected in
+    rw c.new.ensures at c.in_err-field.ensures.rejected in
     on_error c.from_residual.result _ _ _ c.from_residual.ensures.1
     (λ (e : BaseErrorKind) h. parse_failed kind (λ value. Ok (canonical kind value)) c.args.text.now
     c.in_err-field.field-0.0 e h rejected)

@@ -15,7 +15,7 @@ returns g c =
     let t = string_bytes c.in_ok-base.base in
     let u = string_bytes c.in_ok-other_base.other_base in
     let agree : IsTrue c.eq.result → (l ≡ m) × AgreeOn a b l = λ same.
-        let texts : u ≡ t = sym c.as_str-2.ensures.value ∙ sym ((bytes_eq-Decides c.as_str.result.now c.as_str-2.result.now).0
-        (sym c.eq.ensures ∙ same)) ∙ c.as_str.ensures.value in
-        one_message_lem a b l m t c.in_ok-base.ensures.base (subst (IsBaseOf b m) texts c.in_ok-other_base.ensures.base) in
+    let texts : u ≡ t = sym c.as_str-2.ensures.value ∙ sym ((bytes_eq-Decides c.as_str.result.now c.as_str-2.result.now).0
+    (sym c.eq.ensures ∙ same)) ∙ c.as_str.ensures.value in
+    one_message_lem a b l m t c.in_ok-base.ensures.base (subst (IsBaseOf b m) texts c.in_ok-other_base.ensures.base) in
     record { lists = λ same. (agree same).0; values = λ same. (agree same).1 }
