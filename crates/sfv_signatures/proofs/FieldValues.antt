@@ -1,0 +1,110 @@
+-- The values of fields that parse, or do not.
+use Rattle.std.proofs.Common.{◌≡◌, ℕ, ◌<◌, List, [], ◌∷◌, ◌++◌, Bool, true, false, refl, sym, ◌∙◌, ap, subst, inl, inr, arith, length}
+use Rattle.std.specs.Prelude.{nat_lt, not, position, Option, Some, None, Result, Ok, Err, IsTrue, IsUtf8, option_map, ok_or}
+use Rattle.std.specs.List.{list_all, position_or_len, AllByRecursion}
+use Rattle.std.proofs.lemmas.Bool.Decides.{nat_tests}
+use Rattle.std.specs.Str.{IsAscii}
+use Rattle.std.proofs.lemmas.Bool.{ltb-true, and_parts, false≢true}
+use Rattle.std.proofs.lemmas.List.Elements.{All-weaker}
+use Rattle.std.proofs.lemmas.List.Sums.{AllPass-from_list_all}
+use Rattle.std.proofs.lemmas.Str.{IsUtf8-from_ascii}
+use Rattle.std.proofs.lemmas.Str.Ascii.{IsAscii-from_all}
+use Rattle.sfv.specs.Classes.{is_key, is_key_start, is_key_inner, first_outside}
+use Rattle.sfv.specs.InvalidTexts.{IsInvalidKey}
+use Rattle.sfv.specs.Canonical.{member_text}
+use Rattle.sfv.specs.Errors.{index_of}
+use Rattle.sfv.specs.Ordered.{last_of}
+use Rattle.sfv.specs.Parsers.{IsParseError}
+use Rattle.sfv.specs.Statements.{IsParsedAs}
+use Rattle.sfv.specs.Types.{FieldKind, dictionary_field, Rfc9651, Error}
+use Rattle.sfv.specs.Values.{RawField, RawMember, IsMember}
+use Rattle.sfv.proofs.Callers.{last_of-split, IsLast, read_is_value}
+use Rattle.sfv_signatures.specs.declared.base_error.BaseErrorKind.{BaseErrorKind}
+use Rattle.sfv_signatures.specs.declared.base_error.BaseErrorKind.TheVariants as kinds
+use Rattle.sfv_signatures.specs.SignatureBase.{checked, IsChecked}
+use Rattle.sfv_signatures.specs.Components.{UnlessMemory}
+use Rattle.sfv_signatures.specs.HttpMessages.{ParsedGives, member_of}
+use Rattle.sfv_signatures.specs.ParseFaults.{parse_fault}
+
+-- ---- bytes that are not UTF-8
+
+ascii_from : (v : List ℕ) → list_all (λ c. nat_lt c 128) v ≡ true → IsAscii v
+ascii_from v h = IsAscii-from_all v (All-weaker (λ c. nat_lt c 128 ≡ true) (λ c. c < 128) (λ c k. ltb-true c 128 k) v
+    (AllPass-from_list_all (λ c. nat_lt c 128) v h))
+
+pub not_utf8_checked : (v : List ℕ) → (IsUtf8 v → ⊥) → Err kinds.NotAscii ≡ checked (Ok v)
+not_utf8_checked v h = go (list_all (λ c. nat_lt c 128) v) refl
+  where
+    go : (b : Bool) → list_all (λ c. nat_lt c 128) v ≡ b → Err kinds.NotAscii ≡ checked (Ok v)
+    go true e = absurd (h (IsUtf8-from_ascii v (ascii_from v e)))
+    go false e = rw e refl
+
+-- ---- fields that do not parse
+
+module _ (kind : FieldKind) (write : RawField kind → Result (List ℕ) BaseErrorKind) (t : List ℕ) where
+  pub parse_failed : (e : Error) (k : BaseErrorKind) → k ≡ parse_fault (index_of e) → IsParseError Rfc9651 kind t e
+      → UnlessMemory (λ k. IsChecked (ParsedGives kind write t) (Err k)) k
+  parse_failed e k same (inl memory) = inl (same ∙ ap (λ (e : Error). parse_fault (index_of e)) memory)
+  parse_failed e k same (inr h) =
+      let unparsed : k ≡ kinds.Unparsed = same ∙ ap (λ (e : Error). parse_fault (index_of e)) h.error in
+      inr (Err kinds.Unparsed, inr (h.rejected, refl), ap Err unparsed)
+
+-- ---- members
+
+at_place : {A : Type 0} (P : A → Type 0) (before : List A) (x : A) (after : List A)
+    → AllByRecursion P (before ++ x ∷ after) → P x
+at_place P [] x after h = h.0
+at_place P (y ∷ before) x after h = at_place P before x after h.1
+
+-- a dictionary has no member under a text that is not a key
+absent_key : (key : List ℕ) (members : List (List ℕ × RawMember))
+    → AllByRecursion (λ m. IsTrue (is_key m.0) × IsMember m.1) members → (IsTrue (is_key key) → ⊥)
+    → last_of key members ≡ None
+absent_key key members h other = go (last_of key members) refl
+  where
+    go : (o : Option RawMember) → last_of key members ≡ o → last_of key members ≡ None
+    go None e = e
+    go (Some m) e = let s = last_of-split key m members e in
+        absurd (other (at_place (λ m. IsTrue (is_key m.0) × IsMember m.1) s.before (key, m) s.after
+        (subst (AllByRecursion (λ m. IsTrue (is_key m.0) × IsMember m.1)) s.split h)).0)
+
+pub no_member : (key t : List ℕ) (members : List (List ℕ × RawMember)) → IsParsedAs Rfc9651 dictionary_field t members
+    → last_of key members ≡ None → IsChecked (ParsedGives dictionary_field (member_of key) t) (Err kinds.NoMember)
+no_member key t members h none = (
+  Err kinds.NoMember,
+  inl (members, h, sym (ap (λ (o : Option RawMember). ok_or (option_map member_text o) kinds.NoMember) none)),
+  refl,
+)
+
+pub not_a_key : (key t : List ℕ) (members : List (List ℕ × RawMember)) → IsParsedAs Rfc9651 dictionary_field t members
+    → (IsTrue (is_key key) → ⊥) → IsChecked (ParsedGives dictionary_field (member_of key) t) (Err kinds.NoMember)
+not_a_key key t members h other = no_member key t members h
+    (absent_key key members (read_is_value Rfc9651 dictionary_field t members h).parts other)
+
+pub found_member_gives : (key t : List ℕ) (members : List (List ℕ × RawMember)) (m : RawMember)
+    → IsParsedAs Rfc9651 dictionary_field t members → last_of key members ≡ Some m
+    → ParsedGives dictionary_field (member_of key) t (Ok (member_text m))
+found_member_gives key t members m h some =
+    inl (members, h, sym (ap (λ (o : Option RawMember). ok_or (option_map member_text o) kinds.NoMember) some))
+
+-- ---- texts that are not keys
+
+none_outside : (inner : ℕ → Bool) (cs : List ℕ) → list_all inner cs ≡ true
+    → position_or_len (λ b. not (inner b)) cs ≡ length cs
+none_outside inner [] h = refl
+none_outside inner (c ∷ cs) h = let p = and_parts (inner c) (list_all inner cs) h in
+    rw p.0 (omega (arith, none_outside inner cs p.1))
+
+not_below : (n : ℕ) → nat_lt n n ≡ false
+not_below n = grind (arith, nat_tests)
+
+all_inside : (inner : ℕ → Bool) (cs : List ℕ) → list_all inner cs ≡ true → position (λ b. not (inner b)) cs ≡ None
+all_inside inner cs h = rw (none_outside inner cs h, not_below (length cs)) refl
+
+pub invalid_key : (t : List ℕ) (e : Error) → IsInvalidKey t e → IsTrue (is_key t) → ⊥
+invalid_key [] e h k = false≢true k
+invalid_key (c ∷ cs) e (inl h) k = absurd (let none = h.0 in cc)
+invalid_key (c ∷ cs) e (inr h) k =
+    let p = and_parts (is_key_start c) (list_all is_key_inner cs) k in
+    let none : first_outside is_key_start is_key_inner (c ∷ cs) ≡ None = rw (p.0, all_inside is_key_inner cs p.1) refl in
+    absurd (let some = h.1 in cc)

@@ -1,0 +1,5 @@
+use Rattle.sfv_signatures.proofs.laws.one_base.Goals as goal
+use Rattle.sfv_signatures.proofs.Unambiguous.{one_base_lem}
+
+pub returns : goal.returns
+returns c = one_base_lem

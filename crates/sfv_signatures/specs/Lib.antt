@@ -1,0 +1,5 @@
+pub mod SignatureBase
+pub mod Components
+pub mod HttpMessages
+pub mod Forms
+pub mod ParseFaults

@@ -1,0 +1,19 @@
+//! HTTP Message Signatures (RFC 9421): the signature base, and the law that it is unambiguous.
+#![tactic(auto)]
+
+mod base;
+mod base_error;
+mod components;
+mod fields;
+mod http_message;
+mod identifier;
+pub mod laws;
+mod lines;
+mod parameters;
+mod same_base;
+
+pub use base::signature_base;
+pub use base_error::{BaseError, BaseErrorKind};
+pub use components::Components;
+pub use http_message::{HttpMessage, MessagePart};
+pub use same_base::have_same_base;

@@ -1,0 +1,7 @@
+//! Tests of HTTP message signatures. There is no code.
+#![tactic(auto)]
+
+#[cfg(test)]
+mod base;
+#[cfg(test)]
+mod common;
