@@ -3,3 +3,4 @@ pub mod Components
 pub mod HttpMessages
 pub mod Forms
 pub mod ParseFaults
+pub mod SignatureFields
