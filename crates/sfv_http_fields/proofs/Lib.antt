@@ -6,3 +6,4 @@ mod ReadBack
 mod Joined
 mod Heads
 mod Faults
+mod Rows

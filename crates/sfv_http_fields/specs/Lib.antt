@@ -10,3 +10,4 @@ pub mod Kept
 pub mod Writing
 pub mod Requests
 pub mod Lines
+pub mod Registry

@@ -6,4 +6,5 @@ pub mod cache_status;
 pub mod content_digest;
 pub mod priority;
 pub mod proxy_status;
+pub mod registry;
 pub mod request;
