@@ -1,5 +1,5 @@
 -- The check of one field.
-use Rattle.std.specs.Prelude.{◌≡◌, ◌×◌, ℕ, List, Option, Result, option_map, string_bytes, IfOk, IfErr}
+use Rattle.std.specs.Prelude.{◌≡◌, ℕ, List, Option, Result, option_map, string_bytes, IfOk, IfErr}
 use Rattle.std.specs.declared.alloc.Global.{Global}
 use Rattle.std.specs.declared.string.String.{String}
 use Rattle.sfv.specs.Values.{RawField}

@@ -1,8 +1,9 @@
 -- The report on the fields of a head, or on one value.
-use Rattle.std.specs.Prelude.{◌≡◌, ◌×◌, ◌⊎◌, ℕ, List, Bool, Option, None, Some, is_some, not, map, filter, All, Any, IsTrue}
+use Rattle.std.specs.Prelude.{◌≡◌, ◌⊎◌, ℕ, List, [], ◌∷◌, ◌++◌, Bool, true, false, Some, None, map, All, IsUtf8}
+use Rattle.std.specs.List.{list_any}
 use Rattle.std.specs.Str.{str_eq_ignore_ascii_case}
 use Rattle.sfv.specs.Types.{FieldKind, Version}
-use Rattle.sfv_http_fields.specs.Registry.{registered_type}
+use Rattle.sfv_lint_report.specs.Registry.{registered_type}
 use Rattle.sfv_lint_head.specs.Heads.{IsHead, values_of}
 use Rattle.sfv_lint_head.specs.Lines.{joined_lines, value_lines}
 use Rattle.sfv_lint_report.specs.Checks.{IsOutcome}
@@ -17,7 +18,7 @@ lines_of field = map (λ line. line.items) field.lines.items
 abbrev pub IsCheckedField : Version → Field → Type 0
 IsCheckedField version field = IsOutcome version field.kind (joined_lines (lines_of field)) field.outcome
 
--- a field of a head: its lines are those with its name, in any case, and its type is that of the registry
+-- a field of a head: its type is that of the registry, and its lines are those with its name, in any case
 pub record IsFieldOf (version : Version) (lines : List (List ℕ × List ℕ)) (field : Field) : Type 0 where
   pub registered : registered_type field.name.items ≡ Some field.kind
   pub its_lines : lines_of field ≡ values_of field.name.items lines
@@ -27,15 +28,27 @@ pub record IsFieldOf (version : Version) (lines : List (List ℕ × List ℕ)) (
 abbrev pub is_of_name : List ℕ → Field → Bool
 is_of_name name field = str_eq_ignore_ascii_case field.name.items name
 
--- The report on a head: each field that the registry has, each once, and the names of the other lines in order.
+-- a name that the registry has is the name of a field of the report
+abbrev pub IsCovered : Report → List ℕ → Type 0
+IsCovered report name = (list_any (is_of_name name) report.fields.items ≡ true)
+    ⊎ (IsUtf8 name → registered_type name ≡ None)
+
+-- the fields are fields of the head with these lines
+abbrev pub AreFieldsOf : Version → List (List ℕ × List ℕ) → Report → Type 0
+AreFieldsOf version lines report = All (IsFieldOf version lines) report.fields.items
+
+-- the report on a head: its fields, and each name that the registry has is among them
 pub record IsReport (version : Version) (input : List ℕ) (report : Report) : Type 0 where
   pub lines : List (List ℕ × List ℕ)
   pub head : IsHead input lines
-  pub fields : All (IsFieldOf version lines) report.fields.items
-  pub complete : All (λ line. IsTrue (is_some (registered_type line.0))
-      → Any (λ field. IsTrue (is_of_name line.0 field)) report.fields.items) lines
-  pub others : map (λ name. name.items) report.others.items
-      ≡ map (λ line. line.0) (filter (λ line. not (is_some (registered_type line.0))) lines)
+  pub fields : AreFieldsOf version lines report
+  pub complete : All (λ line. IsCovered report line.0) lines
+
+-- the report after one more line: fields of the head stay fields of the head, and names stay covered
+pub record IsWithLine (version : Version) (lines : List (List ℕ × List ℕ)) (name : List ℕ) (old new : Report) : Type 0 where
+  pub fields : AreFieldsOf version lines old → AreFieldsOf version lines new
+  pub covered : IsCovered new name
+  pub kept : (other : List ℕ) → IsCovered old other → IsCovered new other
 
 -- the check of a pasted value
 pub record IsValueReport (version : Version) (kind : FieldKind) (input : List ℕ) (field : Field) : Type 0 where

@@ -44,9 +44,7 @@ impl FieldValue {
         ensures read { IfOk result (λ value. IsParsedAs version (kind_of value) text.now (tree_of value)) }
         ensures rejected { IfErr result (IsParseError version kind text.now) }
     {
-        let parser = Parser::new(text)
-            .with_version(version)
-            .with_hash_seed(seed);
+        let parser = Parser::new(text).with_version(version).with_hash_seed(seed);
         match kind {
             FieldKind::Item => Ok(FieldValue::Item(parser.parse::<Item>(alloc)?)),
             FieldKind::List => Ok(FieldValue::List(parser.parse::<List>(alloc)?)),

@@ -2,6 +2,8 @@
 #![tactic(auto)]
 
 pub mod check;
+pub mod notes;
 pub mod print;
-mod registry;
+pub mod registry;
 pub mod report;
+pub mod rules;

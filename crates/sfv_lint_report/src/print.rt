@@ -1,6 +1,6 @@
 //! The printed report.
 
-ghost use Rattle.std.specs.Prelude.{◌≡◌, ◌++◌, OnOk, map, string_bytes, codes};
+ghost use Rattle.std.specs.Prelude.{◌≡◌, ◌++◌, [], OnOk, Some, Err, Ok, map, take, option_copied, string_bytes, codes};
 ghost use Rattle.sfv_lint_report.specs.Reports.{lines_of};
 ghost use Rattle.sfv_lint_report.specs.Prints.{canonical_text, marked, outcome_text, field_text};
 
@@ -12,7 +12,9 @@ use sfv_lint_head::shown::{append_caret, append_shown};
 use std::alloc::AllocError;
 
 /// Appends the canonical text after two spaces, if there is one.
-fn append_canonical(out: &mut String, text: Option<&String>) -> Result<(), AllocError> {
+fn append_canonical(out: &mut String, text: Option<&String>) -> Result<(), AllocError>
+    ensures { OnOk result (string_bytes out.new ≡ string_bytes out.old ++ canonical_text (option_copied text.entry)) }
+{
     if let Some(text) = text {
         out.push_str("  ")?;
         out.push_str(text.as_str())?;
@@ -57,7 +59,9 @@ fn append_error(out: &mut String, lines: &[Vec<u8>], error: Error) -> Result<(),
 }
 
 /// Appends `ok` and the canonical text.
-fn append_accepted(out: &mut String, accepted: &Accepted) -> Result<(), AllocError> {
+fn append_accepted(out: &mut String, accepted: &Accepted) -> Result<(), AllocError>
+    ensures { OnOk result (string_bytes out.new ≡ string_bytes out.old ++ outcome_text [] (Ok accepted.now)) }
+{
     out.push_str("ok")?;
     append_canonical(out, accepted.text.as_ref())?;
     out.push('\n')
@@ -102,7 +106,12 @@ impl Report {
 ///
 /// Returns `AllocError` if memory runs out. A part may then be appended.
 pub fn append_summary(out: &mut String, report: &Report) -> Result<(), AllocError> {
-    append_count(out, report.fields.len(), "structured field", "structured fields")?;
+    append_count(
+        out,
+        report.fields.len(),
+        "structured field",
+        "structured fields",
+    )?;
     out.push_str(", ")?;
     append_count(out, report.errors(), "error", "errors")?;
     out.push_str(", ")?;
@@ -111,25 +120,14 @@ pub fn append_summary(out: &mut String, report: &Report) -> Result<(), AllocErro
 }
 
 /// Appends the names of the other field lines.
-fn append_others(out: &mut String, report: &Report) -> Result<(), AllocError> {
+///
+/// # Errors
+///
+/// Returns `AllocError` if memory runs out. A part may then be appended.
+pub fn append_others(out: &mut String, report: &Report) -> Result<(), AllocError> {
     for name in &report.others {
         append_shown(out, name.as_slice())?;
         out.push_str(": not checked\n")?;
     }
     Ok(())
-}
-
-/// Appends a report on a head: each structured field, the names of the other lines if `all`, and the counts.
-///
-/// # Errors
-///
-/// Returns `AllocError` if memory runs out. A part may then be appended.
-pub fn append_report(out: &mut String, report: &Report, all: bool) -> Result<(), AllocError> {
-    for field in &report.fields {
-        append_field(out, field)?;
-    }
-    if all {
-        append_others(out, report)?;
-    }
-    append_summary(out, report)
 }

@@ -1,13 +1,17 @@
 //! The report on the fields of a head, or on one value.
 
-ghost use Rattle.std.specs.Prelude.{◌≡◌, IfOk, IfErr, map};
+ghost use Rattle.std.specs.Prelude.{◌≡◌, IfOk, IfErr, OnOk, IfSome, IfNone, Some, None, IsUtf8, map};
+ghost use Rattle.std.specs.List.{list_any};
+ghost use Rattle.std.specs.Str.{str_eq_ignore_ascii_case};
+ghost use Rattle.sfv_lint_report.specs.Registry.{registered_type};
+ghost use Rattle.sfv_lint_head.specs.Heads.{line_of};
 ghost use Rattle.sfv_lint_head.specs.Heads.{HasNoHead};
 ghost use Rattle.sfv_lint_head.specs.declared.head.HeadFault.TheVariants as faults;
-ghost use Rattle.sfv_lint_report.specs.Reports.{IsCheckedField, IsReport, IsValueReport, lines_of};
+ghost use Rattle.sfv_lint_report.specs.Reports.{IsCheckedField, IsReport, IsValueReport, IsWithLine, is_of_name, lines_of};
 
 use crate::check::{Accepted, check};
-use crate::registry::type_of;
 use sfv::{Error, FieldKind, HashSeed, Version};
+use crate::registry::type_of;
 use sfv_lint_head::head::{FieldLine, HeadFault, read_head, values};
 use sfv_lint_head::lines::{join, split};
 use std::alloc::{AllocError, Global};
@@ -37,7 +41,8 @@ pub struct Report {
 
 /// Returns the type of a name in the registry.
 fn type_of_name(name: &[u8]) -> Option<FieldKind>
-    ensures { result ≡ registered_type name.now }
+    ensures some { IfSome result (λ kind. registered_type name.now ≡ Some kind) }
+    ensures none { IfNone result (IsUtf8 name.now → registered_type name.now ≡ None) }
 {
     match str::from_utf8(name) {
         Ok(name) => type_of(name),
@@ -53,7 +58,12 @@ fn check_lines(
     name: &[u8],
     kind: FieldKind,
     lines: Vec<Vec<u8>>,
-) -> Result<Field, AllocError> {
+) -> Result<Field, AllocError>
+    ensures name { IfOk result (λ field. field.name.items ≡ name.now) }
+    ensures kind { IfOk result (λ field. field.kind ≡ kind) }
+    ensures lines { IfOk result (λ field. lines_of field ≡ map (λ line. line.items) lines.items) }
+    ensures checked { IfOk result (IsCheckedField version) }
+{
     let name = Vec::from_slice(alloc, name)?;
     let text = join(alloc, lines.as_slice())?;
     let outcome = check(alloc, seed, version, kind, text.as_slice());
@@ -65,11 +75,23 @@ fn check_lines(
     })
 }
 
+/// Returns `true` if the names are equal, in any case.
+fn is_named(found: &[u8], name: &[u8]) -> bool
+    ensures { result ≡ str_eq_ignore_ascii_case found.now name.now }
+{
+    found.eq_ignore_ascii_case(name)
+}
+
 /// Returns `true` if one of the fields has this name, in any case.
-fn has_field(fields: &[Field], name: &[u8]) -> bool {
-    fields
-        .iter()
-        .any(|field| field.name.as_slice().eq_ignore_ascii_case(name))
+fn has_field(fields: &[Field], name: &[u8]) -> bool
+    ensures { result ≡ list_any (is_of_name name.now) fields.now }
+{
+    for field in fields {
+        if is_named(field.name.as_slice(), name) {
+            return true;
+        }
+    }
+    false
 }
 
 impl Report {
@@ -81,7 +103,9 @@ impl Report {
         version: Version,
         lines: &[FieldLine],
         name: &[u8],
-    ) -> Result<(), AllocError> {
+    ) -> Result<(), AllocError>
+        ensures { OnOk result (IsWithLine version (map line_of lines.now) name.now self.old self.new) }
+    {
         let Some(kind) = type_of_name(name) else {
             self.others.push(Vec::from_slice(alloc, name)?)?;
             return Ok(());
@@ -106,7 +130,10 @@ pub fn report_head(
     seed: HashSeed,
     version: Version,
     input: &[u8],
-) -> Result<Report, HeadFault> {
+) -> Result<Report, HeadFault>
+    ensures report { IfOk result (IsReport version input.now) }
+    ensures failed { IfErr result (λ fault. fault ≡ faults.NoHead → HasNoHead input.now) }
+{
     let lines = read_head(alloc, input)?;
     let mut report = Report {
         fields: Vec::new(alloc),
@@ -130,7 +157,9 @@ pub fn report_value(
     name: &[u8],
     kind: FieldKind,
     input: &[u8],
-) -> Result<Field, AllocError> {
+) -> Result<Field, AllocError>
+    ensures { IfOk result (IsValueReport version kind input.now) }
+{
     let lines = split(alloc, input)?;
     check_lines(alloc, seed, version, name, kind, lines)
 }
