@@ -5,7 +5,7 @@ use sfv::{Error, FieldKind};
 use sfv_lint_args::explain::kind_name;
 use sfv_lint_json::json::{dictionary, item, list};
 use sfv_lint_report::check::{Accepted, FieldValue};
-use sfv_lint_report::notes::notes;
+use sfv_lint_notes::notes::notes;
 use sfv_lint_report::report::Field;
 use std::alloc::{AllocError, Global};
 

@@ -3,7 +3,7 @@
 use sfv::SerializeError;
 use sfv_lint_json::tree::{append_dictionary, append_item, append_list};
 use sfv_lint_report::check::FieldValue;
-use sfv_lint_report::notes::notes;
+use sfv_lint_notes::notes::notes;
 use sfv_lint_report::print::{append_field, append_others, append_summary};
 use sfv_lint_report::report::{Field, Report};
 use std::alloc::{AllocError, Global};

@@ -2,8 +2,6 @@
 #![tactic(auto)]
 
 pub mod check;
-pub mod notes;
 pub mod print;
 pub mod registry;
 pub mod report;
-pub mod rules;

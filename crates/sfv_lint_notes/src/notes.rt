@@ -1,7 +1,8 @@
 //! Notes on accepted fields: what is allowed by RFC 9651 and is still worth a look.
 
-use crate::check::{Accepted, FieldValue};
-use crate::report::Field;
+use sfv_lint_report::check::{Accepted, FieldValue};
+use sfv_lint_report::report::Field;
+use crate::keys::has_repeated_key;
 use crate::rules::{Part, Rule, rules};
 use sfv::{Dictionary, GenericBareItem, Item, ListEntry, Parameters};
 use sfv_lint_head::lines::join;
@@ -9,8 +10,10 @@ use std::alloc::{AllocError, Global};
 use std::fmt;
 
 /// A note on an accepted field.
-#[derive(Clone, Copy, Debug, PartialEq, Eq)]
+#[derive(Clone, Copy)]
 pub enum Note {
+    /// A key occurs twice, and its last value counts.
+    RepeatedKey,
     /// The canonical text is another one, other than in spaces and tabs.
     Changes,
     /// A part has not the type that the definition of the field wants.
@@ -24,6 +27,7 @@ pub enum Note {
 impl fmt::Display for Note {
     fn fmt<W: fmt::Write>(&self, f: &mut fmt::Formatter<W>) -> fmt::Result {
         match self {
+            Note::RepeatedKey => f.write_str("a key occurs twice, and its last value counts"),
             Note::Changes => f.write_str("the value changes when it is written"),
             Note::WrongType(rule) => write!(f, "{rule}"),
             Note::Urgency => f.write_str(
@@ -182,14 +186,13 @@ fn visible(alloc: Global, text: &[u8]) -> Result<Vec<u8>, AllocError> {
     Ok(bytes)
 }
 
-/// Returns `true` if the canonical text is another one than the joined lines, other than in spaces and tabs.
+/// Returns `true` if the canonical text is another one, other than in spaces and tabs.
 fn changes(
     alloc: Global,
-    lines: &[Vec<u8>],
+    text: &[u8],
     canonical: Option<&String>,
 ) -> Result<bool, AllocError> {
-    let joined = join(alloc, lines)?;
-    let text = visible(alloc, joined.as_slice())?;
+    let text = visible(alloc, text)?;
     let canonical = match canonical {
         Some(canonical) => visible(alloc, canonical.as_bytes())?,
         None => Vec::new(alloc),
@@ -205,7 +208,11 @@ fn notes_on(
     accepted: &Accepted,
 ) -> Result<Vec<Note>, AllocError> {
     let mut notes = Vec::new(alloc);
-    if changes(alloc, lines, accepted.text.as_ref())? {
+    let text = join(alloc, lines)?;
+    if has_repeated_key(alloc, &accepted.value, text.as_slice()) {
+        notes.push(Note::RepeatedKey)?;
+    }
+    if changes(alloc, text.as_slice(), accepted.text.as_ref())? {
         notes.push(Note::Changes)?;
     }
     for rule in &rules() {

@@ -4,7 +4,7 @@ use sfv::{BareItem, GenericBareItem};
 use std::fmt;
 
 /// A set of types of bare items.
-#[derive(Clone, Copy, Debug, PartialEq, Eq)]
+#[derive(Clone, Copy)]
 pub enum Types {
     /// A boolean.
     Boolean,
@@ -26,8 +26,8 @@ impl Types {
     /// Returns `true` if the bare item has one of the types.
     pub fn has(self, item: &BareItem) -> bool {
         match item {
-            GenericBareItem::Boolean(_) => self == Types::Boolean,
-            GenericBareItem::Integer(_) => self == Types::Integer,
+            GenericBareItem::Boolean(_) => matches!(self, Types::Boolean),
+            GenericBareItem::Integer(_) => matches!(self, Types::Integer),
             GenericBareItem::String(_) => matches!(self, Types::String | Types::StringOrToken),
             GenericBareItem::Token(_) => matches!(
                 self,
@@ -55,7 +55,7 @@ impl Types {
 }
 
 /// A part of a field.
-#[derive(Clone, Copy, Debug, PartialEq, Eq)]
+#[derive(Clone, Copy)]
 pub enum Part {
     /// Each member of a list or a dictionary is such an item.
     Members,
@@ -68,7 +68,7 @@ pub enum Part {
 }
 
 /// The types of a part of a field.
-#[derive(Clone, Copy, Debug, PartialEq, Eq)]
+#[derive(Clone, Copy)]
 pub struct Rule {
     /// The name of the field, in lower case.
     pub field: &'static str,
