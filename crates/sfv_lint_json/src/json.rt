@@ -2,7 +2,9 @@
 
 use crate::base32::base32;
 use serde_json::{Number, Value, json};
-use sfv::{BareItem, Decimal, Dictionary, GenericBareItem, InnerList, Item, List, ListEntry, Parameters};
+use sfv::{
+    BareItem, Decimal, Dictionary, GenericBareItem, InnerList, Item, List, ListEntry, Parameters,
+};
 use std::alloc::{AllocError, Global};
 
 /// Returns a decimal as the nearest number of 64 bits.
@@ -26,7 +28,11 @@ fn bare_item(alloc: Global, item: &BareItem) -> Result<Value, AllocError> {
         GenericBareItem::Integer(number) => Ok(Value::from(number.to_i64())),
         GenericBareItem::String(text) => Value::try_from_str(alloc, text.as_str()),
         GenericBareItem::ByteSequence(bytes) => {
-            typed(alloc, "binary", &Value::String(base32(alloc, bytes.as_slice())?))
+            typed(
+                alloc,
+                "binary",
+                &Value::String(base32(alloc, bytes.as_slice())?),
+            )
         }
         GenericBareItem::Boolean(value) => Ok(Value::Bool(*value)),
         GenericBareItem::Token(text) => {
@@ -36,7 +42,11 @@ fn bare_item(alloc: Global, item: &BareItem) -> Result<Value, AllocError> {
             typed(alloc, "date", &Value::from(date.unix_seconds().to_i64()))
         }
         GenericBareItem::DisplayString(text) => {
-            typed(alloc, "displaystring", &Value::try_from_str(alloc, text.as_str())?)
+            typed(
+                alloc,
+                "displaystring",
+                &Value::try_from_str(alloc, text.as_str())?,
+            )
         }
     }
 }

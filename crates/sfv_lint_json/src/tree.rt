@@ -1,6 +1,9 @@
 //! Structured fields as trees for reading: a line for each part, with its type, below the part that contains it.
 
-use sfv::{BareItem, Dictionary, GenericBareItem, InnerList, Item, List, ListEntry, Parameters, RefBareItem, ItemSerializer, SerializeError};
+use sfv::{
+    BareItem, Dictionary, GenericBareItem, InnerList, Item, ItemSerializer, List, ListEntry,
+    Parameters, RefBareItem, SerializeError,
+};
 use std::alloc::AllocError;
 
 /// Returns the name of the type of a bare item.
@@ -21,13 +24,19 @@ fn type_name(item: &BareItem) -> &'static str {
 fn append_bare_item(out: &mut String, item: &BareItem) -> Result<(), SerializeError> {
     out.push_str(type_name(item))?;
     out.push(' ')?;
-    ItemSerializer::with_buffer(out).bare_item(item.as_ref_item())?.finish();
+    ItemSerializer::with_buffer(out)
+        .bare_item(item.as_ref_item())?
+        .finish();
     out.push('\n')?;
     Ok(())
 }
 
 /// Appends a line for each parameter.
-fn append_parameters(out: &mut String, indent: &str, params: &Parameters) -> Result<(), SerializeError> {
+fn append_parameters(
+    out: &mut String,
+    indent: &str,
+    params: &Parameters,
+) -> Result<(), SerializeError> {
     for (key, value) in params {
         out.push_str(indent)?;
         out.push(';')?;
