@@ -71,7 +71,9 @@ fn write_explanation<O: Write, E: Write>(
 
 fn main(rt: HostRuntime) -> ExitCode {
     let Ok(args) = arguments(&rt) else {
-        let _ = rt.stderr().write_all(b"sfv_lint: the arguments are not UTF-8\n");
+        let _ = rt
+            .stderr()
+            .write_all(b"sfv_lint: the arguments are not UTF-8\n");
         return ExitCode::from(WRONG);
     };
     let options = match parse_arguments(rt.alloc(), args.as_slice()) {
@@ -82,7 +84,12 @@ fn main(rt: HostRuntime) -> ExitCode {
         }
     };
     if let Some(name) = options.explain {
-        return ExitCode::from(write_explanation(rt.alloc(), name, &mut rt.stdout(), &mut rt.stderr()));
+        return ExitCode::from(write_explanation(
+            rt.alloc(),
+            name,
+            &mut rt.stdout(),
+            &mut rt.stderr(),
+        ));
     }
     let Ok(seed) = random_seed(|bytes| rt.fill_bytes(bytes)) else {
         let _ = rt.stderr().write_all(b"sfv_lint: no random seed\n");

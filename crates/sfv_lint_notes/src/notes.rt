@@ -1,11 +1,11 @@
 //! Notes on accepted fields: what is allowed by RFC 9651 and is still worth a look.
 
-use sfv_lint_report::check::{Accepted, FieldValue};
-use sfv_lint_report::report::Field;
 use crate::keys::has_repeated_key;
 use crate::rules::{Part, Rule, rules};
 use sfv::{Dictionary, GenericBareItem, Item, ListEntry, Parameters};
 use sfv_lint_head::lines::join;
+use sfv_lint_report::check::{Accepted, FieldValue};
+use sfv_lint_report::report::Field;
 use std::alloc::{AllocError, Global};
 use std::fmt;
 
@@ -187,11 +187,7 @@ fn visible(alloc: Global, text: &[u8]) -> Result<Vec<u8>, AllocError> {
 }
 
 /// Returns `true` if the canonical text is another one, other than in spaces and tabs.
-fn changes(
-    alloc: Global,
-    text: &[u8],
-    canonical: Option<&String>,
-) -> Result<bool, AllocError> {
+fn changes(alloc: Global, text: &[u8], canonical: Option<&String>) -> Result<bool, AllocError> {
     let text = visible(alloc, text)?;
     let canonical = match canonical {
         Some(canonical) => visible(alloc, canonical.as_bytes())?,

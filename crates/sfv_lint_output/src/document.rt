@@ -4,8 +4,8 @@ use serde_json::{Value, json};
 use sfv::{Error, FieldKind};
 use sfv_lint_args::explain::kind_name;
 use sfv_lint_json::json::{dictionary, item, list};
-use sfv_lint_report::check::{Accepted, FieldValue};
 use sfv_lint_notes::notes::notes;
+use sfv_lint_report::check::{Accepted, FieldValue};
 use sfv_lint_report::report::Field;
 use std::alloc::{AllocError, Global};
 
@@ -85,11 +85,7 @@ fn field(alloc: Global, field: &Field) -> Result<Value, AllocError> {
 /// # Errors
 ///
 /// Returns `AllocError` if memory runs out.
-pub fn document(
-    alloc: Global,
-    fields: &[Field],
-    others: &[Vec<u8>],
-) -> Result<Value, AllocError> {
+pub fn document(alloc: Global, fields: &[Field], others: &[Vec<u8>]) -> Result<Value, AllocError> {
     let mut values = Vec::new(alloc);
     for this in fields {
         values.push(field(alloc, this)?)?;

@@ -2,8 +2,8 @@
 
 use sfv::SerializeError;
 use sfv_lint_json::tree::{append_dictionary, append_item, append_list};
-use sfv_lint_report::check::FieldValue;
 use sfv_lint_notes::notes::notes;
+use sfv_lint_report::check::FieldValue;
 use sfv_lint_report::print::{append_field, append_others, append_summary};
 use sfv_lint_report::report::{Field, Report};
 use std::alloc::{AllocError, Global};
@@ -31,7 +31,12 @@ fn append_tree(out: &mut String, value: &FieldValue) -> Result<(), SerializeErro
 /// # Errors
 ///
 /// Returns `SerializeError::OutOfMemory` if memory runs out. A part may then be appended.
-pub fn append_field_lines(alloc: Global, out: &mut String, field: &Field, tree: bool) -> Result<(), SerializeError> {
+pub fn append_field_lines(
+    alloc: Global,
+    out: &mut String,
+    field: &Field,
+    tree: bool,
+) -> Result<(), SerializeError> {
     append_field(out, field)?;
     if let Ok(accepted) = &field.outcome {
         if tree {

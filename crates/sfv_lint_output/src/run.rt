@@ -3,11 +3,11 @@
 use crate::document::document;
 use crate::lines::{append_field_lines, append_report_lines};
 use sfv::{FieldKind, HashSeed, SerializeError};
-use sfv_http_fields::registry::type_of;
 use sfv_lint_args::explain::{Explanation, explain};
 use sfv_lint_args::options::Options;
 use sfv_lint_head::head::HeadFault;
 use sfv_lint_notes::notes::notes;
+use sfv_lint_report::registry::type_of;
 use sfv_lint_report::report::{Field, Report, report_head, report_value};
 use std::alloc::{AllocError, AllocFailed, Global};
 use std::fmt::{self, Write};
@@ -104,7 +104,10 @@ fn append_advice(out: &mut String, field: &Field) -> Result<(), AllocError> {
         return Ok(());
     };
     if let Some(name) = pasted_name(line.as_slice()) {
-        writeln!(out, "    hint: leave out `{name}:`, or leave out --type and --field")?;
+        writeln!(
+            out,
+            "    hint: leave out `{name}:`, or leave out --type and --field"
+        )?;
     }
     Ok(())
 }
@@ -117,7 +120,12 @@ fn json_output(alloc: Global, fields: &[Field], others: &[Vec<u8>]) -> Result<St
 }
 
 /// Returns the output for a head.
-fn run_head(alloc: Global, seed: HashSeed, options: &Options<'_>, input: &[u8]) -> Result<Output, Failure> {
+fn run_head(
+    alloc: Global,
+    seed: HashSeed,
+    options: &Options<'_>,
+    input: &[u8],
+) -> Result<Output, Failure> {
     let report = report_head(alloc, seed, options.version, input)?;
     let fields = report.fields.as_slice();
     let failed = has_failed(alloc, fields, options.strict)?;
@@ -158,7 +166,12 @@ fn run_value(
 ///
 /// Returns `NoHead` if the input is no head, `UnknownField` for a name that the registry lacks, and `OutOfMemory` if
 /// memory runs out.
-pub fn run(alloc: Global, seed: HashSeed, options: &Options<'_>, input: &[u8]) -> Result<Output, Failure> {
+pub fn run(
+    alloc: Global,
+    seed: HashSeed,
+    options: &Options<'_>,
+    input: &[u8],
+) -> Result<Output, Failure> {
     if let Some(kind) = options.kind {
         return run_value(alloc, seed, options, "value", kind, input);
     }
@@ -174,7 +187,10 @@ pub fn run(alloc: Global, seed: HashSeed, options: &Options<'_>, input: &[u8]) -
 /// Appends what a kind of error means.
 fn append_explanation(out: &mut String, name: &str, found: &Explanation) -> Result<(), AllocError> {
     let (meaning, rule, example) = (found.meaning, found.rule, found.example);
-    writeln!(out, "{name}\n    {meaning}\n    Rule: {rule}\n    Right: {example}")
+    writeln!(
+        out,
+        "{name}\n    {meaning}\n    Rule: {rule}\n    Right: {example}"
+    )
 }
 
 /// Returns what the kind of error with this name means, as lines. The text is empty for another name.
