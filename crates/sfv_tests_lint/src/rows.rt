@@ -153,7 +153,7 @@ pub static ROWS: [Row; 45] = [
         name: "changes_and_repeats",
         options: "",
         input: "HTTP/1.1 200 OK\r\nPriority: u=1, u=2;a=1.50\r\nWant-Repr-Digest: sha-256=10,  sha-512=3\r\n\r\n",
-        output: "Priority: ok  u=2;a=1.5\n    note: the value changes when it is written\nWant-Repr-Digest: ok  sha-256=10, sha-512=3\n2 structured fields, 0 errors, 0 others\n",
+        output: "Priority: ok  u=2;a=1.5\n    note: a key occurs twice, and its last value counts\n    note: the value changes when it is written\nWant-Repr-Digest: ok  sha-256=10, sha-512=3\n2 structured fields, 0 errors, 0 others\n",
         failed: false,
     },
     Row {
