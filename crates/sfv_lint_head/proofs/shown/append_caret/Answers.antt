@@ -1,0 +1,7 @@
+use Rattle.std.proofs.Common.{arith}
+use Rattle.std.proofs.lemmas.Grind.{common_steps}
+use Rattle.std.proofs.lemmas.List.{replicate-append-replicate}
+use Rattle.sfv_lint_head.proofs.shown.append_caret.Goals as goal
+
+pub loop-byte-preserved : goal.loop-byte-preserved
+loop-byte-preserved c = grind (arith, common_steps, replicate-append-replicate, c.in_ok-append_blank.ensures)

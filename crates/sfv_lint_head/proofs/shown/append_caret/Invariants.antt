@@ -1,0 +1,8 @@
+use Rattle.std.proofs.Common.{◌≡◌, ◌++◌, take, length}
+use Rattle.std.specs.Prelude.{string_bytes, replicate}
+use Rattle.sfv_lint_head.specs.Shown.{shown}
+use Rattle.sfv_lint_head.proofs.shown.append_caret.Given as goal
+
+abbrev pub invariant-loop-byte : goal.invariant-loop-byte
+invariant-loop-byte l =
+    string_bytes l.text ≡ string_bytes l.initial.text ++ replicate (length (shown (take l.byte-index l.before))) 32

@@ -1,0 +1,240 @@
+//! Notes on accepted fields: what is allowed by RFC 9651 and is still worth a look.
+
+use crate::keys::has_repeated_key;
+use crate::rules::{Part, Rule, rules};
+use sfv::{Dictionary, GenericBareItem, Item, ListEntry, Parameters};
+use sfv_lint_head::lines::join;
+use sfv_lint_report::check::{Accepted, FieldValue};
+use sfv_lint_report::report::Field;
+use std::alloc::{AllocError, Global};
+use std::fmt;
+
+/// A note on an accepted field.
+#[derive(Clone, Copy)]
+pub enum Note {
+    /// A key occurs twice, and its last value counts.
+    RepeatedKey,
+    /// The canonical text is another one, other than in spaces and tabs.
+    Changes,
+    /// A part has not the type that the definition of the field wants.
+    WrongType(Rule),
+    /// The urgency of a priority is not an integer from 0 to 7.
+    Urgency,
+    /// The digest of this algorithm has not this length.
+    DigestLength(&'static str, usize),
+}
+
+impl fmt::Display for Note {
+    fn fmt<W: fmt::Write>(&self, f: &mut fmt::Formatter<W>) -> fmt::Result {
+        match self {
+            Note::RepeatedKey => f.write_str("a key occurs twice, and its last value counts"),
+            Note::Changes => f.write_str("the value changes when it is written"),
+            Note::WrongType(rule) => write!(f, "{rule}"),
+            Note::Urgency => f.write_str(
+                "u is not an integer from 0 to 7, so it is ignored (RFC 9218, section 4.1)",
+            ),
+            Note::DigestLength(algorithm, length) => {
+                write!(f, "a digest of {algorithm} has {length} bytes (RFC 9530)")
+            }
+        }
+    }
+}
+
+/// Returns `true` if a parameter with this key has none of the types.
+fn has_wrong_parameter(params: &Parameters, rule: &Rule, key: &str) -> bool {
+    for (name, value) in params {
+        if name.as_str() == key && !rule.types.has(value) {
+            return true;
+        }
+    }
+    false
+}
+
+/// Returns `true` if an item has none of the types.
+fn has_wrong_item(items: &[Item], rule: &Rule) -> bool {
+    for item in items {
+        if !rule.types.has(&item.bare_item) {
+            return true;
+        }
+    }
+    false
+}
+
+/// Returns `true` if a member breaks the rule.
+fn breaks(rule: &Rule, member: &ListEntry) -> bool {
+    match member {
+        ListEntry::Item(item) => match rule.part {
+            Part::Members => !rule.types.has(&item.bare_item),
+            Part::InnerItems => true,
+            Part::Parameter(key) => has_wrong_parameter(&item.params, rule, key),
+            Part::Member(_) => false,
+        },
+        ListEntry::InnerList(list) => match rule.part {
+            Part::Members => true,
+            Part::InnerItems => has_wrong_item(list.items.as_slice(), rule),
+            Part::Parameter(key) => has_wrong_parameter(&list.params, rule, key),
+            Part::Member(_) => false,
+        },
+    }
+}
+
+/// Returns `true` if the member with the key of the rule is not an item of its types.
+fn breaks_at(rule: &Rule, key: &str, member: &ListEntry) -> bool {
+    match rule.part {
+        Part::Member(wanted) => match member {
+            ListEntry::Item(item) => wanted == key && !rule.types.has(&item.bare_item),
+            ListEntry::InnerList(_) => wanted == key,
+        },
+        _ => breaks(rule, member),
+    }
+}
+
+/// Returns `true` if the field breaks the rule.
+fn is_broken(rule: &Rule, value: &FieldValue) -> bool {
+    match value {
+        FieldValue::Item(_) => false,
+        FieldValue::List(list) => {
+            for member in list {
+                if breaks(rule, member) {
+                    return true;
+                }
+            }
+            false
+        }
+        FieldValue::Dictionary(dictionary) => {
+            for (key, member) in dictionary {
+                if breaks_at(rule, key.as_str(), member) {
+                    return true;
+                }
+            }
+            false
+        }
+    }
+}
+
+/// Returns the length of a digest of the algorithm, if it is known (RFC 9530, section 7.2).
+fn digest_length(algorithm: &str) -> Option<(&'static str, usize)> {
+    match algorithm {
+        "sha-256" => Some(("sha-256", 32)),
+        "sha-512" => Some(("sha-512", 64)),
+        _ => None,
+    }
+}
+
+/// Returns the note on a digest of another length than its algorithm has.
+fn digest_note(algorithm: &str, member: &ListEntry) -> Option<Note> {
+    let (name, length) = digest_length(algorithm)?;
+    let ListEntry::Item(item) = member else {
+        return None;
+    };
+    let GenericBareItem::ByteSequence(bytes) = &item.bare_item else {
+        return None;
+    };
+    if bytes.len() == length {
+        return None;
+    }
+    Some(Note::DigestLength(name, length))
+}
+
+/// Returns the note on an urgency that is not an integer from 0 to 7.
+fn urgency_note(key: &str, member: &ListEntry) -> Option<Note> {
+    if key != "u" {
+        return None;
+    }
+    if let ListEntry::Item(item) = member {
+        if let GenericBareItem::Integer(urgency) = &item.bare_item {
+            if matches!(urgency.to_i64(), 0..=7) {
+                return None;
+            }
+        }
+    }
+    Some(Note::Urgency)
+}
+
+/// Appends the notes on the members of a dictionary with this name.
+fn add_member_notes(
+    notes: &mut Vec<Note>,
+    name: &[u8],
+    dictionary: &Dictionary,
+) -> Result<(), AllocError> {
+    let is_priority = name.eq_ignore_ascii_case(b"priority");
+    let is_digest = name.eq_ignore_ascii_case(b"content-digest")
+        || name.eq_ignore_ascii_case(b"repr-digest");
+    for (key, member) in dictionary {
+        if is_priority {
+            if let Some(note) = urgency_note(key.as_str(), member) {
+                notes.push(note)?;
+            }
+        }
+        if is_digest {
+            if let Some(note) = digest_note(key.as_str(), member) {
+                notes.push(note)?;
+            }
+        }
+    }
+    Ok(())
+}
+
+/// Returns the text without spaces and tabs.
+fn visible(alloc: Global, text: &[u8]) -> Result<Vec<u8>, AllocError> {
+    let mut bytes = Vec::new(alloc);
+    for &byte in text {
+        if byte != b' ' && byte != b'\t' {
+            bytes.push(byte)?;
+        }
+    }
+    Ok(bytes)
+}
+
+/// Returns `true` if the canonical text is another one, other than in spaces and tabs.
+fn changes(alloc: Global, text: &[u8], canonical: Option<&String>) -> Result<bool, AllocError> {
+    let text = visible(alloc, text)?;
+    let canonical = match canonical {
+        Some(canonical) => visible(alloc, canonical.as_bytes())?,
+        None => Vec::new(alloc),
+    };
+    Ok(text.as_slice() != canonical.as_slice())
+}
+
+/// Returns the notes on an accepted value.
+fn notes_on(
+    alloc: Global,
+    name: &[u8],
+    lines: &[Vec<u8>],
+    accepted: &Accepted,
+) -> Result<Vec<Note>, AllocError> {
+    let mut notes = Vec::new(alloc);
+    let text = join(alloc, lines)?;
+    if has_repeated_key(alloc, &accepted.value, text.as_slice()) {
+        notes.push(Note::RepeatedKey)?;
+    }
+    if changes(alloc, text.as_slice(), accepted.text.as_ref())? {
+        notes.push(Note::Changes)?;
+    }
+    for rule in &rules() {
+        if name.eq_ignore_ascii_case(rule.field.as_bytes()) && is_broken(rule, &accepted.value) {
+            notes.push(Note::WrongType(*rule))?;
+        }
+    }
+    if let FieldValue::Dictionary(dictionary) = &accepted.value {
+        add_member_notes(&mut notes, name, dictionary)?;
+    }
+    Ok(notes)
+}
+
+/// Returns the notes on a field. A field with an error has none.
+///
+/// # Errors
+///
+/// Returns `AllocError` if memory runs out.
+pub fn notes(alloc: Global, field: &Field) -> Result<Vec<Note>, AllocError> {
+    match &field.outcome {
+        Ok(accepted) => notes_on(
+            alloc,
+            field.name.as_slice(),
+            field.lines.as_slice(),
+            accepted,
+        ),
+        Err(_) => Ok(Vec::new(alloc)),
+    }
+}

@@ -1,0 +1,6 @@
+//! The output of the program `sfv_lint`.
+#![tactic(auto)]
+
+pub mod document;
+pub mod lines;
+pub mod run;

@@ -1,0 +1,10 @@
+use Rattle.std.proofs.Common.{◌≡◌, map}
+use Rattle.std.specs.Prelude.{drop}
+use Rattle.std.specs.Map.{lookup}
+use Rattle.std.specs.Str.{str_eq_ignore_ascii_case}
+use Rattle.sfv_lint_report.proofs.registry.find.Given as goal
+
+abbrev pub invariant-loop-registered : goal.invariant-loop-registered
+invariant-loop-registered l =
+    lookup (str_eq_ignore_ascii_case l.name) (map (λ row. (row.0.now, row.1)) l.rows)
+    ≡ lookup (str_eq_ignore_ascii_case l.name) (map (λ row. (row.0.now, row.1)) (drop l.registered-index l.rows))

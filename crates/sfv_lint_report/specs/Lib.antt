@@ -1,0 +1,4 @@
+pub mod Checks
+pub mod Reports
+pub mod Prints
+pub mod Registry
