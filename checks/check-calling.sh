@@ -1,9 +1,9 @@
 #!/bin/sh
-# Whether CALLING.md and the README show the code as it stands. Before each block of its code stands the file that it is taken from,
+# Whether CALLING.md, FIELDS.md and the README show the code as it stands. Before each block of its code stands the file that it is taken from,
 # alone between backticks; prints each block that isn't in its file line by line, and then the status is 1.
 cd "$(dirname "$0")/.." || exit 2
 
-for page in docs/CALLING.md README.md; do
+for page in docs/CALLING.md docs/FIELDS.md README.md; do
     awk '
     function fails(what) { print "'$page':" NR ": " what; failed = 1 }
     function whole(file,    line, text) {
