@@ -17,10 +17,7 @@ const VALUES: &[(&str, &str)] = &[
         "\"example-dict\"",
         "a=1,    b=2;x=1;y=2,   c=(a   b   c), d",
     ),
-    (
-        "\"example-dict\";sf",
-        "a=1, b=2;x=1;y=2, c=(a b c), d",
-    ),
+    ("\"example-dict\";sf", "a=1, b=2;x=1;y=2, c=(a b c), d"),
     ("\"example-dict\";key=\"a\"", "1"),
     ("\"example-dict\";key=\"b\"", "2;x=1;y=2"),
     ("\"example-dict\";key=\"c\"", "(a b c)"),
@@ -50,9 +47,14 @@ fn values_follow_the_rules(rt: HostRuntime) -> Result<(), Fail> {
     let alloc = rt.alloc();
     for &(identifier, value) in VALUES {
         let list = format!(in alloc; "({identifier})")?;
-        let expected = format!(in alloc; "{identifier}: {value}\n\"@signature-params\": ({identifier})")?;
+        let expected = format!(in alloc;
+            "{identifier}: {value}\n\"@signature-params\": ({identifier})"
+        )?;
         let base = base_of(alloc, list.as_str())?;
-        assert!(rt; base.is_ok_and(|base| base.as_str() == expected.as_str()), "{identifier}");
+        assert!(rt;
+            base.is_ok_and(|base| base.as_str() == expected.as_str()),
+            "{identifier}"
+        );
     }
     Ok(())
 }
@@ -68,7 +70,11 @@ const ERRORS: &[(&str, BaseErrorKind, usize)] = &[
         2,
     ),
     ("(\"@signature-params\")", BaseErrorKind::SignatureParams, 0),
-    ("(\"host\" \"@unknown\")", BaseErrorKind::UnknownComponent, 1),
+    (
+        "(\"host\" \"@unknown\")",
+        BaseErrorKind::UnknownComponent,
+        1,
+    ),
     ("(\"@Method\")", BaseErrorKind::UnknownComponent, 0),
     ("(\"missing\")", BaseErrorKind::Absent, 0),
     ("(\"\")", BaseErrorKind::Absent, 0),
@@ -90,7 +96,11 @@ const ERRORS: &[(&str, BaseErrorKind, usize)] = &[
     ("(\"@method\";req=\"a\")", BaseErrorKind::WrongType, 0),
     ("(\"host\";x)", BaseErrorKind::UnknownParameter, 0),
     ("(\"host\";name=\"a\")", BaseErrorKind::UnknownParameter, 0),
-    ("(\"@method\";name=\"a\")", BaseErrorKind::UnknownParameter, 0),
+    (
+        "(\"@method\";name=\"a\")",
+        BaseErrorKind::UnknownParameter,
+        0,
+    ),
     ("(\"@method\";sf)", BaseErrorKind::UnknownParameter, 0),
     ("(\"host\";sf)", BaseErrorKind::UnknownType, 0),
     ("(\"broken\";sf)", BaseErrorKind::Unparsed, 0),
@@ -104,7 +114,10 @@ fn errors_name_the_rule_and_the_identifier(rt: HostRuntime) -> Result<(), Fail> 
     let alloc = rt.alloc();
     for &(list, kind, index) in ERRORS {
         let base = base_of(alloc, list)?;
-        assert!(rt; base.is_err_and(|error| error.kind == kind && error.index == index), "{list}");
+        assert!(rt;
+            base.is_err_and(|error| error.kind == kind && error.index == index),
+            "{list}"
+        );
     }
     Ok(())
 }

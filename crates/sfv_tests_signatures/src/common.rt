@@ -18,7 +18,10 @@ pub fn fields(alloc: Global, lines: &[(&str, &str)]) -> Result<HeaderMap, Fail> 
 
 /// Returns the inner list of this text.
 pub fn inner_list(alloc: Global, text: &str) -> Result<InnerList, Fail> {
-    let mut members = Parser::new(text.as_bytes()).parse::<List>(alloc).ok().ok_or("list")?;
+    let mut members = Parser::new(text.as_bytes())
+        .parse::<List>(alloc)
+        .ok()
+        .ok_or("list")?;
     match members.pop() {
         Some(ListEntry::InnerList(list)) => Ok(list),
         _ => Err(Fail::from("inner list")),
@@ -58,7 +61,12 @@ const DERIVED: &[(&str, &str)] = &[
     ("@target-uri", "b"),
 ];
 
-const QUERY: &[(&str, &str)] = &[("var", "this%20is"), ("twice", "1"), ("twice", "2"), ("", "none")];
+const QUERY: &[(&str, &str)] = &[
+    ("var", "this%20is"),
+    ("twice", "1"),
+    ("twice", "2"),
+    ("", "none"),
+];
 
 const TYPES: &[(&str, FieldKind)] = &[
     ("example-dict", FieldKind::Dictionary),

@@ -5,3 +5,5 @@
 mod base;
 #[cfg(test)]
 mod common;
+#[cfg(test)]
+mod signature_fields;
