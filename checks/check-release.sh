@@ -32,7 +32,7 @@ is "$version" sh -c "sed -n 's/^## //p' CHANGELOG.md | head -n 1"
 grep -ho '0\.16\.0[-+.][a-z]*[0-9][0-9]*' README.md docs/*.md bindings/*/README.md | sort -u >"$room/names"
 printf '%s\n' "$version" "$upstream+$number" "$upstream.post$number" | sort | comm -13 - "$room/names" >"$room/other"
 [ ! -s "$room/other" ] || wrong "the pages name other releases: $(tr '\n' ' ' <"$room/other")"
-is 0 sh -c 'man -l --warnings=all -Tutf8 release/sfv_tool.1 2>&1 >/dev/null | grep -c . || true'
+! command -v man >/dev/null || is 0 sh -c 'man -l --warnings=all -Tutf8 release/sfv_tool.1 2>&1 >/dev/null | grep -c . || true'
 
 # Makes the copy of the repository, and stand-ins: a library whose calls do nothing, a program, and the kit's archives.
 make_copy() {
