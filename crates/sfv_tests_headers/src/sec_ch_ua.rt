@@ -50,15 +50,14 @@ fn brands_are_read_in_order(rt: HostRuntime) {
 fn many_brands_are_read(rt: HostRuntime) -> Result<(), Fail> {
     let alloc = rt.alloc();
     let mut input = String::from_str(alloc, "\"a\";v=\"1\"")?;
-    for doublings in 0..12 {
+    for &count in &[1_usize, 2, 4, 8, 16, 32, 64, 128, 256, 512, 1024, 2048] {
         let holds = match brands(alloc, input.as_bytes(), Version::Rfc9651) {
             Ok(found) => {
-                found.len() == 1 << doublings
-                    && found.iter().all(|brand| is_brand(brand, ("a", "1")))
+                found.len() == count && found.iter().all(|brand| is_brand(brand, ("a", "1")))
             }
             Err(_) => false,
         };
-        assert!(rt; holds, "{doublings}");
+        assert!(rt; holds, "{count}");
         input = format!(in alloc; "{input}, {input}")?;
     }
     Ok(())
