@@ -3,11 +3,11 @@
 use crate::document::document;
 use crate::lines::{append_field_lines, append_report_lines};
 use sfv::{FieldKind, HashSeed, SerializeError};
+use sfv_http_fields::registry::type_of;
 use sfv_lint_args::explain::{Explanation, explain};
 use sfv_lint_args::options::Options;
 use sfv_lint_head::head::HeadFault;
 use sfv_lint_notes::notes::notes;
-use sfv_lint_report::registry::type_of;
 use sfv_lint_report::report::{Field, Report, report_head, report_value};
 use std::alloc::{AllocError, AllocFailed, Global};
 use std::fmt::{self, Write};

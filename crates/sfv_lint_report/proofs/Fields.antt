@@ -8,7 +8,7 @@ use Rattle.std.proofs.lemmas.List.Elements.{All-append, All-map}
 use Rattle.std.proofs.lemmas.Grind.{common_steps}
 use Rattle.std.proofs.lemmas.List.{take_more, take_all}
 use Rattle.sfv.specs.Types.{Version}
-use Rattle.sfv_lint_report.specs.Registry.{registered_type}
+use Rattle.sfv_http_fields.specs.Registry.{registered_type}
 use Rattle.sfv_lint_report.specs.Reports.{IsFieldOf, IsCovered, AreFieldsOf, IsWithLine, is_of_name}
 use Rattle.sfv_lint_report.specs.declared.report.Field.{Field}
 use Rattle.sfv_lint_report.specs.declared.report.Report.{Report}

@@ -1,4 +1,3 @@
 pub mod Checks
 pub mod Reports
 pub mod Prints
-pub mod Registry

@@ -3,7 +3,7 @@ use Rattle.std.specs.Prelude.{◌≡◌, ◌⊎◌, ℕ, List, [], ◌∷◌, �
 use Rattle.std.specs.List.{list_any}
 use Rattle.std.specs.Str.{str_eq_ignore_ascii_case}
 use Rattle.sfv.specs.Types.{FieldKind, Version}
-use Rattle.sfv_lint_report.specs.Registry.{registered_type}
+use Rattle.sfv_http_fields.specs.Registry.{registered_type}
 use Rattle.sfv_lint_head.specs.Heads.{IsHead, values_of}
 use Rattle.sfv_lint_head.specs.Lines.{joined_lines, value_lines}
 use Rattle.sfv_lint_report.specs.Checks.{IsOutcome}

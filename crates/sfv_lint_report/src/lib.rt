@@ -3,5 +3,4 @@
 
 pub mod check;
 pub mod print;
-pub mod registry;
 pub mod report;

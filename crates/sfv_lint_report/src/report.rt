@@ -3,7 +3,7 @@
 ghost use Rattle.std.specs.Prelude.{◌≡◌, IfOk, IfErr, OnOk, IfSome, IfNone, Some, None, IsUtf8, map};
 ghost use Rattle.std.specs.List.{list_any};
 ghost use Rattle.std.specs.Str.{str_eq_ignore_ascii_case};
-ghost use Rattle.sfv_lint_report.specs.Registry.{registered_type};
+ghost use Rattle.sfv_http_fields.specs.Registry.{registered_type};
 ghost use Rattle.sfv_lint_head.specs.Heads.{line_of};
 ghost use Rattle.sfv_lint_head.specs.Heads.{HasNoHead};
 ghost use Rattle.sfv_lint_head.specs.declared.head.HeadFault.TheVariants as faults;
@@ -11,7 +11,7 @@ ghost use Rattle.sfv_lint_report.specs.Reports.{IsCheckedField, IsReport, IsValu
 
 use crate::check::{Accepted, check};
 use sfv::{Error, FieldKind, HashSeed, Version};
-use crate::registry::type_of;
+use sfv_http_fields::registry::type_of;
 use sfv_lint_head::head::{FieldLine, HeadFault, read_head, values};
 use sfv_lint_head::lines::{join, split};
 use std::alloc::{AllocError, Global};
