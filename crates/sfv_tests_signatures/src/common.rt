@@ -76,25 +76,44 @@ const TYPES: &[(&str, FieldKind)] = &[
     ("x-empty-header", FieldKind::List),
 ];
 
+const REQUEST: &[(&str, &str)] = &[("@method", "GET")];
+
+fn part<'a>(
+    fields: &'a HeaderMap,
+    trailers: Option<&'a HeaderMap>,
+    derived: &'a [(&'a str, &'a str)],
+    query_params: &'a [(&'a str, &'a str)],
+) -> MessagePart<'a> {
+    MessagePart {
+        fields,
+        trailers,
+        derived,
+        query_params,
+    }
+}
+
+fn base_over<'a>(
+    alloc: Global,
+    list: &InnerList,
+    own: MessagePart<'a>,
+    request: MessagePart<'a>,
+    types: &'a [(&'a str, FieldKind)],
+) -> Result<String, BaseError> {
+    let message = HttpMessage {
+        own,
+        request: Some(request),
+        types,
+    };
+    signature_base(alloc, list, &message)
+}
+
 /// Returns the base of this inner list and the message.
 pub fn base_of(alloc: Global, list: &str) -> Result<Result<String, BaseError>, Fail> {
     let own = fields(alloc, LINES)?;
     let trailers = fields(alloc, TRAILERS)?;
     let asked = fields(alloc, REQUEST_LINES)?;
-    let message = HttpMessage {
-        own: MessagePart {
-            fields: &own,
-            trailers: Some(&trailers),
-            derived: DERIVED,
-            query_params: QUERY,
-        },
-        request: Some(MessagePart {
-            fields: &asked,
-            trailers: None,
-            derived: &[("@method", "GET")],
-            query_params: &[],
-        }),
-        types: TYPES,
-    };
-    Ok(signature_base(alloc, &inner_list(alloc, list)?, &message))
+    let own = part(&own, Some(&trailers), DERIVED, QUERY);
+    let request = part(&asked, None, REQUEST, &[]);
+    let list = inner_list(alloc, list)?;
+    Ok(base_over(alloc, &list, own, request, TYPES))
 }

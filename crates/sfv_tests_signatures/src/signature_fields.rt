@@ -1,7 +1,9 @@
 //! The fields Signature-Input and Signature.
 
-use sfv::{Dictionary, Parser, key_ref};
-use sfv_signatures::{SignatureError, SignatureParam, signature_bytes, signature_input};
+use sfv::{Dictionary, Integer, KeyRef, Parser, StringRef, key_ref};
+use sfv_signatures::{
+    SignatureError, SignatureInput, SignatureParam, signature_bytes, signature_input,
+};
 use std::alloc::Global;
 use std::test::Fail;
 
@@ -18,29 +20,81 @@ fn dictionary(alloc: Global) -> Result<Dictionary, Fail> {
     )
 }
 
+fn is_number(found: Option<Integer>, number: i64) -> bool {
+    found.is_some_and(|found| found.to_i64() == number)
+}
+
+fn is_text(found: Option<StringRef<'_>>, text: &str) -> bool {
+    found.is_some_and(|found| found.as_str() == text)
+}
+
+fn has_texts(input: &SignatureInput<'_>) -> bool {
+    is_text(input.nonce, "n")
+        && is_text(input.alg, "a")
+        && is_text(input.keyid, "k")
+        && is_text(input.tag, "t")
+}
+
+fn has_all(input: &SignatureInput<'_>) -> bool {
+    input.list.items.len() == 2
+        && is_number(input.created, 1_618_884_473)
+        && is_number(input.expires, 1)
+        && has_texts(input)
+}
+
+fn has_none(input: &SignatureInput<'_>) -> bool {
+    input.list.items.is_empty()
+        && input.created.is_none()
+        && input.expires.is_none()
+        && input.nonce.is_none()
+        && input.alg.is_none()
+        && input.keyid.is_none()
+        && input.tag.is_none()
+}
+
+fn is_read(inputs: &Dictionary, label: KeyRef<'_>, is_empty: bool) -> bool {
+    match signature_input(inputs, label) {
+        Ok(input) => {
+            if is_empty {
+                has_none(&input)
+            } else {
+                has_all(&input)
+            }
+        }
+        Err(_) => false,
+    }
+}
+
+fn has_bytes(signatures: &Dictionary, label: KeyRef<'_>, bytes: &[u8]) -> bool {
+    match signature_bytes(signatures, label) {
+        Ok(found) => found == bytes,
+        Err(_) => false,
+    }
+}
+
+fn has_error(signatures: &Dictionary, label: KeyRef<'_>, wanted: SignatureError) -> bool {
+    match signature_bytes(signatures, label) {
+        Ok(_) => false,
+        Err(error) => error == wanted,
+    }
+}
+
+fn has_input_error(inputs: &Dictionary, label: &str, wanted: SignatureError) -> bool {
+    let Ok(label) = KeyRef::from_str(label) else {
+        return false;
+    };
+    match signature_input(inputs, label) {
+        Ok(_) => false,
+        Err(error) => error == wanted,
+    }
+}
+
 #[test]
 fn an_input_has_its_parameters(rt: HostRuntime) -> Result<(), Fail> {
     let inputs = dictionary(rt.alloc())?;
-    let input = signature_input(&inputs, key_ref("sig1"))
-        .ok()
-        .ok_or("sig1")?;
-    assert_eq!(rt; input.list.items.len(), 2);
-    assert_eq!(rt; input.created.ok_or("created")?.to_i64(), 1_618_884_473);
-    assert_eq!(rt; input.expires.ok_or("expires")?.to_i64(), 1);
-    assert_eq!(rt; input.nonce.ok_or("nonce")?.as_str(), "n");
-    assert_eq!(rt; input.alg.ok_or("alg")?.as_str(), "a");
-    assert_eq!(rt; input.keyid.ok_or("keyid")?.as_str(), "k");
-    assert_eq!(rt; input.tag.ok_or("tag")?.as_str(), "t");
-    let none = signature_input(&inputs, key_ref("none"))
-        .ok()
-        .ok_or("none")?;
-    assert!(rt; none.list.items.is_empty() && none.created.is_none() && none.tag.is_none());
-    assert_eq!(rt;
-        signature_bytes(&inputs, key_ref("bytes"))
-            .ok()
-            .ok_or("bytes")?,
-        [1, 2].as_slice()
-    );
+    assert!(rt; is_read(&inputs, key_ref("sig1"), false), "sig1");
+    assert!(rt; is_read(&inputs, key_ref("none"), true), "none");
+    assert!(rt; has_bytes(&inputs, key_ref("bytes"), &[1, 2]), "bytes");
     Ok(())
 }
 
@@ -58,14 +112,12 @@ fn errors_are_named(rt: HostRuntime) -> Result<(), Fail> {
         ("t", SignatureError::WrongType(SignatureParam::Tag)),
     ];
     for &(label, error) in rows {
-        let label = sfv::KeyRef::from_str(label).ok().ok_or("label")?;
-        assert!(rt;
-            signature_input(&inputs, label).is_err_and(|found| found == error),
-            "{label}"
-        );
+        assert!(rt; has_input_error(&inputs, label, error), "{label}");
     }
-    assert!(rt; signature_bytes(&inputs, key_ref("absent")) == Err(SignatureError::UnknownLabel));
-    assert!(rt; signature_bytes(&inputs, key_ref("none")) == Err(SignatureError::WrongMember));
-    assert!(rt; signature_bytes(&inputs, key_ref("item")) == Err(SignatureError::WrongMember));
+    let unknown = SignatureError::UnknownLabel;
+    assert!(rt; has_error(&inputs, key_ref("absent"), unknown), "absent");
+    let wrong = SignatureError::WrongMember;
+    assert!(rt; has_error(&inputs, key_ref("none"), wrong), "none");
+    assert!(rt; has_error(&inputs, key_ref("item"), wrong), "item");
     Ok(())
 }
