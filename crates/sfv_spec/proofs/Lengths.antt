@@ -22,7 +22,9 @@ use Rattle.sfv_spec.specs.declared.version.Version.{Version}
 use Rattle.sfv_spec.specs.declared.field_kind.FieldKind.{FieldKind}
 use Rattle.sfv_spec.specs.declared.field_kind.FieldKind.TheVariants.{Item as item_field, List as list_field}
 use Rattle.sfv_spec.specs.declared.field_kind.FieldKind.TheVariants.{Dictionary as dictionary_field}
-use Rattle.sfv_spec.specs.Grammar.{IsBareText, IsValueText, IsKeyText, IsParameterText, IsParametersText, IsItemText, SomeSpaces, Comma, AreInnerItemsText, IsInnerListText, IsMemberText, IsMemberValueText, IsDictionaryMemberText, AreMembersText, IsFieldText}
+use Rattle.sfv_spec.specs.Grammar.{IsBareText, IsValueText, IsKeyText, IsParametersText, IsItemText, Comma, AreInnerItemsText, IsInnerListText, IsMemberText, IsMemberValueText, IsDictionaryMemberText, AreMembersText, IsFieldText}
+use Rattle.sfv_spec.proofs.Marks.{IsParameterText}
+use Rattle.sfv_spec.proofs.Marks.{SomeSpaces}
 use Rattle.sfv_spec.specs.Ordered.{last_of, without, collapse, ordered_item, ordered_member, ordered}
 use Rattle.sfv_spec.proofs.Collapse.{last_of-collapse}
 use Rattle.sfv_spec.proofs.Last.{last_of-split}

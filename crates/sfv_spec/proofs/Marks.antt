@@ -1,9 +1,12 @@
 -- Names of bytes and of classes of them, and other short words, for readers and proofs.
-use Rattle.std.specs.Prelude.{ℕ, List, map, Bool, true, false, not, ◌&&◌, ◌||◌, ◌==◌, IsUtf8, [], codes, if◌then◌else◌}
+use Rattle.std.specs.Prelude.{ℕ, List, ◌++◌, map, Bool, true, false, not, ◌&&◌, ◌||◌, ◌==◌, IsUtf8, [], codes, if◌then◌else◌}
 use Rattle.std.specs.Int.{is_in_range}
-use Rattle.sfv_spec.specs.Texts.{IsJoining}
+use Rattle.sfv_spec.specs.Texts.{IsJoining, Exactly, ◌⨾◌}
 use Rattle.sfv_spec.specs.Classes.{is_string_byte}
 use Rattle.sfv_spec.specs.Values.{BareValue, boolean, RawParameters, RawMember, item}
+use Rattle.sfv_spec.specs.declared.version.Version.{Version}
+use Rattle.sfv_spec.specs.Base64.{IsBase64Text}
+use Rattle.sfv_spec.specs.Grammar.{Spaces, IsKeyText, IsValueText}
 use Rattle.sfv_spec.specs.Strings.{is_escaped_in_string, IsStringPiece, is_plain_in_display, IsDisplayPiece}
 
 -- b'\t'
@@ -168,3 +171,15 @@ is_symbol c = is_between upper_a upper_z c || is_between lower_a lower_z c || is
 abbrev pub plain_of : Bool → ℕ → Bool
 plain_of true = is_plain_in_display
 plain_of false = is_plain_in_string
+
+-- one or more spaces between the items of an inner list
+abbrev pub SomeSpaces : List ℕ → Type 0
+SomeSpaces = Exactly (codes " ") ⨾ Spaces
+
+-- one parameter with its key
+abbrev pub IsParameterText : Version → List ℕ × BareValue → List ℕ → Type 0
+IsParameterText version p = Exactly (codes ";") ⨾ Spaces ⨾ IsKeyText p.0 ⨾ IsValueText version p.1
+
+-- t is a prefix of some Base64 text
+abbrev pub BeginsBase64 : List ℕ → Type 0
+BeginsBase64 t = (more bytes : List ℕ) × IsBase64Text bytes (t ++ more)

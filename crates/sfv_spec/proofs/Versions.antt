@@ -7,7 +7,9 @@ use Rattle.sfv_spec.specs.Values.{BareValue, date, display_string, RawParameters
 use Rattle.sfv_spec.specs.declared.field_kind.FieldKind.TheVariants.{Item as item_field, List as list_field}
 use Rattle.sfv_spec.specs.declared.field_kind.FieldKind.TheVariants.{Dictionary as dictionary_field}
 use Rattle.sfv_spec.specs.declared.version.Version.TheVariants.{Rfc8941, Rfc9651}
-use Rattle.sfv_spec.specs.Grammar.{SomeSpaces, Comma, IsBareText, IsValueText, IsParameterText, IsParametersText}
+use Rattle.sfv_spec.specs.Grammar.{Comma, IsBareText, IsValueText, IsParametersText}
+use Rattle.sfv_spec.proofs.Marks.{IsParameterText}
+use Rattle.sfv_spec.proofs.Marks.{SomeSpaces}
 use Rattle.sfv_spec.specs.Grammar.{IsItemText, AreInnerItemsText, IsMemberText, IsMemberValueText}
 use Rattle.sfv_spec.specs.Grammar.{IsDictionaryMemberText, AreMembersText}
 use Rattle.sfv_spec.specs.Statements.{NewerAccepts, OneReach}

@@ -12,7 +12,8 @@ use Rattle.sfv_spec.specs.Texts.{RunOf}
 use Rattle.sfv_spec.specs.Classes.{is_key_inner, is_token_inner, is_one_of}
 use Rattle.sfv_spec.specs.Values.{BareValue, boolean, RawParameters, RawItem, RawMember, RawInnerList, item, inner_list}
 use Rattle.sfv_spec.specs.declared.version.Version.{Version}
-use Rattle.sfv_spec.specs.Grammar.{IsKeyText, IsValueText, IsParameterText, IsEnded, IsItemText}
+use Rattle.sfv_spec.specs.Grammar.{IsKeyText, IsValueText, IsEnded, IsItemText}
+use Rattle.sfv_spec.proofs.Marks.{IsParameterText}
 use Rattle.sfv_spec.specs.Grammar.{IsMemberText, IsDictionaryMemberText, IsParametersText, IsMemberValueText}
 use Rattle.sfv_spec.specs.Events.{TreeEvent, entry, keyed_entry, begins_item, begins_inner_list, bare_item, parameter}
 use Rattle.sfv_spec.specs.Events.{parameters_end, inner_list_end, parameters_events, item_events, inner_item_events}

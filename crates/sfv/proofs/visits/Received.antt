@@ -14,7 +14,8 @@ use Rattle.sfv_spec.specs.declared.field_kind.FieldKind.{FieldKind}
 use Rattle.sfv_spec.specs.declared.field_kind.FieldKind.TheVariants.{Item as item_field, List as list_field}
 use Rattle.sfv_spec.specs.declared.field_kind.FieldKind.TheVariants.{Dictionary as dictionary_field}
 use Rattle.sfv_spec.specs.declared.version.Version.{Version}
-use Rattle.sfv_spec.specs.Grammar.{Spaces, SomeSpaces, Comma, IsKeyText, IsEnded, IsItemText}
+use Rattle.sfv_spec.specs.Grammar.{Spaces, Comma, IsKeyText, IsEnded, IsItemText}
+use Rattle.sfv_spec.proofs.Marks.{SomeSpaces}
 use Rattle.sfv_spec.specs.Grammar.{AreInnerItemsText, IsMemberText, IsDictionaryMemberText, IsMemberValueText}
 use Rattle.sfv_spec.specs.Grammar.{AreMembersText, IsFieldText, IsAccepted}
 use Rattle.sfv_spec.specs.Events.{TreeEvent, entry, keyed_entry, begins_item, begins_inner_list, bare_item, parameter}

@@ -13,7 +13,7 @@ use Rattle.sfv_spec.proofs.Lengths.{length-all_bits}
 use Rattle.sfv_spec.proofs.Marks.{colon, equals_sign, upper_a, is_symbol}
 use Rattle.sfv_spec.specs.Texts.{IsLongestBeginning}
 use Rattle.sfv_spec.specs.Base64.{symbol, bits, IsBase64Text}
-use Rattle.sfv_spec.specs.Faults.{BeginsBase64}
+use Rattle.sfv_spec.proofs.Marks.{BeginsBase64}
 use Rattle.sfv_spec.proofs.Settled.{NotBegun}
 use Rattle.sfv_spec.proofs.Bytes.{bytes_settle}
 use Rattle.sfv_model.specs.Content.{symbol_value, most_padding, valid_from, values_in, bytes_from, bytes_of}

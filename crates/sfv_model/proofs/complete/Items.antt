@@ -9,7 +9,8 @@ use Rattle.sfv_spec.specs.Texts.{Exactly, ◌⨾◌}
 use Rattle.sfv_spec.specs.Classes.{is_key_start, is_key_inner, is_token_inner}
 use Rattle.sfv_spec.specs.Values.{BareValue, RawParameters, RawItem}
 use Rattle.sfv_spec.specs.declared.version.Version.{Version}
-use Rattle.sfv_spec.specs.Grammar.{IsKeyText, IsValueText, IsParameterText, IsParametersText, IsItemText}
+use Rattle.sfv_spec.specs.Grammar.{IsKeyText, IsValueText, IsParametersText, IsItemText}
+use Rattle.sfv_spec.proofs.Marks.{IsParameterText}
 use Rattle.sfv_spec.proofs.Settled.{begins, begins-append}
 use Rattle.sfv_spec.proofs.Bare.{is_bare_start, bare_begins}
 use Rattle.sfv_model.specs.Reader.{Apart, byte, give}

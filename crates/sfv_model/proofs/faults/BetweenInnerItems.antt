@@ -8,7 +8,8 @@ use Rattle.sfv_spec.proofs.Marks.{is_space_or_tab}
 use Rattle.sfv_spec.specs.Texts.{RunOf, IsJoining, ◌⨾◌}
 use Rattle.sfv_spec.specs.Values.{boolean, RawItem}
 use Rattle.sfv_spec.specs.declared.version.Version.{Version}
-use Rattle.sfv_spec.specs.Grammar.{IsItemText, IsMemberText, IsMemberValueText, IsDictionaryMemberText, IsParameterText}
+use Rattle.sfv_spec.specs.Grammar.{IsItemText, IsMemberText, IsMemberValueText, IsDictionaryMemberText}
+use Rattle.sfv_spec.proofs.Marks.{IsParameterText}
 use Rattle.sfv_spec.specs.Grammar.{IsKeyText}
 use Rattle.sfv_spec.specs.Events.{TreeEvent, entry, keyed_entry, begins_inner_list, inner_list_end, parameters_end}
 use Rattle.sfv_spec.specs.Events.{inner_item_events, member_events, entry_events, keyed_events}

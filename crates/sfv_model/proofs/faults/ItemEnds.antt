@@ -12,7 +12,8 @@ use Rattle.sfv_spec.specs.Values.{BareValue, integer, decimal, string, token, by
 use Rattle.sfv_spec.specs.Values.{display_string, RawParameters, RawItem}
 use Rattle.sfv_spec.specs.declared.version.Version.{Version}
 use Rattle.sfv_spec.specs.Numbers.{IsIntegerText, AreDigits}
-use Rattle.sfv_spec.specs.Grammar.{IsBareText, IsKeyText, IsValueText, IsParameterText, IsParametersText, IsItemText}
+use Rattle.sfv_spec.specs.Grammar.{IsBareText, IsKeyText, IsValueText, IsParametersText, IsItemText}
+use Rattle.sfv_spec.proofs.Marks.{IsParameterText}
 use Rattle.sfv_spec.proofs.Settled.{joining-nil, joining-cons}
 use Rattle.sfv_model.proofs.sound.Combinators.{run_head, run_tail}
 use Rattle.sfv_model.proofs.complete.Bare.{apart_from}

@@ -11,7 +11,8 @@ use Rattle.sfv_spec.specs.declared.field_kind.FieldKind.{FieldKind}
 use Rattle.sfv_spec.specs.declared.field_kind.FieldKind.TheVariants.{Item as item_field, List as list_field}
 use Rattle.sfv_spec.specs.declared.field_kind.FieldKind.TheVariants.{Dictionary as dictionary_field}
 use Rattle.sfv_spec.specs.declared.version.Version.{Version}
-use Rattle.sfv_spec.specs.Grammar.{IsParameterText, IsParametersText, IsMemberText, IsMemberValueText}
+use Rattle.sfv_spec.specs.Grammar.{IsParametersText, IsMemberText, IsMemberValueText}
+use Rattle.sfv_spec.proofs.Marks.{IsParameterText}
 use Rattle.sfv_spec.specs.Grammar.{IsDictionaryMemberText, AreMembersText, IsItemText, Spaces, IsFieldText, IsAccepted}
 use Rattle.sfv_model.specs.Commas.{HasManyMembers}
 use Rattle.sfv_spec.specs.declared.error_kind.ErrorKind.TheVariants.{TrailingCharactersAfterMember}

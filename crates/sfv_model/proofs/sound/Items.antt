@@ -8,7 +8,8 @@ use Rattle.sfv_spec.specs.Texts.{Exactly, RunOf}
 use Rattle.sfv_spec.specs.Classes.{is_key, is_key_start}
 use Rattle.sfv_spec.specs.Values.{BareValue, boolean, RawParameters}
 use Rattle.sfv_spec.specs.declared.version.Version.{Version}
-use Rattle.sfv_spec.specs.Grammar.{IsBareText, IsKeyText, IsValueText, IsParameterText, IsParametersText, IsItemText}
+use Rattle.sfv_spec.specs.Grammar.{IsBareText, IsKeyText, IsValueText, IsParametersText, IsItemText}
+use Rattle.sfv_spec.proofs.Marks.{IsParameterText}
 use Rattle.sfv_spec.specs.Events.{TreeEvent, bare_item, parameter, parameters_end, parameters_events, item_events}
 use Rattle.sfv_model.specs.Judgements.{Mute}
 use Rattle.sfv_model.specs.Bare.{bare_at}

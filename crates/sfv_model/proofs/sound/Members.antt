@@ -6,7 +6,9 @@ use Rattle.sfv_spec.proofs.Marks.{space, equals_sign, left_parenthesis, right_pa
 use Rattle.sfv_spec.specs.Texts.{Exactly, RunOf, ◌⨾◌}
 use Rattle.sfv_spec.specs.Values.{boolean, RawParameters, RawItem, RawMember, item}
 use Rattle.sfv_spec.specs.declared.version.Version.{Version}
-use Rattle.sfv_spec.specs.Grammar.{Spaces, SomeSpaces, IsKeyText, IsParameterText, IsParametersText, IsItemText}
+use Rattle.sfv_spec.specs.Grammar.{Spaces, IsKeyText, IsParametersText, IsItemText}
+use Rattle.sfv_spec.proofs.Marks.{IsParameterText}
+use Rattle.sfv_spec.proofs.Marks.{SomeSpaces}
 use Rattle.sfv_spec.specs.Grammar.{IsMemberText, IsMemberValueText, IsDictionaryMemberText}
 use Rattle.sfv_spec.specs.Events.{TreeEvent, entry, keyed_entry, begins_item, begins_inner_list, bare_item}
 use Rattle.sfv_spec.specs.Events.{inner_list_end, parameters_events, item_events, member_events, inner_item_events}
