@@ -1,12 +1,12 @@
 //! Decimals (RFC 9651, section 3.3.2).
 
-ghost use Rattle.std.specs.Prelude.{◌≡◌, Some, pos, nat_abs};
+ghost use Rattle.std.specs.Prelude.{◌≡◌, Some, pos, nat_abs, ◌*ℤ◌};
 ghost use Rattle.std.specs.Int.{is_negative};
 ghost use Rattle.sfv_spec.proofs.Marks.{minus_text};
 ghost use Rattle.sfv_spec.specs.Values.{decimal as decimal_value};
 ghost use Rattle.sfv_spec.specs.Canonical.{bare_text};
 ghost use Rattle.sfv_base.specs.Numbers.{integer_of, thousandths_of};
-ghost use Rattle.sfv_base.specs.Conversions.{IsWhole, in_thousandths, GivesIf};
+ghost use Rattle.sfv_base.specs.Conversions.{IsWhole, GivesIf};
 
 use crate::error::Error;
 use crate::integer::Integer;
@@ -57,7 +57,7 @@ impl Decimal {
     // Returns the decimal of a whole number of at most twelve digits.
     fn whole(v: i64) -> Decimal
         requires { IsWhole v }
-        ensures { thousandths_of result ≡ in_thousandths v }
+        ensures { thousandths_of result ≡ v *ℤ pos 1000 }
     {
         Decimal {
             thousandths: Integer::constant(v * 1000),
@@ -113,7 +113,7 @@ impl fmt::Display for Decimal {
 }
 
 impl From<i8> for Decimal {
-    ghost from_gives = { λ v d. thousandths_of d ≡ in_thousandths v };
+    ghost from_gives = { λ v d. thousandths_of d ≡ v *ℤ pos 1000 };
 
     fn from(v: i8) -> Decimal {
         Decimal::whole(i64::from(v))
@@ -121,7 +121,7 @@ impl From<i8> for Decimal {
 }
 
 impl From<i16> for Decimal {
-    ghost from_gives = { λ v d. thousandths_of d ≡ in_thousandths v };
+    ghost from_gives = { λ v d. thousandths_of d ≡ v *ℤ pos 1000 };
 
     fn from(v: i16) -> Decimal {
         Decimal::whole(i64::from(v))
@@ -129,7 +129,7 @@ impl From<i16> for Decimal {
 }
 
 impl From<i32> for Decimal {
-    ghost from_gives = { λ v d. thousandths_of d ≡ in_thousandths v };
+    ghost from_gives = { λ v d. thousandths_of d ≡ v *ℤ pos 1000 };
 
     fn from(v: i32) -> Decimal {
         Decimal::whole(i64::from(v))
@@ -139,7 +139,7 @@ impl From<i32> for Decimal {
 impl TryFrom<i64> for Decimal {
     type Error = Error;
 
-    ghost try_from_gives = { λ v r. GivesIf (IsWhole v) (λ d. thousandths_of d ≡ in_thousandths v) r };
+    ghost try_from_gives = { λ v r. GivesIf (IsWhole v) (λ d. thousandths_of d ≡ v *ℤ pos 1000) r };
 
     fn try_from(v: i64) -> Result<Decimal, Error> {
         Decimal::try_from(Integer::try_from(v)?)
@@ -149,7 +149,7 @@ impl TryFrom<i64> for Decimal {
 impl TryFrom<i128> for Decimal {
     type Error = Error;
 
-    ghost try_from_gives = { λ v r. GivesIf (IsWhole v) (λ d. thousandths_of d ≡ in_thousandths v) r };
+    ghost try_from_gives = { λ v r. GivesIf (IsWhole v) (λ d. thousandths_of d ≡ v *ℤ pos 1000) r };
 
     fn try_from(v: i128) -> Result<Decimal, Error> {
         Decimal::try_from(Integer::try_from(v)?)
@@ -159,7 +159,7 @@ impl TryFrom<i128> for Decimal {
 impl TryFrom<isize> for Decimal {
     type Error = Error;
 
-    ghost try_from_gives = { λ v r. GivesIf (IsWhole v) (λ d. thousandths_of d ≡ in_thousandths v) r };
+    ghost try_from_gives = { λ v r. GivesIf (IsWhole v) (λ d. thousandths_of d ≡ v *ℤ pos 1000) r };
 
     fn try_from(v: isize) -> Result<Decimal, Error> {
         Decimal::try_from(Integer::try_from(v)?)
@@ -169,7 +169,7 @@ impl TryFrom<isize> for Decimal {
 impl TryFrom<u64> for Decimal {
     type Error = Error;
 
-    ghost try_from_gives = { λ v r. GivesIf (IsWhole (pos v)) (λ d. thousandths_of d ≡ in_thousandths (pos v)) r };
+    ghost try_from_gives = { λ v r. GivesIf (IsWhole (pos v)) (λ d. thousandths_of d ≡ pos v *ℤ pos 1000) r };
 
     fn try_from(v: u64) -> Result<Decimal, Error> {
         Decimal::try_from(Integer::try_from(v)?)
@@ -179,7 +179,7 @@ impl TryFrom<u64> for Decimal {
 impl TryFrom<u128> for Decimal {
     type Error = Error;
 
-    ghost try_from_gives = { λ v r. GivesIf (IsWhole (pos v)) (λ d. thousandths_of d ≡ in_thousandths (pos v)) r };
+    ghost try_from_gives = { λ v r. GivesIf (IsWhole (pos v)) (λ d. thousandths_of d ≡ pos v *ℤ pos 1000) r };
 
     fn try_from(v: u128) -> Result<Decimal, Error> {
         Decimal::try_from(Integer::try_from(v)?)
@@ -189,7 +189,7 @@ impl TryFrom<u128> for Decimal {
 impl TryFrom<usize> for Decimal {
     type Error = Error;
 
-    ghost try_from_gives = { λ v r. GivesIf (IsWhole (pos v)) (λ d. thousandths_of d ≡ in_thousandths (pos v)) r };
+    ghost try_from_gives = { λ v r. GivesIf (IsWhole (pos v)) (λ d. thousandths_of d ≡ pos v *ℤ pos 1000) r };
 
     fn try_from(v: usize) -> Result<Decimal, Error> {
         Decimal::try_from(Integer::try_from(v)?)
@@ -197,7 +197,7 @@ impl TryFrom<usize> for Decimal {
 }
 
 impl From<u8> for Decimal {
-    ghost from_gives = { λ v d. thousandths_of d ≡ in_thousandths (pos v) };
+    ghost from_gives = { λ v d. thousandths_of d ≡ pos v *ℤ pos 1000 };
 
     fn from(v: u8) -> Decimal {
         Decimal::whole(i64::from(v))
@@ -205,7 +205,7 @@ impl From<u8> for Decimal {
 }
 
 impl From<u16> for Decimal {
-    ghost from_gives = { λ v d. thousandths_of d ≡ in_thousandths (pos v) };
+    ghost from_gives = { λ v d. thousandths_of d ≡ pos v *ℤ pos 1000 };
 
     fn from(v: u16) -> Decimal {
         Decimal::whole(i64::from(v))
@@ -213,7 +213,7 @@ impl From<u16> for Decimal {
 }
 
 impl From<u32> for Decimal {
-    ghost from_gives = { λ v d. thousandths_of d ≡ in_thousandths (pos v) };
+    ghost from_gives = { λ v d. thousandths_of d ≡ pos v *ℤ pos 1000 };
 
     fn from(v: u32) -> Decimal {
         Decimal::whole(i64::from(v))
@@ -224,7 +224,7 @@ impl TryFrom<Integer> for Decimal {
     type Error = Error;
 
     ghost try_from_gives = { λ n r. GivesIf (IsWhole (integer_of n)) (λ d.
-        thousandths_of d ≡ in_thousandths (integer_of n)) r };
+        thousandths_of d ≡ integer_of n *ℤ pos 1000) r };
 
     fn try_from(n: Integer) -> Result<Decimal, Error> {
         let v = n.to_i64();

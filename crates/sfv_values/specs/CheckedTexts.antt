@@ -1,7 +1,5 @@
 -- Texts of a class, and the results of their constructors.
-use Rattle.std.specs.Prelude.{◌≡◌, ℕ, Bool, List, IsTrue, Result, MatchResult, string_bytes}
-use Rattle.std.specs.declared.alloc.Global.{Global}
-use Rattle.std.specs.declared.string.String.{String}
+use Rattle.std.specs.Prelude.{◌≡◌, ℕ, Bool, List, IsTrue, Result, MatchResult}
 use Rattle.sfv_base.specs.declared.error.Error.{Error}
 use Rattle.sfv_values.specs.declared.text_class.TextClass.{Ghosts}
 use Rattle.sfv_values.specs.declared.checked_text_ref.CheckedTextRef.{CheckedTextRef}
@@ -17,9 +15,3 @@ GivesTextRef {class = class} t r = MatchResult r (λ k. (text_of k ≡ t) × IsT
 -- r is the owned text of exactly these bytes if they are of its class, otherwise the error
 abbrev pub GivesText : (List ℕ → Bool) → (List ℕ → Error → Type 0) → List ℕ → Result (List ℕ) Error → Type 0
 GivesText is_valid IsInvalid t r = MatchResult r (λ k. (k ≡ t) × IsTrue (is_valid t)) (IsInvalid t)
-
--- the same for an owned argument; if it is not of the class, the call returns it with the error
-abbrev pub GivesTextOrInput : (List ℕ → Bool) → (List ℕ → Error → Type 0) → String Global
-    → Result (List ℕ) (Error × String Global) → Type 0
-GivesTextOrInput is_valid IsInvalid s r = MatchResult r (λ k. (k ≡ string_bytes s) × IsTrue (is_valid (string_bytes s)))
-    (λ p. IsInvalid (string_bytes s) p.0 × (p.1 ≡ s))

@@ -1,6 +1,6 @@
 //! Text of a class that owns its bytes.
 
-ghost use Rattle.std.specs.Prelude.{◌≡◌, Some, refl, nat_eq, string_bytes, IsTrue};
+ghost use Rattle.std.specs.Prelude.{◌≡◌, Some, refl, nat_eq, string_bytes, IsTrue, IfOk, IfErr};
 ghost use Rattle.std.specs.Fmt.{debug_variant, debug_str};
 ghost use Rattle.std.specs.Cmp.Lexicographic.{pointwise, slice_cmp, texts_ties, texts_po, nat_list_eq_equiv};
 ghost use Rattle.std.specs.Cmp.Lexicographic.{nat_list_cmp_total};
@@ -8,7 +8,7 @@ ghost use Rattle.std.specs.Cmp;
 ghost use Rattle.std.specs.Ordering.{nat_cmp};
 ghost use Rattle.std.specs.Cmp.Rules.{hashing};
 ghost use Rattle.std.proofs.Common.{rules};
-ghost use Rattle.sfv_values.specs.CheckedTexts.{text_of, GivesText, GivesTextOrInput};
+ghost use Rattle.sfv_values.specs.CheckedTexts.{text_of, GivesText};
 ghost use Rattle.sfv_values.specs.Hashes.{hash_input_of};
 
 use crate::checked_text_ref::CheckedTextRef;
@@ -64,7 +64,8 @@ impl<C: TextClass> CheckedText<C> {
     /// `ErrorKind::Empty` without index. Otherwise it is `ErrorKind::InvalidCharacter` at the first byte that the class
     /// does not allow there.
     pub fn from_string(v: StdString) -> Result<CheckedText<C>, (Error, StdString)>
-        ensures { GivesTextOrInput C.is_valid C.IsInvalid v result }
+        ensures text { IfOk result (λ k. (k ≡ string_bytes v) × IsTrue (C.is_valid k)) }
+        ensures rejected { IfErr result (λ e. C.IsInvalid (string_bytes v) e.0 × (e.1 ≡ v)) }
     {
         match C::check(v.as_bytes()) {
             Ok(()) => Ok(CheckedText::from_validated_string(v)),
