@@ -20,7 +20,7 @@ use Rattle.sfv_tree.specs.declared.visitor.ItemFault.TheVariants as faults
 use Rattle.sfv_tree.specs.Events.{event_of}
 use Rattle.sfv_tree.specs.declared.visitor.Event.{Event}
 use Rattle.sfv_tree.specs.declared.visitor.Event.TheVariants as event
-use Rattle.sfv_tree.specs.ProvidedVisitors.{ReadBareItem, OnRead, item_kept, KeepTakes, KeepFails}
+use Rattle.sfv_tree.specs.ProvidedVisitors.{ReadBareItem, OnRead, KeepTakes, KeepFails}
 use Rattle.sfv_tree.specs.declared.expect_item.ExpectItem.{ExpectItem}
 use Rattle.sfv.specs.Parsers.{IsBorrowedIfPlain}
 use Rattle.sfv.proofs.built.Seeded.{runs_weaker}
@@ -37,21 +37,21 @@ module _ {T : Type 0} (holds : T → BareValue) (is_of : T → ReadBareItem → 
   -- the same by the events
   abbrev Takes : ExpectItem T → TreeEvent → ExpectItem T → Type 0
   Takes s (bare_item value) after =
-      MatchOption (item_kept s) ((item : T) × (holds item ≡ value) × (item_kept after ≡ Some item)) (λ _. after ≡ s)
+      MatchOption s.kept ((item : T) × (holds item ≡ value) × (after.kept ≡ Some item)) (λ _. after ≡ s)
   Takes s e after = after ≡ s
 
   abbrev Fails : ExpectItem T → TreeEvent → ItemFault → Type 0
   Fails s (bare_item value) fault =
-      MatchOption (item_kept s) ((read : ReadBareItem) × (input_value read ≡ value) × fails read fault) (λ _. ⊥)
+      MatchOption s.kept ((read : ReadBareItem) × (input_value read ≡ value) × fails read fault) (λ _. ⊥)
   Fails s e fault = ⊥
 
   takes_event : (s : ExpectItem T) (read : Event) (after : ExpectItem T) → KeepTakes holds is_of s read after
       → Takes s (event_of read) after
-  takes_event s (event.BareItem read) after h = on (item_kept s) h
+  takes_event s (event.BareItem read) after h = on s.kept h
     where
       on : (o : Option T) → MatchOption o ((item : T) × (holds item ≡ input_value read) × is_of item read
-          × (item_kept after ≡ Some item)) (λ _. after ≡ s)
-          → MatchOption o ((item : T) × (holds item ≡ input_value read) × (item_kept after ≡ Some item)) (λ _. after ≡ s)
+          × (after.kept ≡ Some item)) (λ _. after ≡ s)
+          → MatchOption o ((item : T) × (holds item ≡ input_value read) × (after.kept ≡ Some item)) (λ _. after ≡ s)
       on None h = (h.0, h.1, h.3)
       on (Some item) h = h
   takes_event s event.Entry after h = h
@@ -70,7 +70,7 @@ module _ {T : Type 0} (holds : T → BareValue) (is_of : T → ReadBareItem → 
 
   fails_event : (s : ExpectItem T) (read : Event) (fault : ItemFault) → KeepFails fails s read fault
       → Fails s (event_of read) fault
-  fails_event s (event.BareItem read) fault h = on (item_kept s) h
+  fails_event s (event.BareItem read) fault h = on s.kept h
     where
       on : (o : Option T) → MatchOption o (fails read fault) (λ _. ⊥)
           → MatchOption o ((other : ReadBareItem) × (input_value other ≡ input_value read) × fails other fault) (λ _. ⊥)
@@ -88,37 +88,37 @@ module _ {T : Type 0} (holds : T → BareValue) (is_of : T → ReadBareItem → 
   fails_value s e fault h = subst (λ (e : TreeEvent). Fails s e fault) h.1 (fails_event s h.0 fault h.2)
 
   abbrev Finishes : ExpectItem T → T → Type 0
-  Finishes s item = item_kept s ≡ Some item
+  Finishes s item = s.kept ≡ Some item
 
   abbrev FinishFails : ExpectItem T → ItemFault → Type 0
-  FinishFails s fault = (item_kept s ≡ None) × (fault ≡ faults.NoItem)
+  FinishFails s fault = (s.kept ≡ None) × (fault ≡ faults.NoItem)
 
   -- the type rejects a bare item of this value
   abbrev Rejects : BareValue → ItemFault → Type 0
   Rejects value fault = (read : ReadBareItem) × (input_value read ≡ value) × fails read fault
 
   -- what is kept stays
-  stays : (es : List TreeEvent) (item : T) (s last : ExpectItem T) → item_kept s ≡ Some item → FoldsTo Takes s es last
-      → item_kept last ≡ Some item
-  stays [] item s last here run = ap item_kept (sym run) ∙ here
+  stays : (es : List TreeEvent) (item : T) (s last : ExpectItem T) → s.kept ≡ Some item → FoldsTo Takes s es last
+      → last.kept ≡ Some item
+  stays [] item s last here run = ap (λ (s : ExpectItem T). s.kept) (sym run) ∙ here
   stays (e ∷ es) item s last here run =
       let same : run.0 ≡ s = by e run.1 in
-      stays es item run.0 last (ap item_kept same ∙ here) run.2
+      stays es item run.0 last (ap (λ (s : ExpectItem T). s.kept) same ∙ here) run.2
     where
       by : (e : TreeEvent) → Takes s e run.0 → run.0 ≡ s
       by (bare_item value) h = subst (λ (o : Option T). MatchOption o ((item : T) × (holds item ≡ value)
-          × (item_kept run.0 ≡ Some item)) (λ _. run.0 ≡ s)) here h
+          × (run.0.kept ≡ Some item)) (λ _. run.0 ≡ s)) here h
       by _ h = h
 
   -- the bare item of the field is kept
-  kept : (raw : RawItem) (from last : ExpectItem T) → item_kept from ≡ None → FoldsTo Takes from (item_events raw) last
-      → (item : T) × (holds item ≡ raw.bare) × (item_kept last ≡ Some item)
+  kept : (raw : RawItem) (from last : ExpectItem T) → from.kept ≡ None → FoldsTo Takes from (item_events raw) last
+      → (item : T) × (holds item ≡ raw.bare) × (last.kept ≡ Some item)
   kept raw from last none run =
-      let first : (item : T) × (holds item ≡ raw.bare) × (item_kept run.0 ≡ Some item) = rw none at run.1 in
+      let first : (item : T) × (holds item ≡ raw.bare) × (run.0.kept ≡ Some item) = rw none at run.1 in
       (first.0, first.1, stays (parameters_events raw.parameters) first.0 run.0 last first.2 run.2)
 
   -- of an answer it is the field's
-  answer_is : (version : Version) (t : List ℕ) (from : ExpectItem T) (out : T) → item_kept from ≡ None
+  answer_is : (version : Version) (t : List ℕ) (from : ExpectItem T) (out : T) → from.kept ≡ None
       → Answers TakesRead Finishes version item_field t from out
       → (raw : RawItem) × IsFieldText version item_field raw t × (holds out ≡ raw.bare)
   answer_is version t from out none h =
@@ -127,11 +127,11 @@ module _ {T : Type 0} (holds : T → BareValue) (is_of : T → ReadBareItem → 
       (h.raw, h.accepted, ap holds (sym same) ∙ k.1)
 
   -- it fails on a field exactly for the bare item
-  failure_is : (raw : RawItem) (from : ExpectItem T) (fault : ItemFault) → item_kept from ≡ None
+  failure_is : (raw : RawItem) (from : ExpectItem T) (fault : ItemFault) → from.kept ≡ None
       → FailsIn TakesRead FailsRead FinishFails from (item_events raw) ⊤ fault → Rejects raw.bare fault
   failure_is raw from fault none (inl h) = at h.0 h.4 (runs_value h.0 from h.3 h.5) (fails_value h.3 h.1 fault h.6)
     where
-      never : (e : TreeEvent) {item : T} → item_kept h.3 ≡ Some item → Fails h.3 e fault → ⊥
+      never : (e : TreeEvent) {item : T} → h.3.kept ≡ Some item → Fails h.3 e fault → ⊥
       never (bare_item value) here failed = rw here at failed
       never _ here failed = failed
 
@@ -139,11 +139,11 @@ module _ {T : Type 0} (holds : T → BareValue) (is_of : T → ReadBareItem → 
           → Fails h.3 h.1 fault → Rejects raw.bare fault
       at [] split taken failed =
           let e : h.1 ≡ bare_item raw.bare = cc in
-          let here : item_kept h.3 ≡ None = ap item_kept (sym taken) ∙ none in
+          let here : h.3.kept ≡ None = ap (λ (s : ExpectItem T). s.kept) (sym taken) ∙ none in
           rw (e, here) at failed
       at (b ∷ before) split taken failed =
           let e : b ≡ bare_item raw.bare = cc in
-          let first : (item : T) × (holds item ≡ raw.bare) × (item_kept taken.0 ≡ Some item) =
+          let first : (item : T) × (holds item ≡ raw.bare) × (taken.0.kept ≡ Some item) =
           rw (e, none) at taken.1 in
           let here = stays before first.0 taken.0 h.3 first.2 taken.2 in
           absurd (never h.1 here failed)
@@ -153,7 +153,7 @@ module _ {T : Type 0} (holds : T → BareValue) (is_of : T → ReadBareItem → 
 
   -- as the contract of a reading with a visitor that was made has it
   abbrev Made : ExpectItem T → Type 0
-  Made s = item_kept s ≡ None
+  Made s = s.kept ≡ None
 
   pub expect_answers : (version : Version) (t : List ℕ) (r : Result T (ParseError ItemFault))
       → IfOk r (WithSomeVisitor Made (Answers TakesRead Finishes version item_field t))
@@ -178,7 +178,7 @@ module _ {T : Type 0} (holds : T → BareValue) (is_of : T → ReadBareItem → 
       | inl same ↦ same
       | inr k ↦
           let taken = k value begins in
-          let first : (item : T) × (holds item ≡ value) × (item_kept taken.0 ≡ Some item) =
+          let first : (item : T) × (holds item ≡ value) × (taken.0.kept ≡ Some item) =
           rw h.1 at (takes_value h.0 (bare_item value) taken.0 taken.1) in
           absurd (none first.0 first.1)
     ],
@@ -199,13 +199,13 @@ module _ {T : Type 0} (holds : T → BareValue) (is_of : T → ReadBareItem → 
 -- what is kept is made of the bare item as it was read
 pub expect_read : {T : Type 0} (holds : T → BareValue) (is_of : T → ReadBareItem → Type 0) (version : Version) (t : List ℕ)
     (r : Result T (ParseError ItemFault))
-    → IfOk r (WithSomeVisitor (λ (s : ExpectItem T). item_kept s ≡ None)
-    (HasBorrowed (OnRead (KeepTakes holds is_of)) (KeepTakes holds is_of) (λ s item. item_kept s ≡ Some item) version t))
+    → IfOk r (WithSomeVisitor (λ (s : ExpectItem T). s.kept ≡ None)
+    (HasBorrowed (OnRead (KeepTakes holds is_of)) (KeepTakes holds is_of) (λ s item. s.kept ≡ Some item) version t))
     → IfOk r (λ item. (read : ReadBareItem) × is_of item read × (stands : BeginsWithLongest version (input_value read) t)
     × IsBorrowedIfPlain read stands.front)
 expect_read {T} holds is_of version t (Ok out) h =
     let a = h.2 in
-    let first : (item : T) × (holds item ≡ input_value a.0) × is_of item a.0 × (item_kept a.5 ≡ Some item) = rw h.1 at a.6 in
+    let first : (item : T) × (holds item ≡ input_value a.0) × is_of item a.0 × (a.5.kept ≡ Some item) = rw h.1 at a.6 in
     let run = runs_value holds is_of (λ _ _. ⊥) (parameters_events a.1) a.5 a.7.0 a.7.1 in
     let last = stays holds is_of (λ _ _. ⊥) (parameters_events a.1) first.0 a.5 a.7.0 first.3 run in
     let same : first.0 ≡ out = same_Some first.0 out (sym last ∙ a.7.2) in

@@ -11,7 +11,7 @@ use Rattle.sfv.specs.EventValues.{event_of}
 use Rattle.sfv.specs.declared.visitor.Event.{Event}
 use Rattle.sfv.specs.declared.visitor.Event.TheVariants as event
 use Rattle.sfv.specs.BareItems.{input_value}
-use Rattle.sfv.specs.ProvidedVisitors.{ReadBareItem, OnRead, function_waiting, answer_kept, CallTakes, CallFails}
+use Rattle.sfv.specs.ProvidedVisitors.{ReadBareItem, OnRead, CallTakes, CallFails}
 use Rattle.sfv.proofs.Callers.{Answers, FailsIn}
 use Rattle.sfv_examples.specs.Uses.{IsReturnedFor, FailsAtFirst}
 
@@ -23,16 +23,16 @@ module _ {F T : Type 0} (post : F → ReadBareItem → Result T OutOfMemory → 
   Fails = OnRead (CallFails post)
 
   abbrev Finishes : ItemVisitorWith F T → Option T → Type 0
-  Finishes s out = out ≡ answer_kept s
+  Finishes s out = out ≡ s.kept
 
   abbrev FinishFails : ItemVisitorWith F T → OutOfMemory → Type 0
   FinishFails s error = ⊥
 
   -- after the call, an event changes nothing
-  idle : (s after : ItemVisitorWith F T) (read : Event) → function_waiting s ≡ None → CallTakes post s read after
+  idle : (s after : ItemVisitorWith F T) (read : Event) → s.f ≡ None → CallTakes post s read after
       → after ≡ s
   idle s after (event.BareItem item) none h = subst (λ (o : Option F). MatchOption o (after ≡ s) (λ f. (out : T)
-      × post f item (Ok out) × (answer_kept after ≡ Some out) × (function_waiting after ≡ None))) none h
+      × post f item (Ok out) × (after.kept ≡ Some out) × (after.f ≡ None))) none h
   idle s after event.Entry none h = h
   idle s after (event.KeyedEntry key) none h = h
   idle s after event.Item none h = h
@@ -41,15 +41,15 @@ module _ {F T : Type 0} (post : F → ReadBareItem → Result T OutOfMemory → 
   idle s after event.ParametersEnd none h = h
   idle s after event.InnerListEnd none h = h
 
-  stays : (es : List TreeEvent) (s last : ItemVisitorWith F T) → function_waiting s ≡ None → FoldsTo Takes s es last
+  stays : (es : List TreeEvent) (s last : ItemVisitorWith F T) → s.f ≡ None → FoldsTo Takes s es last
       → last ≡ s
   stays [] s last none run = sym run
   stays (e ∷ es) s last none run =
       let same : run.0 ≡ s = idle s run.0 run.1.0 none run.1.2 in
-      stays es run.0 last (ap function_waiting same ∙ none) run.2 ∙ same
+      stays es run.0 last (ap (λ (s : ItemVisitorWith F T). s.f) same ∙ none) run.2 ∙ same
 
   -- and the visitor does not fail
-  never : (s : ItemVisitorWith F T) (read : Event) (error : OutOfMemory) → function_waiting s ≡ None
+  never : (s : ItemVisitorWith F T) (read : Event) (error : OutOfMemory) → s.f ≡ None
       → CallFails post s read error → ⊥
   never s (event.BareItem item) error none h = rw none at h
   never s event.Entry error none h = h
@@ -60,14 +60,14 @@ module _ {F T : Type 0} (post : F → ReadBareItem → Result T OutOfMemory → 
   never s event.ParametersEnd error none h = h
   never s event.InnerListEnd error none h = h
 
-  module _ (f : F) (from : ItemVisitorWith F T) (waits : function_waiting from ≡ Some f) where
+  module _ (f : F) (from : ItemVisitorWith F T) (waits : from.f ≡ Some f) where
     -- the bare item calls the function
     calls : (read : Event) (raw : RawItem) (after : ItemVisitorWith F T) → event_of read ≡ bare_item raw.bare
         → CallTakes post from read after
         → (item : ReadBareItem) × (input_value item ≡ raw.bare) × (out : T) × post f item (Ok out)
-        × (answer_kept after ≡ Some out) × (function_waiting after ≡ None)
+        × (after.kept ≡ Some out) × (after.f ≡ None)
     calls (event.BareItem item) raw after is h =
-        let k : (out : T) × post f item (Ok out) × (answer_kept after ≡ Some out) × (function_waiting after ≡ None) =
+        let k : (out : T) × post f item (Ok out) × (after.kept ≡ Some out) × (after.f ≡ None) =
         rw waits at h in
         (item, (cc), k.0, k.1, k.2, k.3)
     calls event.Entry raw after is h = absurd (cc)
@@ -84,7 +84,7 @@ module _ {F T : Type 0} (post : F → ReadBareItem → Result T OutOfMemory → 
         let run = h.holds.1 in
         let k = calls run.1.0 h.raw run.0 run.1.1 run.1.2 in
         let last : h.holds.0 ≡ run.0 = stays (parameters_events h.raw.parameters) run.0 h.holds.0 k.5 run.2 in
-        (k.0, (h.raw, h.accepted, k.1), k.2, k.3, h.holds.2 ∙ ap answer_kept last ∙ k.4)
+        (k.0, (h.raw, h.accepted, k.1), k.2, k.3, h.holds.2 ∙ ap (λ (s : ItemVisitorWith F T). s.kept) last ∙ k.4)
 
     -- the function failed for the bare item
     failed : (read : Event) (raw : RawItem) (error : OutOfMemory) → event_of read ≡ bare_item raw.bare
@@ -113,7 +113,7 @@ module _ {F T : Type 0} (post : F → ReadBareItem → Result T OutOfMemory → 
             let e : b ≡ bare_item raw.bare = cc in
             let k = calls run.1.0 raw run.0 (run.1.1 ∙ e) run.1.2 in
             let same : h.3 ≡ run.0 = stays before run.0 h.3 k.5 run.2 in
-            absurd (never h.3 fails.0 error (ap function_waiting same ∙ k.5) fails.2)
+            absurd (never h.3 fails.0 error (ap (λ (s : ItemVisitorWith F T). s.f) same ∙ k.5) fails.2)
     fails_for raw error (inr h) = absurd h.3
 
     pub failed_first : (t : List ℕ) (raw : RawItem) (error : OutOfMemory) → BeginsWithLongest Rfc9651 raw.bare t

@@ -17,7 +17,7 @@ use Rattle.sfv.specs.Ordered.{last_of, ordered_member}
 use Rattle.sfv.specs.Statements.{IsParsedAs}
 use Rattle.sfv.specs.Parsers.{IsParseError, IsBorrowedIfPlain}
 use Rattle.sfv.proofs.Callers.{WithSomeVisitor, Answers, FailsIn, HasSyntax, HasVisitorError, HasFirst}
-use Rattle.sfv.specs.ProvidedVisitors.{ReadBareItem, OnRead, item_kept, KeepTakes, KeepFails, IsWrongType}
+use Rattle.sfv.specs.ProvidedVisitors.{ReadBareItem, OnRead, KeepTakes, KeepFails, IsWrongType}
 use Rattle.sfv.specs.BareItems.{input_value}
 use Rattle.sfv.specs.Types.bare_items as bare_items
 use Rattle.sfv.specs.Types.bare_item_types as kinds
@@ -155,13 +155,13 @@ module _ (t : List ℕ) (from : MemberCounter) (start : from.members ≡ 0) wher
 module _ {T : Type 0} (holds : T → BareValue) (is_of : T → ReadBareItem → Type 0)
     (fails : ReadBareItem → ItemFault → Type 0) where
   abbrev Waits : ExpectItem T → Type 0
-  Waits s = item_kept s ≡ None
+  Waits s = s.kept ≡ None
 
   abbrev Keeps : ExpectItem T → T → Type 0
-  Keeps s held = item_kept s ≡ Some held
+  Keeps s held = s.kept ≡ Some held
 
   abbrev KeepsNone : ExpectItem T → ItemFault → Type 0
-  KeepsNone s fault = (item_kept s ≡ None) × (fault ≡ item_faults.NoItem)
+  KeepsNone s fault = (s.kept ≡ None) × (fault ≡ item_faults.NoItem)
 
   pub expected : (t : List ℕ) (r : Result T (ParseError ItemFault))
       → IfOk r (WithSomeVisitor Waits (Answers (OnRead (KeepTakes holds is_of)) Keeps Rfc9651 item_field t))

@@ -4,7 +4,7 @@ use Rattle.std.specs.Prelude.{Bool, Some, ◌||◌, IsTrue, OnOk}
 use native.Mathlib.Omega.{arith}
 use Rattle.sfv_spec.specs.Events.{TreeEvent}
 use Rattle.sfv_spec.specs.Values.{RawMember}
-use Rattle.sfv_tree.specs.Builders.{member_state, member_step, settle_pair, ended, ends}
+use Rattle.sfv_tree.specs.Builders.{member_state, member_step, settle_pair, ended}
 use Rattle.sfv_tree.specs.Events.{event_of, is_moved}
 use Rattle.sfv_tree.specs.declared.visitor.member.Member.{Member}
 use Rattle.sfv_tree.specs.declared.visitor.Event.{Event}
@@ -13,11 +13,6 @@ use Rattle.sfv_tree.specs.declared.visitor.Event.{Event}
 pub settles_pair : (ms : List (List ℕ × RawMember)) (key : List ℕ) (p : Member)
     → settle_pair ms key (member_state p) ≡ (ms, Some (key, member_state p))
 settles_pair ms key p = grind arith
-
--- a member that is complete after an event ends there
-pub ends_here : (p : Member) (e : TreeEvent) (m : RawMember) → ended m ≡ member_step (member_state p) e
-    → ends (member_state p) e ≡ true
-ends_here p e m h = grind arith
 
 -- a member does not end at a bare item
 pub not_moved : (p : Member) (e : Event) (m : RawMember) → ended m ≡ member_step (member_state p) (event_of e)

@@ -76,12 +76,6 @@ takes_memory (inner_parameters l i) parameters_end = true
 takes_memory (list_parameters l) (parameter key value) = true
 takes_memory p e = false
 
--- the member ends at this event
-abbrev pub ends : MemberState → TreeEvent → Bool
-ends (item_parameters i) parameters_end = true
-ends (list_parameters l) parameters_end = true
-ends p e = false
-
 -- the state of a member, with its tree so far
 abbrev pub member_state : Member → MemberState
 member_state members.Begun = begun
@@ -133,10 +127,10 @@ list_step (ms, Some p) e = settle ms (member_step p e)
 list_step (ms, None) entry = (ms, Some begun)
 list_step s e = s
 
--- The event allocates here: within the member, or because the member ends and goes into the list. So a list requests
+-- The event allocates here: within the member, or because the member ends (none is current then) and goes into the list. So a list requests
 -- memory at text to copy, at a parameter, and at the end of the parameters of an item, an inner item or an inner list.
 abbrev pub list_takes_memory : List RawMember × Option MemberState → TreeEvent → Bool
-list_takes_memory (ms, Some p) e = takes_memory p e || ends p e
+list_takes_memory (ms, Some p) e = takes_memory p e || is_none (list_step (ms, Some p) e).1
 list_takes_memory s e = false
 
 -- the state of a builder, with the list so far
@@ -171,7 +165,8 @@ dictionary_step s e = s
 -- dictionary requests memory at a key, at text to copy, at a parameter, at the end of the parameters of an inner item,
 -- and, for a new key, at the end of the parameters of a member.
 abbrev pub dictionary_takes_memory : DictionaryState → TreeEvent → Bool
-dictionary_takes_memory (ms, Some (key, p)) e = takes_memory p e || (ends p e && is_none (lookup (bytes_eq key) ms))
+dictionary_takes_memory (ms, Some (key, p)) e = takes_memory p e
+    || (is_none (dictionary_step (ms, Some (key, p)) e).1 && is_none (lookup (bytes_eq key) ms))
 dictionary_takes_memory (ms, None) (keyed_entry key) = true
 dictionary_takes_memory s e = false
 

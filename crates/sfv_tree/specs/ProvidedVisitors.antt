@@ -28,59 +28,39 @@ ReadBareItem = GenericBareItem StringFromInput (Vec ℕ Global) TokenRef (CowStr
 abbrev pub OnRead : {S X : Type 0} → (S → Event → X → Type 0) → S → TreeEvent → X → Type 0
 OnRead R s e x = (read : Event) × (event_of read ≡ e) × R s read x
 
--- `ParameterVisitorWith`: the inner visitor
-abbrev pub visitor_within : {V F A : Type 0} → ParameterVisitorWith V F A → V
-visitor_within s = s.visitor
-
--- `ParameterVisitorWith`: the function to call after the last event
-abbrev pub function_after : {V F A : Type 0} → ParameterVisitorWith V F A → F
-function_after s = s.f
-
 -- the inner visitor accepts the event, and the function is unchanged
 abbrev pub ForwardTakes : {V F A X : Type 0} → (V → X → V → Type 0) → ParameterVisitorWith V F A → X
     → ParameterVisitorWith V F A → Type 0
-ForwardTakes takes s e t = takes (visitor_within s) e (visitor_within t) × (function_after t ≡ function_after s)
+ForwardTakes takes s e t = takes s.visitor e t.visitor × (t.f ≡ s.f)
 
 -- the function returns r for a result of the inner visitor
 abbrev pub GivesAfter : {V F A R : Type 0} → (V → A → Type 0) → (F → A → R → Type 0) → ParameterVisitorWith V F A → R
     → Type 0
-GivesAfter {A = A} finishes gives s r = (out : A) × finishes (visitor_within s) out × gives (function_after s) out r
-
--- `ItemVisitorWith`: the function that waits for a bare item, until it is called
-abbrev pub function_waiting : {F T : Type 0} → ItemVisitorWith F T → Option F
-function_waiting s = s.f
-
--- `ItemVisitorWith`: the result of the function, after it was called
-abbrev pub answer_kept : {F T : Type 0} → ItemVisitorWith F T → Option T
-answer_kept s = s.kept
+GivesAfter {A = A} finishes gives s r = (out : A) × finishes s.visitor out × gives s.f out r
 
 -- The first bare item calls the function and keeps its result. Every other event changes nothing.
 abbrev pub CallTakes : {F T E : Type 0} → (F → ReadBareItem → Result T E → Type 0) → ItemVisitorWith F T → Event
     → ItemVisitorWith F T → Type 0
-CallTakes {T = T} gives s (event.BareItem item) after = MatchOption (function_waiting s) (after ≡ s) (λ f.
-    (out : T) × gives f item (Ok out) × (answer_kept after ≡ Some out) × (function_waiting after ≡ None))
+CallTakes {T = T} gives s (event.BareItem item) after = MatchOption s.f (after ≡ s) (λ f.
+    (out : T) × gives f item (Ok out) × (after.kept ≡ Some out) × (after.f ≡ None))
 CallTakes gives s e after = after ≡ s
 
 -- the visitor fails if the function fails
 abbrev pub CallFails : {F T E : Type 0} → (F → ReadBareItem → Result T E → Type 0) → ItemVisitorWith F T → Event → E
     → Type 0
-CallFails gives s (event.BareItem item) error = MatchOption (function_waiting s) ⊥ (λ f. gives f item (Err error))
+CallFails gives s (event.BareItem item) error = MatchOption s.f ⊥ (λ f. gives f item (Err error))
 CallFails gives s e error = ⊥
-
--- `ExpectItem`: the item that it keeps
-abbrev pub item_kept : {T : Type 0} → ExpectItem T → Option T
-item_kept s = s.kept
 
 -- The visitor keeps the first bare item, converted to an item that holds its value. Every other event changes nothing.
 abbrev pub KeepTakes : {T : Type 0} → (T → BareValue) → (T → ReadBareItem → Type 0) → ExpectItem T → Event
     → ExpectItem T → Type 0
-KeepTakes {T} holds is_of s (event.BareItem read) after = MatchOption (item_kept s) ((item : T)
-    × (holds item ≡ input_value read) × is_of item read × (item_kept after ≡ Some item)) (λ _. after ≡ s)
+KeepTakes {T} holds is_of s (event.BareItem read) after = MatchOption s.kept ((item : T)
+    × (holds item ≡ input_value read) × is_of item read × (after.kept ≡ Some item)) (λ _. after ≡ s)
 KeepTakes holds is_of s e after = after ≡ s
 
 -- the visitor fails if the first bare item cannot be converted
 abbrev pub KeepFails : {T : Type 0} → (ReadBareItem → ItemFault → Type 0) → ExpectItem T → Event → ItemFault → Type 0
-KeepFails fails s (event.BareItem read) fault = MatchOption (item_kept s) (fails read fault) (λ _. ⊥)
+KeepFails fails s (event.BareItem read) fault = MatchOption s.kept (fails read fault) (λ _. ⊥)
 KeepFails fails s e fault = ⊥
 
 -- the value has another kind than this, and the fault names both kinds

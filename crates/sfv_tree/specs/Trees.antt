@@ -1,6 +1,5 @@
 -- The values of parameters, items, inner lists, lists and dictionaries.
-use Rattle.std.specs.Prelude.{◌≡◌, ℕ, List, [], false, map, Option, option_map, option_copied}
-use Rattle.std.specs.Borrow.{Bor}
+use Rattle.std.specs.Prelude.{◌≡◌, ℕ, List, [], false, map}
 use Rattle.std.specs.declared.alloc.Global.{Global}
 use Rattle.std.specs.declared.vec.Vec.{Vec}
 use Rattle.std.specs.declared.string.String.{String}
@@ -46,11 +45,3 @@ list_tree members = map member_tree members
 -- the pairs of a dictionary, in order
 abbrev pub dictionary_tree : List (List ℕ × ListEntry) → List (List ℕ × RawMember)
 dictionary_tree entries = map (λ p. (p.0, member_tree p.1)) entries
-
--- the value of the member that a look-up by key returned, if it found one
-abbrev pub found_member : Option (Bor ListEntry) → Option RawMember
-found_member found = option_map member_tree (option_copied found)
-
--- the value of the parameter that a look-up by key returned, if it found one
-abbrev pub found_value : Option (Bor OwnedBareItem) → Option BareValue
-found_value found = option_map bare_value (option_copied found)

@@ -11,7 +11,7 @@ ghost use Rattle.sfv_values.specs.declared.bare.BareItemType.TheVariants as kind
 ghost use Rattle.sfv_tree.specs.declared.visitor.ItemFault.{ItemFault};
 ghost use Rattle.sfv_tree.specs.declared.visitor.ItemFault.TheVariants as faults;
 ghost use Rattle.sfv_values.specs.Kinds.{kind_of_value};
-ghost use Rattle.sfv_tree.specs.ProvidedVisitors.{ReadBareItem, IsWrongType, OnRead, item_kept, KeepTakes, KeepFails};
+ghost use Rattle.sfv_tree.specs.ProvidedVisitors.{ReadBareItem, IsWrongType, OnRead, KeepTakes, KeepFails};
 
 use crate::visitor::{BareItemType, Event, ItemFault, Visitor};
 use sfv_base::date::Date;
@@ -226,7 +226,7 @@ pub struct ExpectItem<T> {
 impl<T> ExpectItem<T> {
     /// Creates the visitor. Copies are allocated from `alloc`.
     pub fn new(alloc: Global) -> ExpectItem<T>
-        ensures { item_kept result ≡ None }
+        ensures { result.kept ≡ None }
     {
         ExpectItem { alloc, kept: None }
     }
@@ -245,9 +245,9 @@ impl<'de, T: ExpectedItem<'de>> Visitor<'de> for ExpectItem<T> {
 
     ghost fails_read = { KeepFails T.fails };
 
-    ghost finishes = { λ s item. item_kept s ≡ Some item };
+    ghost finishes = { λ s item. s.kept ≡ Some item };
 
-    ghost finish_fails = { λ s fault. (item_kept s ≡ None) × (fault ≡ faults.NoItem) };
+    ghost finish_fails = { λ s fault. (s.kept ≡ None) × (fault ≡ faults.NoItem) };
 
     #[inline(always)]
     fn event(&mut self, event: Event<'de>) -> Result<(), ItemFault> {

@@ -1,8 +1,8 @@
 //! The seed of the maps' hash.
 
-ghost use Rattle.std.specs.Prelude.{◌≡◌, Some, Ok, Err, IfOk, IfErr, codes};
+ghost use Rattle.std.specs.Prelude.{◌≡◌, Some, Ok, Err, IfOk, IfErr, codes, replicate, List, ℕ};
 ghost use Rattle.std.specs.Fn.{FnOnceReturnsAtMut};
-ghost use Rattle.sfv_tree.specs.HashSeeds.{library_seed, seed_of, eight_zeros, IsSeedFrom, FailsToFill};
+ghost use Rattle.sfv_tree.specs.HashSeeds.{library_seed, seed_of, IsSeedFrom};
 
 use std::fmt;
 use std::hash::{BuildHasher, FoldHasher, Hasher};
@@ -70,8 +70,8 @@ impl BuildHasher for HashSeed {
 /// Returns the error of `fill`.
 pub fn random_seed<E, F: FnOnce(&mut [u8; 8]) -> Result<(), E>>(fill: F) -> Result<HashSeed, E>
     requires { F.IsAlwaysCallable fill }
-    ensures seed { IfOk result (IsSeedFrom (FnOnceReturnsAtMut F.FnOnce fill eight_zeros (Ok tt))) }
-    ensures failed { IfErr result (FailsToFill (FnOnceReturnsAtMut F.FnOnce fill eight_zeros)) }
+    ensures seed { IfOk result (IsSeedFrom (FnOnceReturnsAtMut F.FnOnce fill (replicate 8 0) (Ok tt))) }
+    ensures failed { IfErr result (λ e. (bytes : List ℕ) × FnOnceReturnsAtMut F.FnOnce fill (replicate 8 0) (Err e) bytes) }
 {
     let mut bytes = [0; 8];
     fill(&mut bytes)?;

@@ -1,7 +1,7 @@
 //! A visitor that calls a function on a bare item.
 
 ghost use Rattle.std.specs.Prelude.{◌≡◌, ⊤, Some, None, MatchOption};
-ghost use Rattle.sfv_tree.specs.ProvidedVisitors.{OnRead, function_waiting, answer_kept, CallTakes, CallFails};
+ghost use Rattle.sfv_tree.specs.ProvidedVisitors.{OnRead, CallTakes, CallFails};
 
 use crate::visitor::{Event, Visitor};
 use sfv_values::bare::BareItemFromInput;
@@ -24,8 +24,8 @@ pub fn item_visitor_with<'de, T, E, F: FnOnce(BareItemFromInput<'de>) -> Result<
     f: F,
 ) -> ItemVisitorWith<F, T>
     requires { F.IsAlwaysCallable f }
-    ensures waiting { function_waiting result ≡ Some f }
-    ensures kept { answer_kept result ≡ None }
+    ensures waiting { result.f ≡ Some f }
+    ensures kept { result.kept ≡ None }
 {
     ItemVisitorWith {
         f: Some(f),
@@ -39,7 +39,7 @@ impl<'de, T: Drop, E: Drop, F: FnOnce(BareItemFromInput<'de>) -> Result<T, E> + 
 
     type Error = E;
 
-    ghost is_ready = { λ s. MatchOption (function_waiting s) ⊤ F.IsAlwaysCallable };
+    ghost is_ready = { λ s. MatchOption s.f ⊤ F.IsAlwaysCallable };
 
     ghost takes = { OnRead (CallTakes F.post) };
 
@@ -49,7 +49,7 @@ impl<'de, T: Drop, E: Drop, F: FnOnce(BareItemFromInput<'de>) -> Result<T, E> + 
 
     ghost fails_read = { CallFails F.post };
 
-    ghost finishes = { λ s out. out ≡ answer_kept s };
+    ghost finishes = { λ s out. out ≡ s.kept };
 
     ghost finish_fails = { λ _ _. ⊥ };
 

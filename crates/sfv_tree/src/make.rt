@@ -4,7 +4,6 @@ ghost use Rattle.std.specs.Prelude.{◌≡◌, [], None};
 ghost use Rattle.sfv_tree.specs.declared.hash_seed.HashSeed.{HashSeed};
 ghost use Rattle.sfv_tree.specs.Builders.{item_state, item_head, list_state, dictionary_state, IsItemUnder};
 ghost use Rattle.sfv_tree.specs.Builders.{ListAddsUnder, DictionaryAddsUnder};
-ghost use Rattle.sfv_tree.specs.ProvidedVisitors.{item_kept};
 
 use crate::expect_item::{ExpectItem, ExpectedItem};
 use crate::hash_seed::HashSeed;
@@ -67,7 +66,7 @@ impl<'de> MakeItemVisitor<'de> for Item {
 impl<'de, T: ExpectedItem<'de>> MakeItemVisitor<'de> for T {
     type Visitor = ExpectItem<T>;
 
-    ghost is_made = { λ _ visitor. item_kept visitor ≡ None };
+    ghost is_made = { λ _ visitor. visitor.kept ≡ None };
 
     fn make_item_visitor(alloc: Global, _seed: HashSeed) -> ExpectItem<T> {
         ExpectItem::new(alloc)

@@ -1,7 +1,7 @@
 //! A visitor that passes the result of another visitor to a function.
 
 ghost use Rattle.std.specs.Prelude.{◌≡◌, ◌⊎◌, Ok, Err};
-ghost use Rattle.sfv_tree.specs.ProvidedVisitors.{visitor_within, function_after, ForwardTakes, GivesAfter};
+ghost use Rattle.sfv_tree.specs.ProvidedVisitors.{ForwardTakes, GivesAfter};
 
 use crate::visitor::{Event, Visitor};
 use std::marker::PhantomData;
@@ -28,8 +28,8 @@ pub fn parameter_visitor_with<
     F: FnOnce(A) -> Result<T, E>,
 >(visitor: V, f: F) -> ParameterVisitorWith<V, F, A>
     requires { F.IsAlwaysCallable f }
-    ensures within { visitor_within result ≡ visitor }
-    ensures after { function_after result ≡ f }
+    ensures within { result.visitor ≡ visitor }
+    ensures after { result.f ≡ f }
 {
     ParameterVisitorWith {
         visitor,
@@ -50,20 +50,20 @@ impl<
 
     type Error = E;
 
-    ghost is_ready = { λ s. V.is_ready (visitor_within s) × F.IsAlwaysCallable (function_after s) };
+    ghost is_ready = { λ s. V.is_ready s.visitor × F.IsAlwaysCallable s.f };
 
     ghost takes = { ForwardTakes V.takes };
 
-    ghost fails = { λ s e fault. V.fails (visitor_within s) e fault };
+    ghost fails = { λ s e fault. V.fails s.visitor e fault };
 
     ghost takes_read = { ForwardTakes V.takes_read };
 
-    ghost fails_read = { λ s e fault. V.fails_read (visitor_within s) e fault };
+    ghost fails_read = { λ s e fault. V.fails_read s.visitor e fault };
 
     ghost finishes = { λ s out. GivesAfter V.finishes F.post s (Ok out) };
 
     ghost finish_fails = { λ s fault.
-        V.finish_fails (visitor_within s) fault ⊎ GivesAfter V.finishes F.post s (Err fault) };
+        V.finish_fails s.visitor fault ⊎ GivesAfter V.finishes F.post s (Err fault) };
 
     #[inline(always)]
     fn event(&mut self, event: Event<'de>) -> Result<(), E> {

@@ -7,7 +7,7 @@ use Rattle.sfv_tree.specs.Trees.{member_tree}
 use Rattle.sfv_tree.specs.Builders.{member_state, member_step, dictionary_state, dictionary_takes_memory, ended}
 use Rattle.sfv_tree.specs.Events.{event_of}
 use Rattle.sfv_tree.specs.declared.visitor.member.Member.{Member}
-use Rattle.sfv_tree.proofs.Members.{ends_here, or_true}
+use Rattle.sfv_tree.proofs.Members.{or_true}
 use Rattle.sfv_tree.proofs.visitor.dictionary_builder.DictionaryBuilder.step.Goals as goal
 
 pub returns-in_ok-insert-clause-state : goal.returns-in_ok-insert-clause-state
@@ -28,5 +28,5 @@ returns-in_err-insert-clause-out_of_memory c =
     rw (c.if-branch.true, whole.1) at c.in_ok-step.ensures.state in
     let absent : get bytes_eq c.args.self.now.dictionary c.in-Some.field-0-0 ≡ None = c.in_err-insert.ensures.absent in
     let takes : IsTrue (dictionary_takes_memory (dictionary_state c.args.self.now) (event_of c.args.event)) =
-    rw (held, ends_here _ _ _ state, lookup-map_values member_tree, absent) (or_true _) in
+    rw (held, ← state, lookup-map_values member_tree, absent) (or_true _) in
     search rules
