@@ -42,10 +42,6 @@ use Rattle.sfv_tree.specs.ProvidedVisitors.{ReadBareItem}
 use Rattle.sfv.specs.declared.parser.Parser.{Parser}
 use Rattle.sfv.specs.Memory.{NeedsMark}
 
--- the parser with this input, version and hash seed
-abbrev pub parser_of : Bor (List ℕ) → Version → HashSeed → Parser
-parser_of input version seed = record { input = input; version = version; seed = seed }
-
 -- the input of a parser
 abbrev pub input_of : Parser → List ℕ
 input_of p = p.input.now

@@ -50,14 +50,14 @@ pub struct Parser<'de> {
 }
 
 impl<'de> Parser<'de> {
-    ghost use Rattle.sfv.specs.Parsers.{parser_of, input_of, version_of, IsParseError, IsAnswerBy, IsSyntaxErrorBy};
+    ghost use Rattle.sfv.specs.Parsers.{input_of, version_of, IsParseError, IsAnswerBy, IsSyntaxErrorBy};
     ghost use Rattle.sfv.specs.Parsers.{ReceivesBeforeErrorBy, IsVisitorErrorBy, ReceivesFirstBy, ReceivesAsReadBy};
     ghost use Rattle.sfv.specs.Parsers.{ReadsBy, ReadsItemBy};
     ghost use Rattle.sfv.specs.Memory.{NeedsMark, NeedsMemory};
 
     /// Creates a parser for `input` under RFC 9651, with the library's hash seed.
     pub fn new(input: &'de [u8]) -> Parser<'de>
-        ensures { result ≡ parser_of input.entry versions.Rfc9651 library_seed }
+        ensures { result ≡ record { input = input.entry; version = versions.Rfc9651; seed = library_seed } }
     {
         Parser {
             input,
@@ -68,7 +68,7 @@ impl<'de> Parser<'de> {
 
     /// Sets the version of the standard.
     pub fn with_version(mut self, version: Version) -> Parser<'de>
-        ensures { result ≡ parser_of self.entry.input version self.entry.seed }
+        ensures { result ≡ record self.entry { version = version } }
     {
         self.version = version;
         self
@@ -76,7 +76,7 @@ impl<'de> Parser<'de> {
 
     /// Sets the hash seed of the dictionaries and parameters that the parser builds.
     pub fn with_hash_seed(mut self, seed: HashSeed) -> Parser<'de>
-        ensures { result ≡ parser_of self.entry.input self.entry.version seed }
+        ensures { result ≡ record self.entry { seed = seed } }
     {
         self.seed = seed;
         self

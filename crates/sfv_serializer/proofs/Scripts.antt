@@ -24,7 +24,7 @@ use Rattle.sfv_serializer.specs.declared.sequence_kind.InnerListItems.{InnerList
 use Rattle.sfv_serializer.specs.declared.sequence.SequenceSerializer.{SequenceSerializer}
 use Rattle.sfv_serializer.specs.declared.sink.Sink.{Ghosts as Sink}
 use Rattle.sfv_serializer.specs.Serializers.{HasAppended, KeepsSequence, GrowsSequence, Removes, lent_sequence}
-use Rattle.sfv_serializer.specs.Serializers.{sequence_sink, is_empty_so_far, length_before}
+use Rattle.sfv_serializer.specs.Serializers.{sequence_sink, is_empty_so_far}
 
 is_first_after-append : {A : Type 0} (b : Bool) (xs ys : List A)
     → is_first_after b (xs ++ ys) ≡ is_first_after (is_first_after b xs) ys
@@ -155,7 +155,7 @@ module _ {W K : Type 0} (w : Sink W) (again : (r s t : W) → w.same r s → w.s
   -- an inner list was begun, and was taken away again
   pub taken_away : (s v : SequenceSerializer W K) (t u : SequenceSerializer (MutBor (SequenceSerializer W K)) InnerListItems) (more : List ℕ)
       → HasAppended w s (sequence_sink t).now more (is_empty_so_far s)
-      → length_before t ≡ string_len (w.text (sequence_sink s)) → GrowsSequence (lent_sequence w) t u
+      → t.kind.len_before ≡ string_len (w.text (sequence_sink s)) → GrowsSequence (lent_sequence w) t u
       → Removes w u (sequence_sink u).now v → KeepsSequence w s v
   taken_away s v t u more begun long grown cut =
       let whole : List ℕ = string_bytes (w.text (sequence_sink s)) in (
@@ -172,7 +172,7 @@ module _ {W K : Type 0} (w : Sink W) (again : (r s t : W) → w.same r s → w.s
   -- and nothing is left of it
   pub away_grown : (s v : SequenceSerializer W K) (t u : SequenceSerializer (MutBor (SequenceSerializer W K)) InnerListItems) (more : List ℕ) (b : W) (k : K)
       → ((s : W) → w.same s s) → HasAppended w s (sequence_sink t).now more (is_empty_so_far s)
-      → length_before t ≡ string_len (w.text (sequence_sink s)) → GrowsSequence (lent_sequence w) t u
+      → t.kind.len_before ≡ string_len (w.text (sequence_sink s)) → GrowsSequence (lent_sequence w) t u
       → Removes w u (sequence_sink u).now v → b ≡ v.sink → k ≡ v.kind
       → w.same s.sink b × Extends (string_bytes (w.text s.sink)) (string_bytes (w.text b)) × (k ≡ s.kind)
       × (string_capacity (w.text s.sink) ≤ string_capacity (w.text b))

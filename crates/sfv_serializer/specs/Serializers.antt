@@ -14,42 +14,33 @@ use Rattle.sfv_tree.specs.Trees.{OwnedBareItem}
 use Rattle.sfv_writer.specs.Versions.{OnUnsupported, PartKind, parts_text, TakesAll, StopsEarly, parameter_pairs}
 use Rattle.sfv_writer.specs.Written.{Extends, IsTruncatedTo, LacksRoom, separator_before, is_first_after}
 use Rattle.sfv_writer.specs.declared.serialize_error.SerializeError.{SerializeError}
-use Rattle.sfv_serializer.specs.declared.item_serializer.ItemSerializer.{ItemSerializer}
 use Rattle.sfv_serializer.specs.declared.parameter_serializer.ParameterSerializer.{ParameterSerializer}
 use Rattle.sfv_serializer.specs.declared.sink.Sink.{Ghosts as Sink}
 use Rattle.sfv_serializer.specs.declared.sequence_kind.InnerListItems.{InnerListItems}
 use Rattle.sfv_serializer.specs.declared.sequence.SequenceSerializer.{SequenceSerializer}
 use Rattle.sfv_serializer.specs.contracts.sequence.SequenceSerializer as sequence
-use Rattle.sfv_serializer.specs.Texts.{Text, text_row}
-
--- the borrowed text of an item's serializer
-abbrev pub item_buffer : ItemSerializer → MutBor Text
-item_buffer s = s.buffer
+use Rattle.sfv_serializer.specs.Texts.{Text}
 
 -- the borrowed output of a parameter serializer
 abbrev pub params_sink : {X : Type 0} → ParameterSerializer X → MutBor X
 params_sink s = s.sink
 
--- the version of an item's serializer
-abbrev pub item_version : ItemSerializer → Version
-item_version s = s.version
-
 -- the version of a parameter serializer
 abbrev pub params_version : {X : Type 0} → ParameterSerializer X → Version
 params_version s = s.version
 
--- after an error, the borrowed text is unchanged, with no less room
-abbrev pub TextAfterErr : {E : Type 0} → MutBor Text → Result (ParameterSerializer Text) E → Fml
-TextAfterErr lent result =
-    RestsIfErr text_row lent (λ p. (params_sink p).ghost_name) result
-    (λ last. (string_bytes last ≡ string_bytes lent.now) × (string_capacity lent.now ≤ string_capacity last))
+-- on success, the result borrows what was lent; after an error, this holds of the old and the new state of that
+abbrev pub AfterErr : {R E : Type 0} (row : RattleType) → (R → MutBor row.Denot) → (row.Denot → row.Denot → Type 0)
+    → MutBor row.Denot → Result R E → Fml
+AfterErr row sink says lent result = RestsIfErr row lent (λ r. (sink r).ghost_name) result (says lent.now)
 
--- The same for a call that writes one value. After `Unsupported`, the capacity is unchanged, too.
-abbrev pub TextAfterOneErr : MutBor Text → Result (ParameterSerializer Text) SerializeError → Fml
-TextAfterOneErr lent result =
-    RestsIfErr text_row lent (λ p. (params_sink p).ghost_name) result
-    (λ last. (string_bytes last ≡ string_bytes lent.now) × (string_capacity lent.now ≤ string_capacity last)
-    × OnUnsupported result (last ≡ lent.now))
+-- the same text, with no less room
+abbrev pub KeepsText : Text → Text → Type 0
+KeepsText s t = (string_bytes t ≡ string_bytes s) × (string_capacity s ≤ string_capacity t)
+
+-- the same after an error of a call that writes one value; after `Unsupported`, the capacity is unchanged, too
+abbrev pub KeepsTextAfterOne : {T : Type 0} → Result T SerializeError → Text → Text → Type 0
+KeepsTextAfterOne result s t = KeepsText s t × OnUnsupported result (t ≡ s)
 
 -- this text is appended to the borrowed text, which has no less room, and which `p` writes to
 abbrev pub ContinuesText : MutBor Text → List ℕ → ParameterSerializer Text → Type 0
@@ -76,10 +67,6 @@ is_empty_so_far s = s.is_first
 abbrev pub sequence_version : {W K : Type 0} → SequenceSerializer W K → Version
 sequence_version s = s.version
 
--- the length of the text before the inner list, its separator and its key
-abbrev pub length_before : {X : Type 0} → SequenceSerializer X InnerListItems → ℕ
-length_before s = s.kind.len_before
-
 -- a serializer of parts: the members of a list or a dictionary, or the items of an inner list
 abbrev pub Parts : Type 0 → Type 0 → Type 0
 Parts = SequenceSerializer
@@ -101,10 +88,6 @@ module _ {W : Type 0} (w : Sink W) where
     with_text = λ s t. record s { now = record s.now { sink = w.with_text s.now.sink t } };
     same = IsSameSequence;
   }
-
-  -- the text has the same capacity
-  abbrev pub KeepsCapacity : {K : Type 0} → Parts W K → Parts W K → Type 0
-  KeepsCapacity s t = string_capacity (w.text t.sink) ≡ string_capacity (w.text s.sink)
 
   -- The same output, version and kind, and no less room; this holds of the text; and `is_first` says whether no part
   -- is written then.
@@ -137,7 +120,7 @@ module _ {W : Type 0} (w : Sink W) where
   -- the inner list `l` is removed: the text before it is back
   abbrev pub Removes : {K : Type 0} → InnerList W K → Parts W K → Parts W K → Type 0
   Removes l s t = Becomes
-      (IsTruncatedTo (length_before l) (string_bytes (w.text s.sink)) (string_bytes (w.text t.sink))) s.is_first s t
+      (IsTruncatedTo l.kind.len_before (string_bytes (w.text s.sink)) (string_bytes (w.text t.sink))) s.is_first s t
 
 module _ {W K : Type 0} (w : Sink W) where
   -- `t` is `s` with the text of all parts that the iterator gives, and the version of `s` has their values
@@ -161,19 +144,11 @@ module _ {W K : Type 0} (w : Sink W) where
 
   -- `l` has no item, and keeps the length of the text of `s`
   abbrev pub BeginsAfter : Parts W K → InnerList W K → Type 0
-  BeginsAfter s l = (is_empty_so_far l ≡ true) × (length_before l ≡ string_len (w.text s.sink))
-
-  -- the inner list `l` is closed, and `p` writes its parameters
-  abbrev pub HasClosed : InnerList W K → ParameterSerializer (Parts W K) → Type 0
-  HasClosed l p = HasAppended w (sequence_sink l).now (params_sink p).now (codes ")") false
+  BeginsAfter s l = (is_empty_so_far l ≡ true) × (l.kind.len_before ≡ string_len (w.text s.sink))
 
   -- this text is appended to the borrowed parts, which `p` writes to
   abbrev pub Continues : MutBor (Parts W K) → List ℕ → ParameterSerializer (Parts W K) → Type 0
   Continues lent more p = HasAppended w lent.now (params_sink p).now more lent.now.is_first
-
-  -- the text that parameters are appended to
-  abbrev pub params_text : ParameterSerializer (Parts W K) → Text
-  params_text s = w.text (params_sink s).now.sink
 
   -- the capacity of the text of `s` doesn't hold a next part of this text, with the separator before it
   abbrev pub LacksNext : List ℕ → Parts W K → List ℕ → Type 0
@@ -190,15 +165,6 @@ module _ {X S : Type 0} (gives : S → Option (Bor (List ℕ) × Bor OwnedBareIt
   abbrev pub FailsToWriteParameters : ParameterSerializer X → Text → SerializeError → Type 0
   FailsToWriteParameters s text = StopsEarly parameter_pairs (params_version s) gives pairs [] text true
 
-module _ (W K : RattleType) where
-  -- on success, a serializer of parameters borrows the parts; after an error, this holds of their old and new state
-  abbrev pub AfterErr : {E : Type 0} → (Parts W.Denot K.Denot → Parts W.Denot K.Denot → Type 0)
-      → MutBor (Parts W.Denot K.Denot) → Result (ParameterSerializer (Parts W.Denot K.Denot)) E → Fml
-  AfterErr says lent result =
-      RestsIfErr (sequence.the_row W K) lent (λ p. (params_sink p).ghost_name) result (says lent.now)
-
-  -- the same for a serializer of an inner list
-  abbrev pub AfterErrInner : {E : Type 0} → (Parts W.Denot K.Denot → Parts W.Denot K.Denot → Type 0)
-      → MutBor (Parts W.Denot K.Denot) → Result (InnerList W.Denot K.Denot) E → Fml
-  AfterErrInner says lent result = RestsIfErr (sequence.the_row W K) lent
-      (λ (l : InnerList W.Denot K.Denot). (sequence_sink l).ghost_name) result (says lent.now)
+-- the type of serializers of parts in the logic of borrows
+abbrev pub parts_row : RattleType → RattleType → RattleType
+parts_row W K = sequence.the_row W K

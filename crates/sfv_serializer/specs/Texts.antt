@@ -13,7 +13,3 @@ Text = String Global
 -- the type of such a text in the logic of borrows
 abbrev pub text_row : RattleType
 text_row = text.the_row heap.the_row ghosts
-
--- the same borrow with another text
-abbrev pub with_lent : MutBor Text → Text → MutBor Text
-with_lent s t = record s { now = t }

@@ -10,7 +10,7 @@ ghost use Rattle.sfv_values.specs.CheckedTexts.{text_of};
 ghost use Rattle.sfv_writer.specs.Versions.{OnOutOfMemory, ChecksVersionFirst, dictionary_members};
 ghost use Rattle.sfv_serializer.specs.Serializers.{KeepsSequence, KeepsAfterOne, sequence_version, params_sink};
 ghost use Rattle.sfv_serializer.specs.Serializers.{params_version, sequence_sink, WritesAll, FailsToWrite};
-ghost use Rattle.sfv_serializer.specs.Serializers.{AfterErrInner, AfterErr, HasAppendedItem, HasAppendedOpening};
+ghost use Rattle.sfv_serializer.specs.Serializers.{AfterErr, parts_row, HasAppendedItem, HasAppendedOpening};
 ghost use Rattle.sfv_serializer.specs.Serializers.{BeginsAfter, LacksNext, keyed};
 ghost use Rattle.sfv_serializer.specs.contracts.sequence_kind.DictMembers.{the_row as dict_row};
 
@@ -50,7 +50,7 @@ impl<W: Sink> SequenceSerializer<W, DictMembers> {
         name: KeyRef<'_>,
         value: RefBareItem<'_>,
     ) -> Result<ParameterSerializer<'_, DictSerializer<W>>, SerializeError>
-        ensures* kept { sem 𝓛 (AfterErr W.row dict_row (KeepsAfterOne W.Sink result) self.entry result) }
+        ensures* kept { sem 𝓛 (AfterErr (parts_row W.row dict_row) params_sink (KeepsAfterOne W.Sink result) self.entry result) }
         ensures lent { IfOk result (λ p. (params_sink p).ghost_name ≡ self.entry.ghost_name) }
         ensures version { IfOk result (λ p. params_version p ≡ sequence_version self.old) }
         ensures unsupported { ChecksVersionFirst (sequence_version self.old) (ref_value value.entry ∷ []) result }
@@ -80,7 +80,7 @@ impl<W: Sink> SequenceSerializer<W, DictMembers> {
         &mut self,
         name: KeyRef<'_>,
     ) -> Result<InnerListSerializer<&mut DictSerializer<W>>, OutOfMemory>
-        ensures* kept { sem 𝓛 (AfterErrInner W.row dict_row (KeepsSequence W.Sink) self.entry result) }
+        ensures* kept { sem 𝓛 (AfterErr (parts_row W.row dict_row) sequence_sink (KeepsSequence W.Sink) self.entry result) }
         ensures lent { IfOk result (λ s. (sequence_sink s).ghost_name ≡ self.entry.ghost_name) }
         ensures version { IfOk result (λ s. sequence_version s ≡ sequence_version self.old) }
         ensures text { IfOk result (HasAppendedOpening W.Sink (codes ", ") self.old (text_of name.entry ++ codes "=(")) }

@@ -1,11 +1,11 @@
 //! The serializer of inner lists (RFC 9651, section 4.1.1.1).
 
-ghost use Rattle.std.specs.Prelude.{◌≡◌, [], false, IfOk, IfErr, OnOk, OnErr, codes};
+ghost use Rattle.std.specs.Prelude.{◌≡◌, [], false, IfOk, IfErr, OnOk, OnErr, codes, string_capacity};
 ghost use Rattle.std.specs.Borrow.{sem};
 ghost use Rattle.std.specs.Iterator.{IsFinite};
 ghost use Rattle.sfv_writer.specs.Versions.{inner_items};
-ghost use Rattle.sfv_serializer.specs.Serializers.{KeepsSequence, KeepsCapacity, sequence_sink, sequence_version};
-ghost use Rattle.sfv_serializer.specs.Serializers.{WritesAll, FailsToWrite, AfterErr, Removes, HasClosed, LacksNext};
+ghost use Rattle.sfv_serializer.specs.Serializers.{KeepsSequence, sequence_sink, sequence_version, HasAppended};
+ghost use Rattle.sfv_serializer.specs.Serializers.{WritesAll, FailsToWrite, AfterErr, Removes, LacksNext, parts_row};
 ghost use Rattle.sfv_serializer.specs.Serializers.{params_sink, params_version};
 
 use crate::parameter_serializer::ParameterSerializer;
@@ -51,10 +51,10 @@ impl<'s, W: Sink, K> SequenceSerializer<&'s mut SequenceSerializer<W, K>, InnerL
     /// Returns `OutOfMemory` if memory runs out. The inner list is then removed with its separator or key, as by
     /// `abandon`.
     pub fn finish(self) -> Result<ParameterSerializer<'s, SequenceSerializer<W, K>>, OutOfMemory>
-        ensures* removed { sem 𝓛 (AfterErr W.row K.row (Removes W.Sink self.entry) (sequence_sink self.entry) result) }
+        ensures* removed { sem 𝓛 (AfterErr (parts_row W.row K.row) params_sink (Removes W.Sink self.entry) (sequence_sink self.entry) result) }
         ensures lent { IfOk result (λ p. (params_sink p).ghost_name ≡ (sequence_sink self.entry).ghost_name) }
         ensures version { IfOk result (λ p. params_version p ≡ sequence_version (sequence_sink self.entry).now) }
-        ensures text { IfOk result (HasClosed W.Sink self.entry) }
+        ensures text { IfOk result (λ p. HasAppended W.Sink (sequence_sink self.entry).now (params_sink p).now (codes ")") false) }
         ensures room { OnErr result (LacksNext W.Sink [] (sequence_sink self.entry).now (codes ")")) }
     {
         let SequenceSerializer {
@@ -78,7 +78,7 @@ impl<'s, W: Sink, K> SequenceSerializer<&'s mut SequenceSerializer<W, K>, InnerL
     /// began.
     pub fn abandon(self)
         ensures text { Removes W.Sink self.entry (sequence_sink self.entry).now self.exit.0.now }
-        ensures room { KeepsCapacity W.Sink (sequence_sink self.entry).now self.exit.0.now }
+        ensures room { string_capacity (W.text self.exit.0.now.sink) ≡ string_capacity (W.text (sequence_sink self.entry).now.sink) }
     {
         let SequenceSerializer {
             sink,

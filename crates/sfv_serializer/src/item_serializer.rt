@@ -8,8 +8,9 @@ ghost use Rattle.sfv_spec.specs.Canonical.{bare_text};
 ghost use Rattle.sfv_values.specs.BareItems.{ref_value};
 ghost use Rattle.sfv_writer.specs.Written.{LacksRoom};
 ghost use Rattle.sfv_writer.specs.Versions.{OnOutOfMemory, ChecksVersionFirst};
-ghost use Rattle.sfv_serializer.specs.Serializers.{TextAfterOneErr, ContinuesText, item_buffer, params_sink};
-ghost use Rattle.sfv_serializer.specs.Serializers.{item_version, params_version};
+ghost use Rattle.sfv_serializer.specs.Serializers.{AfterErr, KeepsTextAfterOne, ContinuesText, params_sink};
+ghost use Rattle.sfv_serializer.specs.Serializers.{params_version};
+ghost use Rattle.sfv_serializer.specs.Texts.{text_row};
 
 use crate::fragment::BareItemFragment;
 use crate::parameter_serializer::ParameterSerializer;
@@ -36,10 +37,10 @@ impl<'a> ItemSerializer<'a> {
     /// Creates a serializer that appends to `buffer`, under RFC 9651.
     #[inline(always)]
     pub fn with_buffer(buffer: &'a mut StdString) -> ItemSerializer<'a>
-        ensures same_buffer { (item_buffer result).ghost_name ≡ buffer.entry.ghost_name }
-        ensures text { string_bytes (item_buffer result).now ≡ string_bytes buffer.old }
-        ensures room { string_capacity (item_buffer result).now ≡ string_capacity buffer.old }
-        ensures version { item_version result ≡ Rfc9651 }
+        ensures same_buffer { result.buffer.ghost_name ≡ buffer.entry.ghost_name }
+        ensures text { string_bytes result.buffer.now ≡ string_bytes buffer.old }
+        ensures room { string_capacity result.buffer.now ≡ string_capacity buffer.old }
+        ensures version { result.version ≡ Rfc9651 }
     {
         ItemSerializer::with_buffer_for(buffer, Version::Rfc9651)
     }
@@ -47,10 +48,10 @@ impl<'a> ItemSerializer<'a> {
     /// Creates a serializer that appends to `buffer`, and accepts only values of `version`.
     #[inline(always)]
     pub fn with_buffer_for(buffer: &'a mut StdString, version: Version) -> ItemSerializer<'a>
-        ensures same_buffer { (item_buffer result).ghost_name ≡ buffer.entry.ghost_name }
-        ensures text { string_bytes (item_buffer result).now ≡ string_bytes buffer.old }
-        ensures room { string_capacity (item_buffer result).now ≡ string_capacity buffer.old }
-        ensures version { item_version result ≡ version }
+        ensures same_buffer { result.buffer.ghost_name ≡ buffer.entry.ghost_name }
+        ensures text { string_bytes result.buffer.now ≡ string_bytes buffer.old }
+        ensures room { string_capacity result.buffer.now ≡ string_capacity buffer.old }
+        ensures version { result.version ≡ version }
     {
         ItemSerializer { buffer, version }
     }
@@ -66,12 +67,12 @@ impl<'a> ItemSerializer<'a> {
         self,
         bare_item: RefBareItem<'_>,
     ) -> Result<ParameterSerializer<'a, StdString>, SerializeError>
-        ensures* kept { sem 𝓛 (TextAfterOneErr (item_buffer self.entry) result) }
-        ensures lent { IfOk result (λ p. (params_sink p).ghost_name ≡ (item_buffer self.entry).ghost_name) }
-        ensures version { IfOk result (λ p. params_version p ≡ item_version self.entry) }
-        ensures unsupported { ChecksVersionFirst (item_version self.entry) (ref_value bare_item.entry ∷ []) result }
-        ensures text { IfOk result (ContinuesText (item_buffer self.entry) (bare_text (ref_value bare_item.entry))) }
-        ensures room { OnOutOfMemory result (LacksRoom (item_buffer self.entry).now (bare_text (ref_value bare_item.entry))) }
+        ensures* kept { sem 𝓛 (AfterErr text_row params_sink (KeepsTextAfterOne result) self.entry.buffer result) }
+        ensures lent { IfOk result (λ p. (params_sink p).ghost_name ≡ self.entry.buffer.ghost_name) }
+        ensures version { IfOk result (λ p. params_version p ≡ self.entry.version) }
+        ensures unsupported { ChecksVersionFirst self.entry.version (ref_value bare_item.entry ∷ []) result }
+        ensures text { IfOk result (ContinuesText self.entry.buffer (bare_text (ref_value bare_item.entry))) }
+        ensures room { OnOutOfMemory result (LacksRoom self.entry.buffer.now (bare_text (ref_value bare_item.entry))) }
         ensures is_value { IsBareValue (ref_value bare_item.entry) }
     {
         let ItemSerializer { buffer, version } = self;

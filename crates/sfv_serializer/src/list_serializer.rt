@@ -5,7 +5,7 @@ ghost use Rattle.std.specs.Borrow.{sem};
 ghost use Rattle.std.specs.Iterator.{IsFinite};
 ghost use Rattle.sfv_writer.specs.Versions.{list_members};
 ghost use Rattle.sfv_serializer.specs.Serializers.{KeepsSequence, sequence_version, sequence_sink, WritesAll};
-ghost use Rattle.sfv_serializer.specs.Serializers.{FailsToWrite, AfterErrInner, HasAppendedOpening, BeginsAfter};
+ghost use Rattle.sfv_serializer.specs.Serializers.{FailsToWrite, AfterErr, parts_row, HasAppendedOpening, BeginsAfter};
 ghost use Rattle.sfv_serializer.specs.Serializers.{LacksNext};
 ghost use Rattle.sfv_serializer.specs.contracts.sequence_kind.ListMembers.{the_row as list_row};
 
@@ -33,7 +33,7 @@ impl<W: Sink> SequenceSerializer<W, ListMembers> {
     ///
     /// Returns `OutOfMemory` if memory runs out. The text and `has_member` are then unchanged.
     pub fn inner_list(&mut self) -> Result<InnerListSerializer<&mut ListSerializer<W>>, OutOfMemory>
-        ensures* kept { sem 𝓛 (AfterErrInner W.row list_row (KeepsSequence W.Sink) self.entry result) }
+        ensures* kept { sem 𝓛 (AfterErr (parts_row W.row list_row) sequence_sink (KeepsSequence W.Sink) self.entry result) }
         ensures lent { IfOk result (λ s. (sequence_sink s).ghost_name ≡ self.entry.ghost_name) }
         ensures version { IfOk result (λ s. sequence_version s ≡ sequence_version self.old) }
         ensures text { IfOk result (HasAppendedOpening W.Sink (codes ", ") self.old (codes "(")) }

@@ -9,9 +9,10 @@ ghost use Rattle.sfv_values.specs.BareItems.{ref_value};
 ghost use Rattle.sfv_values.specs.CheckedTexts.{text_of};
 ghost use Rattle.sfv_writer.specs.Written.{LacksRoom};
 ghost use Rattle.sfv_writer.specs.Versions.{OnOutOfMemory, ChecksVersionFirst};
-ghost use Rattle.sfv_serializer.specs.Serializers.{TextAfterErr, TextAfterOneErr, ContinuesText, params_sink};
+ghost use Rattle.sfv_serializer.specs.Serializers.{KeepsText, KeepsTextAfterOne, ContinuesText, params_sink};
 ghost use Rattle.sfv_serializer.specs.Serializers.{params_version, WritesParameters, FailsToWriteParameters, AfterErr};
-ghost use Rattle.sfv_serializer.specs.Serializers.{Continues, params_text, param, KeepsSequence, KeepsAfterOne};
+ghost use Rattle.sfv_serializer.specs.Serializers.{Continues, param, KeepsSequence, KeepsAfterOne, parts_row};
+ghost use Rattle.sfv_serializer.specs.Texts.{text_row};
 
 use crate::fragment::{KeyValue, Parameter};
 use crate::sequence::SequenceSerializer;
@@ -73,7 +74,7 @@ impl<'s> ParameterSerializer<'s, StdString> {
         name: KeyRef<'_>,
         value: RefBareItem<'_>,
     ) -> Result<ParameterSerializer<'s, StdString>, SerializeError>
-        ensures* kept { sem 𝓛 (TextAfterOneErr (params_sink self.entry) result) }
+        ensures* kept { sem 𝓛 (AfterErr text_row params_sink (KeepsTextAfterOne result) (params_sink self.entry) result) }
         ensures lent { IfOk result (λ p. (params_sink p).ghost_name ≡ (params_sink self.entry).ghost_name) }
         ensures version { IfOk result (λ p. params_version p ≡ params_version self.entry) }
         ensures text { IfOk result (ContinuesText (params_sink self.entry) (param name.entry value.entry)) }
@@ -104,7 +105,7 @@ impl<'s> ParameterSerializer<'s, StdString> {
     ) -> Result<ParameterSerializer<'s, StdString>, SerializeError>
         requires can { I.can_next params }
         requires ends { IsFinite (I.remaining params) }
-        ensures* kept { sem 𝓛 (TextAfterErr (params_sink self.entry) result) }
+        ensures* kept { sem 𝓛 (AfterErr text_row params_sink KeepsText (params_sink self.entry) result) }
         ensures lent { IfOk result (λ p. (params_sink p).ghost_name ≡ (params_sink self.entry).ghost_name) }
         ensures version { IfOk result (λ p. params_version p ≡ params_version self.entry) }
         ensures text { IfOk result (WritesParameters I.next_gives params ContinuesText self.entry) }
@@ -129,12 +130,12 @@ impl<'s, W: Sink, K> ParameterSerializer<'s, SequenceSerializer<W, K>> {
         name: KeyRef<'_>,
         value: RefBareItem<'_>,
     ) -> Result<ParameterSerializer<'s, SequenceSerializer<W, K>>, SerializeError>
-        ensures* kept { sem 𝓛 (AfterErr W.row K.row (KeepsAfterOne W.Sink result) (params_sink self.entry) result) }
+        ensures* kept { sem 𝓛 (AfterErr (parts_row W.row K.row) params_sink (KeepsAfterOne W.Sink result) (params_sink self.entry) result) }
         ensures lent { IfOk result (λ p. (params_sink p).ghost_name ≡ (params_sink self.entry).ghost_name) }
         ensures version { IfOk result (λ p. params_version p ≡ params_version self.entry) }
         ensures text { IfOk result (Continues W.Sink (params_sink self.entry) (param name.entry value.entry)) }
         ensures unsupported { ChecksVersionFirst (params_version self.entry) (ref_value value.entry ∷ []) result }
-        ensures room { OnOutOfMemory result (LacksRoom (params_text W.Sink self.entry) (param name.entry value.entry)) }
+        ensures room { OnOutOfMemory result (LacksRoom (W.text (params_sink self.entry).now.sink) (param name.entry value.entry)) }
         ensures is_key { IsTrue (is_key (text_of name.entry)) }
         ensures is_value { IsBareValue (ref_value value.entry) }
     {
@@ -160,11 +161,11 @@ impl<'s, W: Sink, K> ParameterSerializer<'s, SequenceSerializer<W, K>> {
     ) -> Result<ParameterSerializer<'s, SequenceSerializer<W, K>>, SerializeError>
         requires can { I.can_next params }
         requires ends { IsFinite (I.remaining params) }
-        ensures* kept { sem 𝓛 (AfterErr W.row K.row (KeepsSequence W.Sink) (params_sink self.entry) result) }
+        ensures* kept { sem 𝓛 (AfterErr (parts_row W.row K.row) params_sink (KeepsSequence W.Sink) (params_sink self.entry) result) }
         ensures lent { IfOk result (λ p. (params_sink p).ghost_name ≡ (params_sink self.entry).ghost_name) }
         ensures version { IfOk result (λ p. params_version p ≡ params_version self.entry) }
         ensures text { IfOk result (WritesParameters I.next_gives params (Continues W.Sink) self.entry) }
-        ensures failed { IfErr result (FailsToWriteParameters I.next_gives params self.entry (params_text W.Sink self.entry)) }
+        ensures failed { IfErr result (FailsToWriteParameters I.next_gives params self.entry (W.text (params_sink self.entry).now.sink)) }
     {
         let ParameterSerializer { sink, version } = self;
         append_parameters(version, params, sink.sink.text_mut(OPENER))?;

@@ -15,7 +15,7 @@ ghost use Rattle.sfv_values.specs.BareItems.{ref_value};
 ghost use Rattle.sfv_writer.specs.Versions.{OnOutOfMemory, ChecksVersionFirst};
 ghost use Rattle.sfv_serializer.specs.Serializers.{IsSameSequence, KeepsSequence, KeepsAfterOne, HasAppendedNext};
 ghost use Rattle.sfv_serializer.specs.Serializers.{sequence_sink, sequence_version, is_empty_so_far, params_sink};
-ghost use Rattle.sfv_serializer.specs.Serializers.{params_version, WritesAll, FailsToWrite, AfterErrInner, AfterErr};
+ghost use Rattle.sfv_serializer.specs.Serializers.{params_version, WritesAll, FailsToWrite, AfterErr, parts_row};
 ghost use Rattle.sfv_serializer.specs.Serializers.{HasAppendedItem, HasAppendedOpening, BeginsAfter, LacksNext};
 
 use crate::fragment::{BareItemFragment, Separated, TokenFragment};
@@ -164,7 +164,7 @@ impl<W: Sink, K: SequenceKind> SequenceSerializer<W, K> {
         &mut self,
         opening: P,
     ) -> Result<InnerListSerializer<&mut SequenceSerializer<W, K>>, OutOfMemory>
-        ensures* kept { sem 𝓛 (AfterErrInner W.row K.row (KeepsSequence W.Sink) self.entry result) }
+        ensures* kept { sem 𝓛 (AfterErr (parts_row W.row K.row) sequence_sink (KeepsSequence W.Sink) self.entry result) }
         ensures lent { IfOk result (λ s. (sequence_sink s).ghost_name ≡ self.entry.ghost_name) }
         ensures version { IfOk result (λ s. sequence_version s ≡ sequence_version self.old) }
         ensures text { IfOk result (HasAppendedOpening W.Sink K.separator self.old (P.text opening)) }
@@ -199,7 +199,7 @@ impl<W: Sink, K: Keyless> SequenceSerializer<W, K> {
         &mut self,
         bare_item: RefBareItem<'_>,
     ) -> Result<ParameterSerializer<'_, SequenceSerializer<W, K>>, SerializeError>
-        ensures* kept { sem 𝓛 (AfterErr W.row K.row (KeepsAfterOne W.Sink result) self.entry result) }
+        ensures* kept { sem 𝓛 (AfterErr (parts_row W.row K.row) params_sink (KeepsAfterOne W.Sink result) self.entry result) }
         ensures lent { IfOk result (λ p. (params_sink p).ghost_name ≡ self.entry.ghost_name) }
         ensures version { IfOk result (λ p. params_version p ≡ sequence_version self.old) }
         ensures unsupported { ChecksVersionFirst (sequence_version self.old) (ref_value bare_item.entry ∷ []) result }

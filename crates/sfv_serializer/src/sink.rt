@@ -3,7 +3,7 @@
 ghost use Rattle.std.specs.Prelude.{◌≡◌};
 ghost use Rattle.std.specs.Borrow.{sem, Lends};
 ghost use Rattle.std.proofs.Common.{◌∙◌, refl};
-ghost use Rattle.sfv_serializer.specs.Texts.{Text, text_row, with_lent};
+ghost use Rattle.sfv_serializer.specs.Texts.{Text, text_row};
 
 use std::string::String as StdString;
 
@@ -48,7 +48,7 @@ pub trait Sink: Drop {
 impl<'a> Sink for &'a mut StdString {
     ghost text = { λ s. s.now };
 
-    ghost with_text = { with_lent };
+    ghost with_text = { λ s t. record s { now = t } };
 
     ghost same = { λ s t. t.ghost_name ≡ s.ghost_name };
 

@@ -17,7 +17,7 @@ returns-in-Err-parameter-clause-room c =
     let last = c.loop-call.params.sink.now in
     let one = param_text (key_text c.call-item.result.key) (ref_value c.call-item.result.value) in
     let kept = of_error _ _ _ c.in-Err-parameter.is c.parameter.follows.holds-at-none in
-    let stays = no_less row.2 kept.1 in (
+    let stays = no_less row.2 kept.0.1 in (
       grind (arith, stays),
       params_lack params c.loop-call.call-index c.call-item.result within is c.args.text.now last []
           (bare_text (ref_value c.args.calls.now.value)) row.1 row.2 (memory_lacks _ (ref_value c.call-item.result.value ∷ []) last one _ row.4 e.unsupported e.room),
