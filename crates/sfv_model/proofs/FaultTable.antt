@@ -53,13 +53,13 @@ wanted_kind version kind u _ _ = refl
 
 ruled_kind : (version : Version) (kind : FieldKind) (t : List ℕ) (f : ErrorKind) (i : ℕ)
     → RuledFault version kind t f i → is_want f ≡ false
-ruled_kind version kind t _ _ (faults.bare _ _ _ _
+ruled_kind version kind t _ _ (faults.bare _ _ _ _ _
     (faults.display _ _ _ _ _ _ _ (faults.open_display _ _))) = refl
 ruled_kind version kind t _ _ _ = refl
 
 begun_kind : (version : Version) (kind : FieldKind) (t : List ℕ) (f : ErrorKind) (i : ℕ)
     → BegunFault version kind t f i → is_want f ≡ false
-begun_kind version kind t _ _ (faults.bare _ _ _ _ (faults.no_boolean _ _)) = refl
+begun_kind version kind t _ _ (faults.bare _ _ _ _ _ (faults.no_boolean _ _)) = refl
 begun_kind version kind t _ _ _ = refl
 
 -- ---- the text in front of a fault
@@ -122,10 +122,10 @@ module _ (version : Version) (kind : FieldKind) where
   ]
 
   begun_given : (t : List ℕ) (f : ErrorKind) (i : ℕ) → BegunFault version kind t f i → IsGiven t f i true
-  begun_given t f _ (faults.bare before s there place row) =
+  begun_given t f _ (faults.bare before s there text wanted row) =
       let r = bare_row_is_given version s there f row in
-      let w = wanted_bare_is_read version kind t before s r.0 place r.1 (inl (λ e.
-      true≢false (ap is_want (sym e ∙ r.2) ∙ begun_kind version kind t f _ (faults.bare before s there place row)))) in
+      let w = wanted_bare_is_read version kind t before s r.0 (record { text = text; wanted = wanted }) r.1 (inl (λ e.
+      true≢false (ap is_want (sym e ∙ r.2) ∙ begun_kind version kind t f _ (faults.bare before s there text wanted row)))) in
       let exact : w.0.exact ≡ true = sym w.2.exact ∙ r.3 in
       record {
         fault = w.0;
@@ -191,7 +191,7 @@ module _ (version : Version) (kind : FieldKind) where
           let named : e.kind ≡ ExpectedStartOfBareItem = sym b.like.kind ∙ start in
           inr (inr (wanted_at t e h (sym b.like.exact ∙ x) (ap is_want named) b.before
           (rw (← b.like.rest, here) b.place.text) (rw named (faults.bare_item b.place.wanted))))
-      of_bare b (inl (x, inr row)) = like b.fault b.like (inr (faults.bare b.before b.item b.fault.rest b.place row))
+      of_bare b (inl (x, inr row)) = like b.fault b.like (inr (faults.bare b.before b.item b.fault.rest b.place.text b.place.wanted row))
       of_bare b (inr (x, ruled)) = like b.fault b.like (inl ruled)
 
   -- ---- the laws

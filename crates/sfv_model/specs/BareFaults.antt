@@ -8,7 +8,8 @@ use Rattle.sfv_spec.specs.Grammar.{IsBareText}
 use Rattle.sfv_model.specs.Commas.{IsTrailingComma}
 use Rattle.sfv_spec.specs.declared.error_kind.ErrorKind.{ErrorKind}
 use Rattle.sfv_spec.specs.declared.error_kind.ErrorKind.TheVariants.{TrailingComma, ExpectedStartOfBareItem}
-use Rattle.sfv_spec.specs.Faults.{WantsBetween, RuledFault, BareItemFault}
+use Rattle.sfv_spec.specs.Faults.{RuledFault, BareItemFault}
+use Rattle.sfv_spec.proofs.Marks.{WantsBetween}
 use Rattle.sfv_model.specs.Reader.{Fault}
 use Rattle.sfv_model.specs.Bare.{bare_at}
 

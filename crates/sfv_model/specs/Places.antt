@@ -7,7 +7,8 @@ use Rattle.sfv_spec.specs.declared.version.Version.{Version}
 use Rattle.sfv_spec.specs.Grammar.{IsAccepted}
 use Rattle.sfv_spec.specs.declared.error_kind.ErrorKind.TheVariants.{TrailingComma, UnterminatedInnerList}
 use Rattle.sfv_spec.specs.declared.error_kind.ErrorKind.TheVariants.{ExpectedStartOfBareItem}
-use Rattle.sfv_spec.specs.Faults.{WantsBetween, WantedFault}
+use Rattle.sfv_spec.specs.Faults.{WantedFault}
+use Rattle.sfv_spec.proofs.Marks.{WantsBetween}
 use Rattle.sfv_model.specs.Commas.{IsTrailingComma}
 use Rattle.sfv_model.specs.Reader.{Fault}
 use Rattle.sfv_model.specs.Bare.{bare_at}

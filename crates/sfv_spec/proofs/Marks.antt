@@ -1,10 +1,12 @@
 -- Names of bytes and of classes of them, and other short words, for readers and proofs.
-use Rattle.std.specs.Prelude.{ℕ, List, ◌++◌, map, Bool, true, false, not, ◌&&◌, ◌||◌, ◌==◌, IsUtf8, [], codes, if◌then◌else◌}
+use Rattle.std.specs.Prelude.{◌≡◌, ℕ, List, ◌++◌, map, Bool, true, false, not, ◌&&◌, ◌||◌, ◌==◌, IsUtf8, [], codes, if◌then◌else◌}
 use Rattle.std.specs.Int.{is_in_range}
 use Rattle.sfv_spec.specs.Texts.{IsJoining, Exactly, ◌⨾◌}
 use Rattle.sfv_spec.specs.Classes.{is_string_byte}
 use Rattle.sfv_spec.specs.Values.{BareValue, boolean, RawParameters, RawMember, item}
 use Rattle.sfv_spec.specs.declared.version.Version.{Version}
+use Rattle.sfv_spec.specs.declared.field_kind.FieldKind.{FieldKind}
+use Rattle.sfv_spec.specs.Reach.{WantsBareItem}
 use Rattle.sfv_spec.specs.Base64.{IsBase64Text}
 use Rattle.sfv_spec.specs.Grammar.{Spaces, IsKeyText, IsValueText}
 use Rattle.sfv_spec.specs.Strings.{is_escaped_in_string, IsStringPiece, is_plain_in_display, IsDisplayPiece}
@@ -179,6 +181,11 @@ SomeSpaces = Exactly (codes " ") ⨾ Spaces
 -- one parameter with its key
 abbrev pub IsParameterText : Version → List ℕ × BareValue → List ℕ → Type 0
 IsParameterText version p = Exactly (codes ";") ⨾ Spaces ⨾ IsKeyText p.0 ⨾ IsValueText version p.1
+
+-- t is `before` and then `rest`, and a bare item may follow `before`
+pub record WantsBetween (version : Version) (kind : FieldKind) (t before rest : List ℕ) : Type 0 where
+  pub text : t ≡ before ++ rest
+  pub wanted : WantsBareItem version kind before
 
 -- t is a prefix of some Base64 text
 abbrev pub BeginsBase64 : List ℕ → Type 0

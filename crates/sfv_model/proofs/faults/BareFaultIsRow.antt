@@ -97,7 +97,7 @@ bytes_row version t e i = on (bytes_fault t e i)
     on : IsBytesFault t e → HasRow version (colon ∷ t) e
     on (inl (apart, f)) = rw f (inr (
       refl,
-      λ kind w before place. bare before (colon ∷ t) [] place (open_bytes t refl refl apart),
+      λ kind w before place. bare before (colon ∷ t) [] place.text place.wanted (open_bytes t refl refl apart),
     ))
     on (inr (content, rest, text, apart, none, f)) =
         elim (cases_Bool (valid_from 0 content == length content)) as (λ x. HasRow version (colon ∷ t) e) [
@@ -106,7 +106,7 @@ bytes_row version t e i = on (bytes_fault t e i)
               let next : length content ≡ suc (fault_place content) = omega (arith, left.2) in
               rw (f, y) (inr (
                 refl,
-                λ kind w before place. bare before (colon ∷ t) (drop (fault_place content) t) place
+                λ kind w before place. bare before (colon ∷ t) (drop (fault_place content) t) place.text place.wanted
                     (lone_symbol content rest (rw text (simp append_assoc)) (rw next refl) left.0 left.1),
               ))
           | inr n ↦

@@ -84,15 +84,15 @@ ruled_is_given version kind whole _ _ (comma before whitespace raw other h has t
     here = refl;
   },
 )
-ruled_is_given version kind whole k _ (bare before s there place h) =
+ruled_is_given version kind whole k _ (bare before s there text wanted h) =
     let g = item_given version s there k h in
     inr (record {
       before = before;
       s = s;
-      place = place;
+      place = record { text = text; wanted = wanted };
       fault = by_rule k there;
       given = g.0;
       kind = refl;
       exact = refl;
-      here = omega (arith, ap (length {A = ℕ}) place.text, length-append before s, g.1);
+      here = omega (arith, ap (length {A = ℕ}) text, length-append before s, g.1);
     })

@@ -20,7 +20,8 @@ use Rattle.sfv_spec.specs.declared.error_kind.ErrorKind.TheVariants.{Unterminate
 use Rattle.sfv_spec.specs.declared.error_kind.ErrorKind.TheVariants.{InvalidUtf8InDisplayString}
 use Rattle.sfv_spec.specs.declared.error_kind.ErrorKind.TheVariants.{InvalidDisplayStringCharacter}
 use Rattle.sfv_spec.specs.declared.error_kind.ErrorKind.TheVariants.{UnterminatedDisplayString}
-use Rattle.sfv_spec.specs.Faults.{WantsBetween, DisplayFault, open_display, open_escape, wrong_escape, wrong_byte}
+use Rattle.sfv_spec.specs.Faults.{DisplayFault, open_display, open_escape, wrong_escape, wrong_byte}
+use Rattle.sfv_spec.proofs.Marks.{WantsBetween}
 use Rattle.sfv_spec.specs.Faults.{wrong_utf8, RuledFault, bare, display}
 use Rattle.sfv_model.specs.Quoted.{outside, after_pieces, DisplayStops, IsDisplayFault}
 use Rattle.sfv_model.proofs.quoted.Pieces.{closed, closed_past, closed_pieces, IsStuck, stuck, stuck_quote}
@@ -93,13 +94,13 @@ pub ruled : (version : Version) (kind : FieldKind) (whole before t there : List 
     → RuledFault version kind whole k (length whole - length there)
 ruled version kind whole before t there InvalidUtf8InDisplayString known place h =
     let valid : ℕ = utf8_valid_len h.bytes in
-    bare before (codes "%\"" ++ t) there place (display h.left h.bytes h.pieces known
+    bare before (codes "%\"" ++ t) there place.text place.wanted (display h.left h.bytes h.pieces known
     (ap (λ (t : List ℕ). codes "%\"" ++ t) h.text) h.content
     (longest_pieces h.bytes h.pieces h.left h.content (subst IsStuck (sym h.ends.1) (stuck_quote h.ends.0)))
     (wrong_utf8 h.ends.0 valid h.ends.2 (longest_text h.bytes) h.ends.1 (h.ends.3 ∙ ap (after_pieces valid) h.text
     ∙ after_drop valid h.bytes h.pieces h.left h.content (utf8_valid_len_le h.bytes))))
 ruled version kind whole before t there k known place h =
-    bare before (codes "%\"" ++ t) there place (display h.left h.bytes h.pieces known
+    bare before (codes "%\"" ++ t) there place.text place.wanted (display h.left h.bytes h.pieces known
     (ap (λ (t : List ℕ). codes "%\"" ++ t) h.text) h.content
     (longest_pieces h.bytes h.pieces h.left h.content (stuck k h.left there h.ends))
     (row_of k h.bytes h.pieces h.left there h.ends))

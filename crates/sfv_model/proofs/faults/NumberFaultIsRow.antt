@@ -12,7 +12,8 @@ use Rattle.sfv_spec.specs.declared.field_kind.FieldKind.{FieldKind}
 use Rattle.sfv_spec.specs.declared.version.Version.{Version}
 use Rattle.sfv_spec.specs.declared.version.Version.TheVariants.{Rfc8941, Rfc9651}
 use Rattle.sfv_spec.specs.declared.error_kind.ErrorKind.TheVariants.{NonIntegerDate, ExpectedStartOfBareItem}
-use Rattle.sfv_spec.specs.Faults.{WantsBetween, RuledFault, point, decimal_date, long_decimal_date, bare, BareItemFault}
+use Rattle.sfv_spec.specs.Faults.{RuledFault, point, decimal_date, long_decimal_date, bare, BareItemFault}
+use Rattle.sfv_spec.proofs.Marks.{WantsBetween}
 use Rattle.sfv_spec.specs.Faults.{old_date, no_digit, no_number, long_integer, late_point, long_decimal}
 use Rattle.sfv_model.specs.Reader.{Fault, Answer, byte, give, fail, and_then, bind, branch, back, at_start}
 use Rattle.sfv_model.specs.Bare.{number_at, as_date, date_at, is_number_start}
@@ -60,14 +61,14 @@ number_row version dated known t start _ (point_too_late negative whole q text c
     inl (refl, inr (late_point _ whole (dated, negative, known, refl) counted (rw text (simp append_assoc)) h))
 number_row version dated known t start _ (no_fraction negative whole q text counted h) = inr (
   refl,
-  λ kind w before place. bare before (at_text dated ++ t) (dot ∷ q) place
+  λ kind w before place. bare before (at_text dated ++ t) (dot ∷ q) place.text place.wanted
       (point _ whole q (dated, negative, known, refl) counted (rw text (simp append_assoc)) refl h),
 )
 number_row version false known t start _ (long_fraction negative whole fraction q text counted three h) =
     inl (refl, inr (long_decimal negative whole fraction counted three (text ∙ simp append_assoc) h))
 number_row version true known t start _ (long_fraction negative whole fraction q text counted three h) = inr (
   refl,
-  λ kind w before place. bare before (at_sign ∷ t) q place (long_decimal_date negative whole fraction (known refl)
+  λ kind w before place. bare before (at_sign ∷ t) q place.text place.wanted (long_decimal_date negative whole fraction (known refl)
       counted three (rw text (simp append_assoc)) h),
 )
 number_row version dated known t start _ _ = tt
@@ -80,7 +81,7 @@ unfolding give
 dated_row t (Err x) h = number_row Rfc9651 true (λ _. refl) t (λ f. absurd (true≢false f)) (Err x) h
 dated_row t _ (a_decimal z number q means text h) = inr (
   refl,
-  λ kind w before place. bare before (at_sign ∷ t) (at_sign ∷ t) place
+  λ kind w before place. bare before (at_sign ∷ t) (at_sign ∷ t) place.text place.wanted
       (decimal_date z number q refl means (ap (λ (l : List ℕ). at_sign ∷ l) text) refl h),
 )
 dated_row t _ (an_integer z number q means text h) = tt
