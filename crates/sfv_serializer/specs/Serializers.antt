@@ -25,10 +25,6 @@ use Rattle.sfv_serializer.specs.Texts.{Text}
 abbrev pub params_sink : {X : Type 0} → ParameterSerializer X → MutBor X
 params_sink s = s.sink
 
--- the version of a parameter serializer
-abbrev pub params_version : {X : Type 0} → ParameterSerializer X → Version
-params_version s = s.version
-
 -- on success, the result borrows what was lent; after an error, this holds of the old and the new state of that
 abbrev pub AfterErr : {R E : Type 0} (row : RattleType) → (R → MutBor row.Denot) → (row.Denot → row.Denot → Type 0)
     → MutBor row.Denot → Result R E → Fml
@@ -44,8 +40,8 @@ KeepsTextAfterOne result s t = KeepsText s t × OnUnsupported result (t ≡ s)
 
 -- this text is appended to the borrowed text, which has no less room, and which `p` writes to
 abbrev pub ContinuesText : MutBor Text → List ℕ → ParameterSerializer Text → Type 0
-ContinuesText lent more p = (string_bytes (params_sink p).now ≡ string_bytes lent.now ++ more)
-    × (string_capacity lent.now ≤ string_capacity (params_sink p).now)
+ContinuesText lent more p = (string_bytes p.sink.now ≡ string_bytes lent.now ++ more)
+    × (string_capacity lent.now ≤ string_capacity p.sink.now)
 
 -- the text of a key with its value
 abbrev pub keyed : KeyRef → GenericBareItem StringRef (Bor (List ℕ)) TokenRef (Bor (List ℕ)) → List ℕ
@@ -54,6 +50,10 @@ keyed key value = text_of key ++ value_text (ref_value value)
 -- the text of a parameter
 abbrev pub param : KeyRef → GenericBareItem StringRef (Bor (List ℕ)) TokenRef (Bor (List ℕ)) → List ℕ
 param key value = codes ";" ++ keyed key value
+
+-- the version of a parameter serializer
+abbrev pub params_version : {X : Type 0} → ParameterSerializer X → Version
+params_version s = s.version
 
 -- the output of a serializer of parts
 abbrev pub sequence_sink : {W K : Type 0} → SequenceSerializer W K → W
@@ -136,11 +136,11 @@ module _ {W K : Type 0} (w : Sink W) where
 
   -- an item of this text is appended to `s` as the next part, and `p` writes its parameters
   abbrev pub HasAppendedItem : List ℕ → Parts W K → List ℕ → ParameterSerializer (Parts W K) → Type 0
-  HasAppendedItem separator s text p = HasAppendedNext w separator s (params_sink p).now text false
+  HasAppendedItem separator s text p = HasAppendedNext w separator s p.sink.now text false
 
   -- an inner list that begins with this text is appended to `s` as the next part, and `l` writes its items
   abbrev pub HasAppendedOpening : List ℕ → Parts W K → List ℕ → InnerList W K → Type 0
-  HasAppendedOpening separator s text l = HasAppendedNext w separator s (sequence_sink l).now text s.is_first
+  HasAppendedOpening separator s text l = HasAppendedNext w separator s l.sink.now text s.is_first
 
   -- `l` has no item, and keeps the length of the text of `s`
   abbrev pub BeginsAfter : Parts W K → InnerList W K → Type 0
@@ -148,7 +148,11 @@ module _ {W K : Type 0} (w : Sink W) where
 
   -- this text is appended to the borrowed parts, which `p` writes to
   abbrev pub Continues : MutBor (Parts W K) → List ℕ → ParameterSerializer (Parts W K) → Type 0
-  Continues lent more p = HasAppended w lent.now (params_sink p).now more lent.now.is_first
+  Continues lent more p = HasAppended w lent.now p.sink.now more lent.now.is_first
+
+  -- the text that parameters are appended to
+  abbrev pub params_text : ParameterSerializer (Parts W K) → Text
+  params_text s = w.text s.sink.now.sink
 
   -- the capacity of the text of `s` doesn't hold a next part of this text, with the separator before it
   abbrev pub LacksNext : List ℕ → Parts W K → List ℕ → Type 0
@@ -158,13 +162,13 @@ module _ {X S : Type 0} (gives : S → Option (Bor (List ℕ) × Bor OwnedBareIt
   -- All parameters that the iterator gives are appended to `s`, by this relation for a text. `p` writes more of them.
   abbrev pub WritesParameters : (MutBor X → List ℕ → ParameterSerializer X → Type 0) → ParameterSerializer X
       → ParameterSerializer X → Type 0
-  WritesParameters appends s p = TakesAll parameter_pairs (params_version s) gives pairs
-      (λ taken. appends (params_sink s) (parts_text parameter_pairs [] true taken) p)
+  WritesParameters appends s p = TakesAll parameter_pairs s.version gives pairs
+      (λ taken. appends s.sink (parts_text parameter_pairs [] true taken) p)
 
   -- the error of appending the parameters of an iterator to `s`, which writes to this text
   abbrev pub FailsToWriteParameters : ParameterSerializer X → Text → SerializeError → Type 0
-  FailsToWriteParameters s text = StopsEarly parameter_pairs (params_version s) gives pairs [] text true
+  FailsToWriteParameters s text = StopsEarly parameter_pairs s.version gives pairs [] text true
 
 -- the type of serializers of parts in the logic of borrows
-abbrev pub parts_row : RattleType → RattleType → RattleType
-parts_row W K = sequence.the_row W K
+abbrev pub parts : RattleType → RattleType → RattleType
+parts W K = sequence.the_row W K

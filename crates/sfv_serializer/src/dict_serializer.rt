@@ -8,9 +8,9 @@ ghost use Rattle.sfv_spec.specs.Values.{IsBareValue};
 ghost use Rattle.sfv_values.specs.BareItems.{ref_value};
 ghost use Rattle.sfv_values.specs.CheckedTexts.{text_of};
 ghost use Rattle.sfv_writer.specs.Versions.{OnOutOfMemory, ChecksVersionFirst, dictionary_members};
-ghost use Rattle.sfv_serializer.specs.Serializers.{KeepsSequence, KeepsAfterOne, sequence_version, params_sink};
-ghost use Rattle.sfv_serializer.specs.Serializers.{params_version, sequence_sink, WritesAll, FailsToWrite};
-ghost use Rattle.sfv_serializer.specs.Serializers.{AfterErr, parts_row, HasAppendedItem, HasAppendedOpening};
+ghost use Rattle.sfv_serializer.specs.Serializers.{KeepsSequence, KeepsAfterOne, params_sink};
+ghost use Rattle.sfv_serializer.specs.Serializers.{sequence_sink, WritesAll, FailsToWrite};
+ghost use Rattle.sfv_serializer.specs.Serializers.{AfterErr, parts, HasAppendedItem, HasAppendedOpening};
 ghost use Rattle.sfv_serializer.specs.Serializers.{BeginsAfter, LacksNext, keyed};
 ghost use Rattle.sfv_serializer.specs.contracts.sequence_kind.DictMembers.{the_row as dict_row};
 
@@ -50,10 +50,10 @@ impl<W: Sink> SequenceSerializer<W, DictMembers> {
         name: KeyRef<'_>,
         value: RefBareItem<'_>,
     ) -> Result<ParameterSerializer<'_, DictSerializer<W>>, SerializeError>
-        ensures* kept { sem 𝓛 (AfterErr (parts_row W.row dict_row) params_sink (KeepsAfterOne W.Sink result) self.entry result) }
-        ensures lent { IfOk result (λ p. (params_sink p).ghost_name ≡ self.entry.ghost_name) }
-        ensures version { IfOk result (λ p. params_version p ≡ sequence_version self.old) }
-        ensures unsupported { ChecksVersionFirst (sequence_version self.old) (ref_value value.entry ∷ []) result }
+        ensures* kept { sem 𝓛 (AfterErr (parts W.row dict_row) params_sink (KeepsAfterOne W.Sink result) self.entry result) }
+        ensures lent { IfOk result (λ p. p.sink.ghost_name ≡ self.entry.ghost_name) }
+        ensures version { IfOk result (λ p. p.version ≡ self.old.version) }
+        ensures unsupported { ChecksVersionFirst self.old.version (ref_value value.entry ∷ []) result }
         ensures text { IfOk result (HasAppendedItem W.Sink (codes ", ") self.old (keyed name.entry value.entry)) }
         ensures room { OnOutOfMemory result (LacksNext W.Sink (codes ", ") self.old (keyed name.entry value.entry)) }
         ensures is_key { IsTrue (is_key (text_of name.entry)) }
@@ -80,9 +80,9 @@ impl<W: Sink> SequenceSerializer<W, DictMembers> {
         &mut self,
         name: KeyRef<'_>,
     ) -> Result<InnerListSerializer<&mut DictSerializer<W>>, OutOfMemory>
-        ensures* kept { sem 𝓛 (AfterErr (parts_row W.row dict_row) sequence_sink (KeepsSequence W.Sink) self.entry result) }
-        ensures lent { IfOk result (λ s. (sequence_sink s).ghost_name ≡ self.entry.ghost_name) }
-        ensures version { IfOk result (λ s. sequence_version s ≡ sequence_version self.old) }
+        ensures* kept { sem 𝓛 (AfterErr (parts W.row dict_row) sequence_sink (KeepsSequence W.Sink) self.entry result) }
+        ensures lent { IfOk result (λ s. s.sink.ghost_name ≡ self.entry.ghost_name) }
+        ensures version { IfOk result (λ s. s.version ≡ self.old.version) }
         ensures text { IfOk result (HasAppendedOpening W.Sink (codes ", ") self.old (text_of name.entry ++ codes "=(")) }
         ensures begins { IfOk result (BeginsAfter W.Sink self.old) }
         ensures room { OnErr result (LacksNext W.Sink (codes ", ") self.old (text_of name.entry ++ codes "=(")) }

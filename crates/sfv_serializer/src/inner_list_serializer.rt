@@ -4,9 +4,9 @@ ghost use Rattle.std.specs.Prelude.{◌≡◌, [], false, IfOk, IfErr, OnOk, OnE
 ghost use Rattle.std.specs.Borrow.{sem};
 ghost use Rattle.std.specs.Iterator.{IsFinite};
 ghost use Rattle.sfv_writer.specs.Versions.{inner_items};
-ghost use Rattle.sfv_serializer.specs.Serializers.{KeepsSequence, sequence_sink, sequence_version, HasAppended};
-ghost use Rattle.sfv_serializer.specs.Serializers.{WritesAll, FailsToWrite, AfterErr, Removes, LacksNext, parts_row};
-ghost use Rattle.sfv_serializer.specs.Serializers.{params_sink, params_version};
+ghost use Rattle.sfv_serializer.specs.Serializers.{KeepsSequence, HasAppended};
+ghost use Rattle.sfv_serializer.specs.Serializers.{WritesAll, FailsToWrite, AfterErr, Removes, LacksNext, parts};
+ghost use Rattle.sfv_serializer.specs.Serializers.{params_sink};
 
 use crate::parameter_serializer::ParameterSerializer;
 use crate::sequence::SequenceSerializer;
@@ -51,11 +51,11 @@ impl<'s, W: Sink, K> SequenceSerializer<&'s mut SequenceSerializer<W, K>, InnerL
     /// Returns `OutOfMemory` if memory runs out. The inner list is then removed with its separator or key, as by
     /// `abandon`.
     pub fn finish(self) -> Result<ParameterSerializer<'s, SequenceSerializer<W, K>>, OutOfMemory>
-        ensures* removed { sem 𝓛 (AfterErr (parts_row W.row K.row) params_sink (Removes W.Sink self.entry) (sequence_sink self.entry) result) }
-        ensures lent { IfOk result (λ p. (params_sink p).ghost_name ≡ (sequence_sink self.entry).ghost_name) }
-        ensures version { IfOk result (λ p. params_version p ≡ sequence_version (sequence_sink self.entry).now) }
-        ensures text { IfOk result (λ p. HasAppended W.Sink (sequence_sink self.entry).now (params_sink p).now (codes ")") false) }
-        ensures room { OnErr result (LacksNext W.Sink [] (sequence_sink self.entry).now (codes ")")) }
+        ensures* removed { sem 𝓛 (AfterErr (parts W.row K.row) params_sink (Removes W.Sink self.entry) self.entry.sink result) }
+        ensures lent { IfOk result (λ p. p.sink.ghost_name ≡ self.entry.sink.ghost_name) }
+        ensures version { IfOk result (λ p. p.version ≡ self.entry.sink.now.version) }
+        ensures text { IfOk result (λ p. HasAppended W.Sink self.entry.sink.now p.sink.now (codes ")") false) }
+        ensures room { OnErr result (LacksNext W.Sink [] self.entry.sink.now (codes ")")) }
     {
         let SequenceSerializer {
             sink,
@@ -77,8 +77,8 @@ impl<'s, W: Sink, K> SequenceSerializer<&'s mut SequenceSerializer<W, K>, InnerL
     /// Removes the inner list with its separator or key. The text and `has_member` are as before the inner list
     /// began.
     pub fn abandon(self)
-        ensures text { Removes W.Sink self.entry (sequence_sink self.entry).now self.exit.0.now }
-        ensures room { string_capacity (W.text self.exit.0.now.sink) ≡ string_capacity (W.text (sequence_sink self.entry).now.sink) }
+        ensures text { Removes W.Sink self.entry self.entry.sink.now self.exit.0.now }
+        ensures room { string_capacity (W.text self.exit.0.now.sink) ≡ string_capacity (W.text self.entry.sink.now.sink) }
     {
         let SequenceSerializer {
             sink,

@@ -9,7 +9,6 @@ ghost use Rattle.sfv_values.specs.BareItems.{ref_value};
 ghost use Rattle.sfv_writer.specs.Written.{LacksRoom};
 ghost use Rattle.sfv_writer.specs.Versions.{OnOutOfMemory, ChecksVersionFirst};
 ghost use Rattle.sfv_serializer.specs.Serializers.{AfterErr, KeepsTextAfterOne, ContinuesText, params_sink};
-ghost use Rattle.sfv_serializer.specs.Serializers.{params_version};
 ghost use Rattle.sfv_serializer.specs.Texts.{text_row};
 
 use crate::fragment::BareItemFragment;
@@ -68,8 +67,8 @@ impl<'a> ItemSerializer<'a> {
         bare_item: RefBareItem<'_>,
     ) -> Result<ParameterSerializer<'a, StdString>, SerializeError>
         ensures* kept { sem 𝓛 (AfterErr text_row params_sink (KeepsTextAfterOne result) self.entry.buffer result) }
-        ensures lent { IfOk result (λ p. (params_sink p).ghost_name ≡ self.entry.buffer.ghost_name) }
-        ensures version { IfOk result (λ p. params_version p ≡ self.entry.version) }
+        ensures lent { IfOk result (λ p. p.sink.ghost_name ≡ self.entry.buffer.ghost_name) }
+        ensures version { IfOk result (λ p. p.version ≡ self.entry.version) }
         ensures unsupported { ChecksVersionFirst self.entry.version (ref_value bare_item.entry ∷ []) result }
         ensures text { IfOk result (ContinuesText self.entry.buffer (bare_text (ref_value bare_item.entry))) }
         ensures room { OnOutOfMemory result (LacksRoom self.entry.buffer.now (bare_text (ref_value bare_item.entry))) }

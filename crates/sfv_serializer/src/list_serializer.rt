@@ -4,8 +4,8 @@ ghost use Rattle.std.specs.Prelude.{◌≡◌, IfOk, IfErr, OnOk, OnErr, codes};
 ghost use Rattle.std.specs.Borrow.{sem};
 ghost use Rattle.std.specs.Iterator.{IsFinite};
 ghost use Rattle.sfv_writer.specs.Versions.{list_members};
-ghost use Rattle.sfv_serializer.specs.Serializers.{KeepsSequence, sequence_version, sequence_sink, WritesAll};
-ghost use Rattle.sfv_serializer.specs.Serializers.{FailsToWrite, AfterErr, parts_row, HasAppendedOpening, BeginsAfter};
+ghost use Rattle.sfv_serializer.specs.Serializers.{KeepsSequence, sequence_sink, WritesAll};
+ghost use Rattle.sfv_serializer.specs.Serializers.{FailsToWrite, AfterErr, parts, HasAppendedOpening, BeginsAfter};
 ghost use Rattle.sfv_serializer.specs.Serializers.{LacksNext};
 ghost use Rattle.sfv_serializer.specs.contracts.sequence_kind.ListMembers.{the_row as list_row};
 
@@ -33,9 +33,9 @@ impl<W: Sink> SequenceSerializer<W, ListMembers> {
     ///
     /// Returns `OutOfMemory` if memory runs out. The text and `has_member` are then unchanged.
     pub fn inner_list(&mut self) -> Result<InnerListSerializer<&mut ListSerializer<W>>, OutOfMemory>
-        ensures* kept { sem 𝓛 (AfterErr (parts_row W.row list_row) sequence_sink (KeepsSequence W.Sink) self.entry result) }
-        ensures lent { IfOk result (λ s. (sequence_sink s).ghost_name ≡ self.entry.ghost_name) }
-        ensures version { IfOk result (λ s. sequence_version s ≡ sequence_version self.old) }
+        ensures* kept { sem 𝓛 (AfterErr (parts W.row list_row) sequence_sink (KeepsSequence W.Sink) self.entry result) }
+        ensures lent { IfOk result (λ s. s.sink.ghost_name ≡ self.entry.ghost_name) }
+        ensures version { IfOk result (λ s. s.version ≡ self.old.version) }
         ensures text { IfOk result (HasAppendedOpening W.Sink (codes ", ") self.old (codes "(")) }
         ensures begins { IfOk result (BeginsAfter W.Sink self.old) }
         ensures room { OnErr result (LacksNext W.Sink (codes ", ") self.old (codes "(")) }

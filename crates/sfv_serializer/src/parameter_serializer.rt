@@ -10,8 +10,8 @@ ghost use Rattle.sfv_values.specs.CheckedTexts.{text_of};
 ghost use Rattle.sfv_writer.specs.Written.{LacksRoom};
 ghost use Rattle.sfv_writer.specs.Versions.{OnOutOfMemory, ChecksVersionFirst};
 ghost use Rattle.sfv_serializer.specs.Serializers.{KeepsText, KeepsTextAfterOne, ContinuesText, params_sink};
-ghost use Rattle.sfv_serializer.specs.Serializers.{params_version, WritesParameters, FailsToWriteParameters, AfterErr};
-ghost use Rattle.sfv_serializer.specs.Serializers.{Continues, param, KeepsSequence, KeepsAfterOne, parts_row};
+ghost use Rattle.sfv_serializer.specs.Serializers.{WritesParameters, FailsToWriteParameters, AfterErr};
+ghost use Rattle.sfv_serializer.specs.Serializers.{Continues, params_text, param, KeepsSequence, KeepsAfterOne, parts};
 ghost use Rattle.sfv_serializer.specs.Texts.{text_row};
 
 use crate::fragment::{KeyValue, Parameter};
@@ -42,9 +42,9 @@ impl<'s, X> ParameterSerializer<'s, X> {
     /// Creates a serializer that appends to `sink`, and accepts only values of `version`.
     #[inline(always)]
     pub(crate) fn new(sink: &'s mut X, version: Version) -> ParameterSerializer<'s, X>
-        ensures lent { (params_sink result).ghost_name ≡ sink.entry.ghost_name }
-        ensures text { (params_sink result).now ≡ sink.old }
-        ensures version { params_version result ≡ version }
+        ensures lent { result.sink.ghost_name ≡ sink.entry.ghost_name }
+        ensures text { result.sink.now ≡ sink.old }
+        ensures version { result.version ≡ version }
     {
         ParameterSerializer { sink, version }
     }
@@ -52,7 +52,7 @@ impl<'s, X> ParameterSerializer<'s, X> {
     /// Finishes the parameters, and ends the borrow of `X`.
     #[inline(always)]
     pub fn finish(self)
-        ensures { self.exit.0.now ≡ (params_sink self.entry).now }
+        ensures { self.exit.0.now ≡ self.entry.sink.now }
     {
         let ParameterSerializer {
             sink: _,
@@ -74,12 +74,12 @@ impl<'s> ParameterSerializer<'s, StdString> {
         name: KeyRef<'_>,
         value: RefBareItem<'_>,
     ) -> Result<ParameterSerializer<'s, StdString>, SerializeError>
-        ensures* kept { sem 𝓛 (AfterErr text_row params_sink (KeepsTextAfterOne result) (params_sink self.entry) result) }
-        ensures lent { IfOk result (λ p. (params_sink p).ghost_name ≡ (params_sink self.entry).ghost_name) }
-        ensures version { IfOk result (λ p. params_version p ≡ params_version self.entry) }
-        ensures text { IfOk result (ContinuesText (params_sink self.entry) (param name.entry value.entry)) }
-        ensures unsupported { ChecksVersionFirst (params_version self.entry) (ref_value value.entry ∷ []) result }
-        ensures room { OnOutOfMemory result (LacksRoom (params_sink self.entry).now (param name.entry value.entry)) }
+        ensures* kept { sem 𝓛 (AfterErr text_row params_sink (KeepsTextAfterOne result) self.entry.sink result) }
+        ensures lent { IfOk result (λ p. p.sink.ghost_name ≡ self.entry.sink.ghost_name) }
+        ensures version { IfOk result (λ p. p.version ≡ self.entry.version) }
+        ensures text { IfOk result (ContinuesText self.entry.sink (param name.entry value.entry)) }
+        ensures unsupported { ChecksVersionFirst self.entry.version (ref_value value.entry ∷ []) result }
+        ensures room { OnOutOfMemory result (LacksRoom self.entry.sink.now (param name.entry value.entry)) }
         ensures is_key { IsTrue (is_key (text_of name.entry)) }
         ensures is_value { IsBareValue (ref_value value.entry) }
     {
@@ -105,11 +105,11 @@ impl<'s> ParameterSerializer<'s, StdString> {
     ) -> Result<ParameterSerializer<'s, StdString>, SerializeError>
         requires can { I.can_next params }
         requires ends { IsFinite (I.remaining params) }
-        ensures* kept { sem 𝓛 (AfterErr text_row params_sink KeepsText (params_sink self.entry) result) }
-        ensures lent { IfOk result (λ p. (params_sink p).ghost_name ≡ (params_sink self.entry).ghost_name) }
-        ensures version { IfOk result (λ p. params_version p ≡ params_version self.entry) }
+        ensures* kept { sem 𝓛 (AfterErr text_row params_sink KeepsText self.entry.sink result) }
+        ensures lent { IfOk result (λ p. p.sink.ghost_name ≡ self.entry.sink.ghost_name) }
+        ensures version { IfOk result (λ p. p.version ≡ self.entry.version) }
         ensures text { IfOk result (WritesParameters I.next_gives params ContinuesText self.entry) }
-        ensures failed { IfErr result (FailsToWriteParameters I.next_gives params self.entry (params_sink self.entry).now) }
+        ensures failed { IfErr result (FailsToWriteParameters I.next_gives params self.entry self.entry.sink.now) }
     {
         let ParameterSerializer { sink, version } = self;
         append_parameters(version, params, sink)?;
@@ -130,12 +130,12 @@ impl<'s, W: Sink, K> ParameterSerializer<'s, SequenceSerializer<W, K>> {
         name: KeyRef<'_>,
         value: RefBareItem<'_>,
     ) -> Result<ParameterSerializer<'s, SequenceSerializer<W, K>>, SerializeError>
-        ensures* kept { sem 𝓛 (AfterErr (parts_row W.row K.row) params_sink (KeepsAfterOne W.Sink result) (params_sink self.entry) result) }
-        ensures lent { IfOk result (λ p. (params_sink p).ghost_name ≡ (params_sink self.entry).ghost_name) }
-        ensures version { IfOk result (λ p. params_version p ≡ params_version self.entry) }
-        ensures text { IfOk result (Continues W.Sink (params_sink self.entry) (param name.entry value.entry)) }
-        ensures unsupported { ChecksVersionFirst (params_version self.entry) (ref_value value.entry ∷ []) result }
-        ensures room { OnOutOfMemory result (LacksRoom (W.text (params_sink self.entry).now.sink) (param name.entry value.entry)) }
+        ensures* kept { sem 𝓛 (AfterErr (parts W.row K.row) params_sink (KeepsAfterOne W.Sink result) self.entry.sink result) }
+        ensures lent { IfOk result (λ p. p.sink.ghost_name ≡ self.entry.sink.ghost_name) }
+        ensures version { IfOk result (λ p. p.version ≡ self.entry.version) }
+        ensures text { IfOk result (Continues W.Sink self.entry.sink (param name.entry value.entry)) }
+        ensures unsupported { ChecksVersionFirst self.entry.version (ref_value value.entry ∷ []) result }
+        ensures room { OnOutOfMemory result (LacksRoom (params_text W.Sink self.entry) (param name.entry value.entry)) }
         ensures is_key { IsTrue (is_key (text_of name.entry)) }
         ensures is_value { IsBareValue (ref_value value.entry) }
     {
@@ -161,11 +161,11 @@ impl<'s, W: Sink, K> ParameterSerializer<'s, SequenceSerializer<W, K>> {
     ) -> Result<ParameterSerializer<'s, SequenceSerializer<W, K>>, SerializeError>
         requires can { I.can_next params }
         requires ends { IsFinite (I.remaining params) }
-        ensures* kept { sem 𝓛 (AfterErr (parts_row W.row K.row) params_sink (KeepsSequence W.Sink) (params_sink self.entry) result) }
-        ensures lent { IfOk result (λ p. (params_sink p).ghost_name ≡ (params_sink self.entry).ghost_name) }
-        ensures version { IfOk result (λ p. params_version p ≡ params_version self.entry) }
+        ensures* kept { sem 𝓛 (AfterErr (parts W.row K.row) params_sink (KeepsSequence W.Sink) self.entry.sink result) }
+        ensures lent { IfOk result (λ p. p.sink.ghost_name ≡ self.entry.sink.ghost_name) }
+        ensures version { IfOk result (λ p. p.version ≡ self.entry.version) }
         ensures text { IfOk result (WritesParameters I.next_gives params (Continues W.Sink) self.entry) }
-        ensures failed { IfErr result (FailsToWriteParameters I.next_gives params self.entry (W.text (params_sink self.entry).now.sink)) }
+        ensures failed { IfErr result (FailsToWriteParameters I.next_gives params self.entry (params_text W.Sink self.entry)) }
     {
         let ParameterSerializer { sink, version } = self;
         append_parameters(version, params, sink.sink.text_mut(OPENER))?;

@@ -23,7 +23,7 @@ ghost use Rattle.sfv_writer.specs.Written.{separator_before, with_separators, is
 ghost use Rattle.sfv_writer.specs.Versions.{OnOutOfMemory, OnUnsupported, ChecksVersionFirst};
 ghost use Rattle.sfv_writer.specs.declared.serialize_error.SerializeError.TheVariants as errors;
 ghost use Rattle.sfv_serializer.specs.Serializers.{lent_sequence, HasAppended, HasAppendedNext, GrowsSequence};
-ghost use Rattle.sfv_serializer.specs.Serializers.{sequence_sink, is_empty_so_far, sequence_version};
+ghost use Rattle.sfv_serializer.specs.Serializers.{is_empty_so_far};
 
 use crate::dict_serializer::DictSerializer;
 use crate::fragment::{InnerListStart, KeyedInnerListStart};
@@ -101,10 +101,10 @@ fn write_keyless_item<W: Sink, K: Keyless>(
     sequence: &mut SequenceSerializer<W, K>,
     calls: &ItemCalls<'_>,
 ) -> Result<(), OutOfMemory>
-    requires { sequence_version sequence.old ≡ Rfc9651 }
+    requires { sequence.old.version ≡ Rfc9651 }
     ensures text { OnOk result (HasAppendedNext W.Sink K.separator sequence.old sequence.new
         (item_text (item_of_calls calls.now)) false) }
-    ensures room { OnErr result (LacksRoom (W.text (sequence_sink sequence.old))
+    ensures room { OnErr result (LacksRoom (W.text sequence.old.sink)
         (separator_before (is_empty_so_far sequence.old) K.separator ++ item_text (item_of_calls calls.now))) }
     ensures value { OnOk result (IsItem (item_of_calls calls.now)) }
     ensures out_of_memory { OnErr result (GrowsSequence W.Sink sequence.old sequence.new) }
@@ -129,10 +129,10 @@ fn write_dictionary_item<W: Sink>(
     name: KeyRef<'_>,
     calls: &ItemCalls<'_>,
 ) -> Result<(), OutOfMemory>
-    requires { sequence_version dictionary.old ≡ Rfc9651 }
+    requires { dictionary.old.version ≡ Rfc9651 }
     ensures text { OnOk result (HasAppendedNext W.Sink (codes ", ") dictionary.old dictionary.new
         (dictionary_member_text (text_of name.entry, item (item_of_calls calls.now))) false) }
-    ensures room { OnErr result (LacksRoom (W.text (sequence_sink dictionary.old)) (separator_before (is_empty_so_far dictionary.old) (codes ", ")
+    ensures room { OnErr result (LacksRoom (W.text dictionary.old.sink) (separator_before (is_empty_so_far dictionary.old) (codes ", ")
         ++ dictionary_member_text (text_of name.entry, item (item_of_calls calls.now)))) }
     ensures key { OnOk result (IsTrue (is_key (text_of name.entry))) }
     ensures value { OnOk result (IsItem (item_of_calls calls.now)) }
@@ -157,12 +157,12 @@ fn write_inner_items<W: Sink, K>(
     inner: &mut InnerListSerializer<&mut SequenceSerializer<W, K>>,
     items: &[ItemCalls<'_>],
 ) -> Result<(), OutOfMemory>
-    requires { sequence_version inner.old ≡ Rfc9651 }
-    ensures lent { (sequence_sink inner.new).ghost_name ≡ (sequence_sink inner.old).ghost_name }
+    requires { inner.old.version ≡ Rfc9651 }
+    ensures lent { inner.new.sink.ghost_name ≡ inner.old.sink.ghost_name }
     ensures text { OnOk result (HasAppended (lent_sequence W.Sink) inner.old inner.new
         (with_separators (is_empty_so_far inner.old) (codes " ") (map item_text (map item_of_calls items.now)))
         (is_first_after (is_empty_so_far inner.old) (map item_of_calls items.now))) }
-    ensures room { OnErr result (LacksRoom (W.text (sequence_sink (sequence_sink inner.old).now))
+    ensures room { OnErr result (LacksRoom (W.text inner.old.sink.now.sink)
         (with_separators (is_empty_so_far inner.old) (codes " ") (map item_text (map item_of_calls items.now)))) }
     ensures value { OnOk result (AllByRecursion IsItem (map item_of_calls items.now)) }
     ensures grows { GrowsSequence (lent_sequence W.Sink) inner.old inner.new }
@@ -181,10 +181,10 @@ fn write_inner<W: Sink, K: SequenceKind, P: Fragment>(
     params: &[ParamCall<'_>],
     abandon: bool,
 ) -> Result<(), OutOfMemory>
-    requires { sequence_version sequence.old ≡ Rfc9651 }
+    requires { sequence.old.version ≡ Rfc9651 }
     ensures text { OnOk result (WritesInner W.Sink sequence.old sequence.new K.separator (P.text opening)
         (map item_of_calls items.now) (map param_of_call params.now) abandon) }
-    ensures room { OnErr result (LacksRoom (W.text (sequence_sink sequence.old)) (separator_before (is_empty_so_far sequence.old) K.separator
+    ensures room { OnErr result (LacksRoom (W.text sequence.old.sink) (separator_before (is_empty_so_far sequence.old) K.separator
         ++ (if abandon then P.text opening ++ joined (codes " ") (map item_text (map item_of_calls items.now))
         else ended_text (P.text opening) (map item_of_calls items.now) (map param_of_call params.now)))) }
     ensures value { OnOk result (MatchBool abandon ⊤ (P.is_valid opening
@@ -216,10 +216,10 @@ fn write_list_member<W: Sink>(
     list: &mut ListSerializer<W>,
     member: &MemberCalls<'_>,
 ) -> Result<(), OutOfMemory>
-    requires { sequence_version list.old ≡ Rfc9651 }
+    requires { list.old.version ≡ Rfc9651 }
     ensures text { OnOk result (WritesList W.Sink list.old list.new
         (member_calls member.now ∷ [])) }
-    ensures room { OnErr result (LacksRoom (W.text (sequence_sink list.old))
+    ensures room { OnErr result (LacksRoom (W.text list.old.sink)
         (with_separators (is_empty_so_far list.old) (codes ", ") (added_text (member_calls member.now) ∷ []))) }
     ensures value { OnOk result (IsFieldValue list_field (described list_field (member_calls member.now ∷ []))) }
     ensures out_of_memory { OnErr result (GrowsSequence W.Sink list.old list.new) }
@@ -240,10 +240,10 @@ fn write_dictionary_member<W: Sink>(
     name: KeyRef<'_>,
     member: &MemberCalls<'_>,
 ) -> Result<(), OutOfMemory>
-    requires { sequence_version dictionary.old ≡ Rfc9651 }
+    requires { dictionary.old.version ≡ Rfc9651 }
     ensures text { OnOk result (WritesDictionary W.Sink dictionary.old dictionary.new
         ((text_of name.entry, member_calls member.now) ∷ [])) }
-    ensures room { OnErr result (LacksRoom (W.text (sequence_sink dictionary.old))
+    ensures room { OnErr result (LacksRoom (W.text dictionary.old.sink)
         (with_separators (is_empty_so_far dictionary.old) (codes ", ")
         (added_text_of_pair (text_of name.entry, member_calls member.now) ∷ []))) }
     ensures value { OnOk result (IsFieldValue dictionary_field
@@ -271,10 +271,10 @@ fn write_list_members<W: Sink>(
     list: &mut ListSerializer<W>,
     calls: &[MemberCalls<'_>],
 ) -> Result<(), OutOfMemory>
-    requires { sequence_version list.old ≡ Rfc9651 }
+    requires { list.old.version ≡ Rfc9651 }
     ensures text { OnOk result (WritesList W.Sink list.old list.new
         (list_calls calls.now)) }
-    ensures room { OnErr result ((n : ℕ) × LacksRoom (W.text (sequence_sink list.old))
+    ensures room { OnErr result ((n : ℕ) × LacksRoom (W.text list.old.sink)
         (with_separators (is_empty_so_far list.old) (codes ", ") (tried_list calls.now n))) }
     ensures value { OnOk result (IsFieldValue list_field (list_described calls.now)) }
     ensures out_of_memory { OnErr result (GrowsSequence W.Sink list.old list.new) }
@@ -306,10 +306,10 @@ fn write_dictionary_members<W: Sink>(
     dictionary: &mut DictSerializer<W>,
     calls: &[(KeyRef<'_>, MemberCalls<'_>)],
 ) -> Result<(), OutOfMemory>
-    requires { sequence_version dictionary.old ≡ Rfc9651 }
+    requires { dictionary.old.version ≡ Rfc9651 }
     ensures text { OnOk result (WritesDictionary W.Sink dictionary.old dictionary.new
         (dictionary_calls calls.now)) }
-    ensures room { OnErr result ((n : ℕ) × LacksRoom (W.text (sequence_sink dictionary.old))
+    ensures room { OnErr result ((n : ℕ) × LacksRoom (W.text dictionary.old.sink)
         (with_separators (is_empty_so_far dictionary.old) (codes ", ") (tried_dictionary calls.now n))) }
     ensures value { OnOk result (IsFieldValue dictionary_field (dictionary_described calls.now)) }
     ensures out_of_memory { OnErr result (GrowsSequence W.Sink dictionary.old dictionary.new) }

@@ -14,8 +14,8 @@ ghost use Rattle.sfv_spec.specs.Canonical.{bare_text};
 ghost use Rattle.sfv_values.specs.BareItems.{ref_value};
 ghost use Rattle.sfv_writer.specs.Versions.{OnOutOfMemory, ChecksVersionFirst};
 ghost use Rattle.sfv_serializer.specs.Serializers.{IsSameSequence, KeepsSequence, KeepsAfterOne, HasAppendedNext};
-ghost use Rattle.sfv_serializer.specs.Serializers.{sequence_sink, sequence_version, is_empty_so_far, params_sink};
-ghost use Rattle.sfv_serializer.specs.Serializers.{params_version, WritesAll, FailsToWrite, AfterErr, parts_row};
+ghost use Rattle.sfv_serializer.specs.Serializers.{sequence_sink, is_empty_so_far, params_sink};
+ghost use Rattle.sfv_serializer.specs.Serializers.{WritesAll, FailsToWrite, AfterErr, parts};
 ghost use Rattle.sfv_serializer.specs.Serializers.{HasAppendedItem, HasAppendedOpening, BeginsAfter, LacksNext};
 
 use crate::fragment::{BareItemFragment, Separated, TokenFragment};
@@ -62,11 +62,11 @@ pub struct SequenceSerializer<W, K> {
 impl<'a, K: TopLevel> SequenceSerializer<&'a mut StdString, K> {
     /// Creates a serializer that appends to `buffer`, under RFC 9651.
     pub fn with_buffer(buffer: &'a mut StdString) -> SequenceSerializer<&'a mut StdString, K>
-        ensures same_buffer { (sequence_sink result).ghost_name ≡ buffer.entry.ghost_name }
-        ensures text { string_bytes (sequence_sink result).now ≡ string_bytes buffer.old }
-        ensures room { string_capacity (sequence_sink result).now ≡ string_capacity buffer.old }
+        ensures same_buffer { result.sink.ghost_name ≡ buffer.entry.ghost_name }
+        ensures text { string_bytes result.sink.now ≡ string_bytes buffer.old }
+        ensures room { string_capacity result.sink.now ≡ string_capacity buffer.old }
         ensures none { is_empty_so_far result ≡ true }
-        ensures version { sequence_version result ≡ Rfc9651 }
+        ensures version { result.version ≡ Rfc9651 }
     {
         SequenceSerializer::with_buffer_for(buffer, Version::Rfc9651)
     }
@@ -76,11 +76,11 @@ impl<'a, K: TopLevel> SequenceSerializer<&'a mut StdString, K> {
         buffer: &'a mut StdString,
         version: Version,
     ) -> SequenceSerializer<&'a mut StdString, K>
-        ensures same_buffer { (sequence_sink result).ghost_name ≡ buffer.entry.ghost_name }
-        ensures text { string_bytes (sequence_sink result).now ≡ string_bytes buffer.old }
-        ensures room { string_capacity (sequence_sink result).now ≡ string_capacity buffer.old }
+        ensures same_buffer { result.sink.ghost_name ≡ buffer.entry.ghost_name }
+        ensures text { string_bytes result.sink.now ≡ string_bytes buffer.old }
+        ensures room { string_capacity result.sink.now ≡ string_capacity buffer.old }
         ensures none { is_empty_so_far result ≡ true }
-        ensures version { sequence_version result ≡ version }
+        ensures version { result.version ≡ version }
     {
         SequenceSerializer {
             sink: buffer,
@@ -97,7 +97,7 @@ impl<'a, K: TopLevel> SequenceSerializer<&'a mut StdString, K> {
     /// the serializer.
     pub fn finish(self) -> Option<&'a str>
         ensures none { IsNone result ↔ IsTrue (is_empty_so_far self.entry) }
-        ensures text { IfSome result (λ text. text.now ≡ string_bytes (sequence_sink self.entry).now) }
+        ensures text { IfSome result (λ text. text.now ≡ string_bytes self.entry.sink.now) }
     {
         let SequenceSerializer {
             sink,
@@ -164,9 +164,9 @@ impl<W: Sink, K: SequenceKind> SequenceSerializer<W, K> {
         &mut self,
         opening: P,
     ) -> Result<InnerListSerializer<&mut SequenceSerializer<W, K>>, OutOfMemory>
-        ensures* kept { sem 𝓛 (AfterErr (parts_row W.row K.row) sequence_sink (KeepsSequence W.Sink) self.entry result) }
-        ensures lent { IfOk result (λ s. (sequence_sink s).ghost_name ≡ self.entry.ghost_name) }
-        ensures version { IfOk result (λ s. sequence_version s ≡ sequence_version self.old) }
+        ensures* kept { sem 𝓛 (AfterErr (parts W.row K.row) sequence_sink (KeepsSequence W.Sink) self.entry result) }
+        ensures lent { IfOk result (λ s. s.sink.ghost_name ≡ self.entry.ghost_name) }
+        ensures version { IfOk result (λ s. s.version ≡ self.old.version) }
         ensures text { IfOk result (HasAppendedOpening W.Sink K.separator self.old (P.text opening)) }
         ensures room { OnErr result (LacksNext W.Sink K.separator self.old (P.text opening)) }
         ensures begins { IfOk result (BeginsAfter W.Sink self.old) }
@@ -199,10 +199,10 @@ impl<W: Sink, K: Keyless> SequenceSerializer<W, K> {
         &mut self,
         bare_item: RefBareItem<'_>,
     ) -> Result<ParameterSerializer<'_, SequenceSerializer<W, K>>, SerializeError>
-        ensures* kept { sem 𝓛 (AfterErr (parts_row W.row K.row) params_sink (KeepsAfterOne W.Sink result) self.entry result) }
-        ensures lent { IfOk result (λ p. (params_sink p).ghost_name ≡ self.entry.ghost_name) }
-        ensures version { IfOk result (λ p. params_version p ≡ sequence_version self.old) }
-        ensures unsupported { ChecksVersionFirst (sequence_version self.old) (ref_value bare_item.entry ∷ []) result }
+        ensures* kept { sem 𝓛 (AfterErr (parts W.row K.row) params_sink (KeepsAfterOne W.Sink result) self.entry result) }
+        ensures lent { IfOk result (λ p. p.sink.ghost_name ≡ self.entry.ghost_name) }
+        ensures version { IfOk result (λ p. p.version ≡ self.old.version) }
+        ensures unsupported { ChecksVersionFirst self.old.version (ref_value bare_item.entry ∷ []) result }
         ensures text { IfOk result (HasAppendedItem W.Sink K.separator self.old (bare_text (ref_value bare_item.entry))) }
         ensures room { OnOutOfMemory result (LacksNext W.Sink K.separator self.old (bare_text (ref_value bare_item.entry))) }
         ensures is_value { IsBareValue (ref_value bare_item.entry) }

@@ -1,5 +1,6 @@
 -- The values of parameters, items, inner lists, lists and dictionaries.
-use Rattle.std.specs.Prelude.{◌≡◌, ℕ, List, [], false, map}
+use Rattle.std.specs.Prelude.{◌≡◌, ℕ, List, [], false, map, Option, option_map, option_copied}
+use Rattle.std.specs.Borrow.{Bor}
 use Rattle.std.specs.declared.alloc.Global.{Global}
 use Rattle.std.specs.declared.vec.Vec.{Vec}
 use Rattle.std.specs.declared.string.String.{String}
@@ -18,6 +19,10 @@ OwnedBareItem = GenericBareItem (List ℕ) (Vec ℕ Global) (List ℕ) (String G
 -- the pairs of parameters, in order
 abbrev pub pairs_tree : List (List ℕ × OwnedBareItem) → RawParameters
 pairs_tree pairs = map (λ p. (p.0, bare_value p.1)) pairs
+
+-- the value of what a look-up by key returned, if it found one
+abbrev pub found : {A B : Type 0} → (A → B) → Option (Bor A) → Option B
+found tree result = option_map tree (option_copied result)
 
 -- the value of an item
 abbrev pub item_tree : Item → RawItem

@@ -10,7 +10,7 @@ ghost use Rattle.sfv_spec.specs.Values.{item, inner_list};
 ghost use Rattle.sfv_tree.specs.HashSeeds.{library_seed};
 ghost use Rattle.sfv_tree.specs.Seeds.{member_seeds};
 ghost use Rattle.sfv_tree.specs.Trees.{item_tree, pairs_tree, inner_list_tree, member_tree, dictionary_tree};
-ghost use Rattle.sfv_tree.specs.Trees.{NeedsNoMemory};
+ghost use Rattle.sfv_tree.specs.Trees.{found, NeedsNoMemory};
 ghost use Rattle.sfv_tree.specs.declared.parsed.ListEntry.TheVariants as entries;
 
 use crate::hash_seed::HashSeed;
@@ -262,7 +262,7 @@ fn find<'a, V>(map: &'a IndexMap<Key, V, HashSeed>, key: KeyRef<'_>) -> Option<&
 /// The same as `dictionary.get(key)`, but compares the keys of a small dictionary one by one, without a hash.
 pub fn find_entry<'a>(dictionary: &'a Dictionary, key: KeyRef<'_>) -> Option<&'a ListEntry>
     ensures value { option_copied result ≡ get bytes_eq dictionary.now (text_of key.entry) }
-    ensures last { option_map member_tree (option_copied result) ≡ last_of (text_of key.entry) (dictionary_tree dictionary.now.entries) }
+    ensures last { found member_tree result ≡ last_of (text_of key.entry) (dictionary_tree dictionary.now.entries) }
 {
     find(dictionary, key)
 }
@@ -272,7 +272,7 @@ pub fn find_entry<'a>(dictionary: &'a Dictionary, key: KeyRef<'_>) -> Option<&'a
 /// The same as `params.get(key)`, but compares the keys of few parameters one by one, without a hash.
 pub fn find_param<'a>(params: &'a Parameters, key: KeyRef<'_>) -> Option<&'a BareItem>
     ensures value { option_copied result ≡ get bytes_eq params.now (text_of key.entry) }
-    ensures last { option_map bare_value (option_copied result) ≡ last_of (text_of key.entry) (pairs_tree params.now.entries) }
+    ensures last { found bare_value result ≡ last_of (text_of key.entry) (pairs_tree params.now.entries) }
 {
     find(params, key)
 }
