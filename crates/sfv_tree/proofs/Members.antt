@@ -2,7 +2,6 @@
 use Rattle.std.proofs.Common.{◌≡◌, ℕ, true, false, List, rules, Result, Ok, Err}
 use Rattle.std.specs.Prelude.{Bool, Some, ◌||◌, IsTrue, OnOk}
 use native.Mathlib.Omega.{arith}
-use Rattle.sfv_spec.specs.Events.{TreeEvent}
 use Rattle.sfv_spec.specs.Values.{RawMember}
 use Rattle.sfv_tree.specs.Builders.{member_state, member_step, settle_pair, ended}
 use Rattle.sfv_tree.specs.Events.{event_of, is_moved}

@@ -4,7 +4,7 @@ use Rattle.std.specs.Borrow.{Bor}
 use Rattle.std.specs.declared.alloc.Global.{Global}
 use Rattle.std.specs.declared.vec.Vec.{Vec}
 use Rattle.std.specs.declared.string.String.{String}
-use Rattle.sfv_spec.specs.Values.{BareValue, RawParameters, RawItem, RawInnerList, RawMember, item, inner_list}
+use Rattle.sfv_spec.specs.Values.{RawParameters, RawItem, RawInnerList, RawMember, item, inner_list}
 use Rattle.sfv_values.specs.declared.bare.GenericBareItem.{GenericBareItem}
 use Rattle.sfv_values.specs.BareItems.{bare_value, holds_bytes}
 use Rattle.sfv_tree.specs.declared.parsed.Item.{Item}
