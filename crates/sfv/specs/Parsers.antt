@@ -2,7 +2,6 @@
 use Rattle.std.specs.Prelude.{◌≡◌, ◌≤◌, ⊤, ℕ, true, List, [], ◌∷◌, ◌++◌, codes, length, map, take, drop, Some, Result}
 use Rattle.std.specs.Prelude.{◌⊎◌, ◌↔◌, ◌==◌, ◌||◌, if◌then◌else◌, IfOk, IfErr, IsTrue, IsFalse, not}
 use Rattle.std.specs.List.{FoldsTo}
-use Rattle.std.specs.Borrow.{Bor}
 use Rattle.sfv_spec.specs.Values.{RawField, boolean, RawItem, IsFieldValue}
 use Rattle.sfv_spec.specs.declared.field_kind.FieldKind.{FieldKind}
 use Rattle.sfv_spec.specs.declared.field_kind.FieldKind.TheVariants.{Item as item_field, List as list_field}

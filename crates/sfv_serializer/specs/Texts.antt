@@ -1,5 +1,5 @@
 -- Borrowed texts.
-use Rattle.std.specs.Borrow.{MutBor, RattleType}
+use Rattle.std.specs.Borrow.{RattleType}
 use Rattle.std.specs.declared.alloc.Global.{Global}
 use Rattle.std.specs.declared.string.String.{String}
 use Rattle.std.specs.contracts.string.String as text
