@@ -1,7 +1,6 @@
 -- The types that the definitions of fields require.
 use Rattle.std.specs.Prelude.{ℕ, List, ◌++◌, Bool, true, false, codes}
-use Rattle.sfv.specs.Values.{BareValue}
-use Rattle.sfv.specs.Values.BareValue as values
+use Rattle.sfv.specs.Values.{BareValue, boolean, integer, string, token, byte_sequence}
 use Rattle.sfv_lint_notes.specs.declared.rules.Types.{Types}
 use Rattle.sfv_lint_notes.specs.declared.rules.Types.TheVariants as types
 use Rattle.sfv_lint_notes.specs.declared.rules.Part.{Part}
@@ -10,15 +9,15 @@ use Rattle.sfv_lint_notes.specs.declared.rules.Rule.{Rule}
 
 -- the bare item has one of the types
 abbrev pub has_type : Types → BareValue → Bool
-has_type types.Boolean (values.boolean b) = true
-has_type types.Integer (values.integer z) = true
-has_type types.String (values.string s) = true
-has_type types.Token (values.token t) = true
-has_type types.ByteSequence (values.byte_sequence b) = true
-has_type types.StringOrToken (values.string s) = true
-has_type types.StringOrToken (values.token t) = true
-has_type types.TokenOrByteSequence (values.token t) = true
-has_type types.TokenOrByteSequence (values.byte_sequence b) = true
+has_type types.Boolean (boolean b) = true
+has_type types.Integer (integer z) = true
+has_type types.String (string s) = true
+has_type types.Token (token t) = true
+has_type types.ByteSequence (byte_sequence b) = true
+has_type types.StringOrToken (string s) = true
+has_type types.StringOrToken (token t) = true
+has_type types.TokenOrByteSequence (token t) = true
+has_type types.TokenOrByteSequence (byte_sequence b) = true
 has_type t v = false
 
 -- the types in words
