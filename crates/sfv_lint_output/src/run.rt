@@ -1,6 +1,7 @@
 //! A run of the program `sfv_lint`.
 
-ghost use Rattle.std.specs.Prelude.{◌≡◌, ◌++◌, [], ◌∷◌, IfOk, IfErr, OnOk, Some, None, string_bytes, codes, ℕ, List, Bor};
+ghost use Rattle.std.specs.Prelude.{◌≡◌, ◌++◌, [], ◌∷◌, IfOk, IfErr, OnOk, Some, None, false, string_bytes, codes, ℕ, List};
+ghost use Rattle.std.specs.Borrow.{Bor};
 ghost use Rattle.sfv.specs.Types.{FieldKind};
 ghost use Rattle.sfv_http_fields.specs.Registry.{registered_type};
 ghost use Rattle.sfv_lint_head.specs.Heads.{HasNoHead};
@@ -133,9 +134,10 @@ fn pasted_name(line: &[u8]) -> Option<&str> {
 fn append_hint(out: &mut String, name: &str) -> Result<(), AllocError>
     ensures { OnOk result (string_bytes out.new ≡ string_bytes out.old ++ hint_text name.now) }
 {
-    out.push_str("    hint: leave out `")?;
-    out.push_str(name)?;
-    out.push_str(":`, or leave out --type and --field\n")
+    write!(
+        out,
+        "    hint: leave out `{name}:`, or leave out --type and --field\n"
+    )
 }
 
 /// Appends advice for a rejected value that begins with the name of its field.
@@ -161,6 +163,13 @@ fn json_output(alloc: Global, fields: &[Field], others: &[Vec<u8>]) -> Result<St
     let mut text = document(alloc, fields, others)?.to_string(alloc)?;
     text.push('\n')?;
     Ok(text)
+}
+
+/// Returns `true` if one of the fields of a report has an error, or if `strict` a note.
+fn report_failed(alloc: Global, report: &Report, strict: bool) -> Result<bool, AllocError>
+    ensures { IfOk result (IsFailed strict report.now.fields.items) }
+{
+    has_failed(alloc, report.fields.as_slice(), strict)
 }
 
 /// Returns the text for a head.
@@ -193,7 +202,7 @@ fn run_head(
     ensures no_head { IfErr result (λ failure. failure ≡ failures.NoHead → HasNoHead input.now) }
 {
     let report = report_head(alloc, seed, options.version, input)?;
-    let failed = has_failed(alloc, report.fields.as_slice(), options.strict)?;
+    let failed = report_failed(alloc, &report, options.strict)?;
     let text = head_text(alloc, options, colors, &report)?;
     Ok(Output { text, failed })
 }
