@@ -32,15 +32,17 @@ is "$version" sh -c "sed -n 's/^## //p' CHANGELOG.md | head -n 1"
 grep -ho '0\.16\.0[-+.][a-z]*[0-9][0-9]*' README.md docs/*.md bindings/*/README.md | sort -u >"$room/names"
 printf '%s\n' "$version" "$upstream+$number" "$upstream.post$number" | sort | comm -13 - "$room/names" >"$room/other"
 [ ! -s "$room/other" ] || wrong "the pages name other releases: $(tr '\n' ' ' <"$room/other")"
-! command -v man >/dev/null || is 0 sh -c 'man -l --warnings=all -Tutf8 release/sfv_tool.1 2>&1 >/dev/null | grep -c . || true'
+for program in sfv_tool sfv_lint; do
+    ! command -v groff >/dev/null || is "" groff -man -ww -z -Tutf8 "release/$program.1"
+done
 
-# Makes the copy of the repository, and stand-ins: a library whose calls do nothing, a program, and the kit's archives.
+# Makes the copy of the repository, and stand-ins: a library whose calls do nothing, two programs, and the kit's archives.
 make_copy() {
     copy=$room/copy
     mkdir "$copy" "$room/kit" "$room/kit/c" && git ls-files -z | tar -c --null -T - | tar -x -C "$copy" || return 1
     (cd "$copy" && git init -q . && git config user.name check && git config user.email check@localhost && git add -A -f &&
         git commit -qm copy) || return 1
-    mkdir -p "$copy/crates/sfv_c/out" "$copy/crates/sfv_tool/out"
+    mkdir -p "$copy/crates/sfv_c/out" "$copy/crates/sfv_tool/out" "$copy/crates/sfv_lint/out"
     {
         echo '#include <stddef.h>'
         echo '#include <stdint.h>'
@@ -50,11 +52,14 @@ make_copy() {
     } >"$room/library.c"
     echo '#include <stdio.h>
 int main(void) { return puts("a=3, b=2") < 0; }' >"$room/tool.c"
+    echo '#include <stdio.h>
+int main(void) { return puts("Priority: ok  u=1") < 0; }' >"$room/lint.c"
     echo 'int rattle_alloc(void); int rattle_alloc(void) { return 0; }' >"$room/heap.c"
-    for name in library tool heap; do cc -O1 -fPIC -c "$room/$name.c" -o "$room/$name.o" || return 1; done
+    for name in library tool lint heap; do cc -O1 -fPIC -c "$room/$name.c" -o "$room/$name.o" || return 1; done
     ar rcD "$copy/crates/sfv_c/out/libsfv_c.a" "$room/library.o" && cp "$room/tool.o" "$copy/crates/sfv_tool/out/sfv_tool.o" &&
+        cp "$room/lint.o" "$copy/crates/sfv_lint/out/sfv_lint.o" &&
         ar rcD "$room/kit/c/liblibc_c.a" "$room/heap.o" && ar rcD "$room/kit/c/libos_c.a" || return 1
-    record sfv_c/out/libsfv_c.a && record sfv_tool/out/sfv_tool.o
+    record sfv_c/out/libsfv_c.a && record sfv_tool/out/sfv_tool.o && record sfv_lint/out/sfv_lint.o
 }
 
 # Writes the record of a stand-in, as release/prove does.
@@ -108,9 +113,23 @@ check_paths() {
     cd - >/dev/null
 }
 
+# Whether the tarball has each program, which runs, with its manual page of this version, and BUILD names its object.
+check_programs() {
+    folder=$room/unpacked/sfv-$version-linux-x86_64
+    is "$(printf 'sfv_lint\nsfv_tool')" ls "$folder/bin"
+    is "$(printf 'sfv_lint.1.gz\nsfv_tool.1.gz')" ls "$folder/share/man/man1"
+    is "a=3, b=2" "$folder/bin/sfv_tool"
+    is "Priority: ok  u=1" "$folder/bin/sfv_lint"
+    for program in sfv_tool sfv_lint; do
+        name=$(echo "$program" | tr a-z A-Z)
+        is ".TH $name 1 \"\" \"sfv $version\" \"User Commands\"" sh -c "gzip -dc '$folder/share/man/man1/$program.1.gz' | head -n 1"
+        is 1 grep -c "^sha256 of $program.o: $(sha256sum <"$copy/crates/$program/out/$program.o" | cut -d' ' -f1)\$" "$folder/BUILD"
+    done
+}
+
 check_bad_input() {
-    library=$copy/crates/sfv_c/out/libsfv_c.a tool=$copy/crates/sfv_tool/out/sfv_tool.o
-    for file in "$library" "$tool"; do
+    library=$copy/crates/sfv_c/out/libsfv_c.a tool=$copy/crates/sfv_tool/out/sfv_tool.o lint=$copy/crates/sfv_lint/out/sfv_lint.o
+    for file in "$library" "$tool" "$lint"; do
         mv "$file" "$room/kept" && fails "${file#"$copy"/} is missing" "$room/out"
         mv "$room/kept" "$file"
         mv "$file.proof" "$room/kept" && fails "${file#"$copy"/} has no record" "$room/out"
@@ -119,6 +138,11 @@ check_bad_input() {
     cp "$library" "$room/kept" && ar rcD "$library" "$room/tool.o"
     fails "is not the file that release/prove recorded" "$room/out"
     cp "$room/kept" "$library"
+    cp "$lint" "$room/kept" && cp "$room/tool.o" "$lint"
+    fails "sfv_lint.o is not the file that release/prove recorded" "$room/out"
+    record sfv_lint/out/sfv_lint.o
+    fails "the static sfv_lint does not run" "$room/out"
+    cp "$room/kept" "$lint" && record sfv_lint/out/sfv_lint.o
     echo "# changed" >>"$copy/crates.txt"
     fails "crates.txt is not committed" "$room/out"
     (cd "$copy" && git commit -qam changed)
@@ -156,6 +180,7 @@ else
         wrong "SHA256SUMS is wrong, or lacks an artefact"
     check_names
     check_paths
+    check_programs
     check_bad_input
 fi
 exit "$failed"

@@ -32,13 +32,15 @@ need_proved() {
 # Prints the value of a name in a record.
 value_of() { sed -n "s/^$1: //p" "$2"; }
 
-# Checks the repository and the proved build. Sets `commit`, `library`, `tool`, `heap` and `calls`.
+# Checks the repository and the proved build. Sets `commit`, `library`, `tool`, `lint`, `heap` and `calls`.
 read_inputs() {
     commit=$(git -C "$top" rev-parse HEAD 2>/dev/null) || fail "there is no git repository at $top"
     need_proved sfv_c libsfv_c.a '`rt lib`'
     need_proved sfv_tool sfv_tool.o '`rt run`'
+    need_proved sfv_lint sfv_lint.o '`rt run`'
     need_committed .
     library=$top/crates/sfv_c/out/libsfv_c.a tool=$top/crates/sfv_tool/out/sfv_tool.o
+    lint=$top/crates/sfv_lint/out/sfv_lint.o
     kit=${SFV_KIT:-}
     [ -n "$kit" ] || ! command -v rt >/dev/null || kit=$(dirname "$(rt doc)")
     heap=$kit/c/liblibc_c.a calls=$kit/c/libos_c.a

@@ -3,10 +3,11 @@
 
 use sfv::{HashSeed, random_seed};
 use sfv_lint_args::options::{Options, parse_arguments};
+use sfv_lint_head::paint::Colors;
 use sfv_lint_output::run::{Failure, explanation, run};
 use std::alloc::AllocGlobal;
-use std::env::Env;
-use std::io::{Read, Write};
+use std::env::{Env, VarError};
+use std::io::{IsTerminal, Read, Write};
 use std::process::ExitCode;
 use std::random::RandomSource;
 use std::{env, io};
@@ -21,6 +22,15 @@ fn arguments<R: Env + AllocGlobal>(rt: &R) -> io::Result<Vec<String>> {
         args.push(arg)?;
     }
     Ok(args)
+}
+
+/// Returns `true` if the variable `NO_COLOR` is set and not empty, or cannot be read.
+fn no_color<R: Env + AllocGlobal>(rt: &R) -> bool {
+    match env::var(rt, "NO_COLOR") {
+        Ok(value) => !value.is_empty(),
+        Err(VarError::NotPresent) => false,
+        Err(_) => true,
+    }
 }
 
 /// Writes a text, and returns the status, or `WRONG` if it cannot be written.
@@ -42,6 +52,7 @@ fn lint<I: Read, O: Write, E: Write>(
     alloc: std::alloc::Global,
     seed: HashSeed,
     options: &Options<'_>,
+    colors: Colors,
     input: &mut I,
     output: &mut O,
     errors: &mut E,
@@ -50,7 +61,7 @@ fn lint<I: Read, O: Write, E: Write>(
     if input.read_to_end(&mut bytes).is_err() {
         return write(errors, "sfv_lint: cannot read the input\n", WRONG);
     }
-    match run(alloc, seed, options, bytes.as_slice()) {
+    match run(alloc, seed, options, colors, bytes.as_slice()) {
         Ok(report) => write(output, report.text.as_str(), u8::from(report.failed)),
         Err(failure) => write_failure(errors, failure),
     }
@@ -91,6 +102,14 @@ fn main(rt: HostRuntime) -> ExitCode {
             &mut rt.stderr(),
         ));
     }
+    let colors = if options
+        .color
+        .has_colors(rt.stdout().is_terminal(), no_color(&rt))
+    {
+        Colors::On
+    } else {
+        Colors::Off
+    };
     let Ok(seed) = random_seed(|bytes| rt.fill_bytes(bytes)) else {
         let _ = rt.stderr().write_all(b"sfv_lint: no random seed\n");
         return ExitCode::from(WRONG);
@@ -99,6 +118,7 @@ fn main(rt: HostRuntime) -> ExitCode {
         rt.alloc(),
         seed,
         &options,
+        colors,
         &mut rt.stdin(),
         &mut rt.stdout(),
         &mut rt.stderr(),

@@ -2,13 +2,37 @@
 
 ghost use Rattle.std.specs.Prelude.{◌≡◌, codes, option_map};
 ghost use Rattle.clap.specs.Words.{found_of, first_value, one_text};
-ghost use Rattle.sfv_lint_args.specs.Options.{kind_of_word, version_of_word, IsFlag};
+ghost use Rattle.sfv_lint_args.specs.Options.{kind_of_word, version_of_word, color_of_word, has_colors, IsFlag};
 
 use crate::explain::KIND_NAMES;
 use clap::{Arg, ArgAction, ArgMatches, Command, Error};
 use sfv_spec::field_kind::FieldKind;
 use sfv_spec::version::Version;
 use std::alloc::{AllocError, Global};
+
+/// When the output has colors.
+#[derive(Clone, Copy, Debug, PartialEq, Eq)]
+pub enum ColorChoice {
+    /// If standard output is a terminal and `NO_COLOR` is unset or empty.
+    Auto,
+    /// Always.
+    Always,
+    /// Never.
+    Never,
+}
+
+impl ColorChoice {
+    /// Returns `true` if the output has colors. `no_color` says that the variable `NO_COLOR` is set and not empty.
+    pub fn has_colors(self, is_terminal: bool, no_color: bool) -> bool
+        ensures { result ≡ has_colors self is_terminal no_color }
+    {
+        match self {
+            ColorChoice::Auto => is_terminal && !no_color,
+            ColorChoice::Always => true,
+            ColorChoice::Never => false,
+        }
+    }
+}
 
 /// The options of a command line.
 #[derive(Clone, Copy)]
@@ -29,11 +53,15 @@ pub struct Options<'a> {
     pub tree: bool,
     /// Notes count as errors (`--strict`).
     pub strict: bool,
+    /// When the output has colors (`--color`).
+    pub color: ColorChoice,
 }
 
 static TYPES: [&str; 3] = ["item", "list", "dict"];
 
 static VERSIONS: [&str; 2] = ["8941", "9651"];
+
+static COLORS: [&str; 3] = ["auto", "always", "never"];
 
 /// Returns an option that takes one of these words.
 fn choice<'a>(alloc: Global, name: &'a str, words: &'a [&'a str], help: &'a str) -> Arg<'a> {
@@ -88,11 +116,19 @@ fn output_options<'a>(alloc: Global, command: Command<'a>) -> Result<Command<'a>
         "Say what a kind of error means, such as TrailingComma",
     )
     .value_name("KIND");
+    let color = choice(
+        alloc,
+        "color",
+        COLORS.as_slice(),
+        "Use colors: auto (the default, at a terminal without NO_COLOR), always or never",
+    )
+    .value_name("WHEN");
     command
         .arg(flag(alloc, "all", "Name the other fields too"))?
         .arg(json)?
         .arg(flag(alloc, "tree", "Print the values as trees with types"))?
         .arg(flag(alloc, "strict", "Let notes count as errors"))?
+        .arg(color)?
         .arg(explain)
 }
 
@@ -126,6 +162,17 @@ fn version_of_word(word: Option<&str>) -> Version
     }
 }
 
+/// Returns when the output has colors by a word, which is `auto` without a word.
+fn color_of_word(word: Option<&str>) -> ColorChoice
+    ensures { result ≡ color_of_word (option_map (λ word. word.now) word.entry) }
+{
+    match word {
+        Some("always") => ColorChoice::Always,
+        Some("never") => ColorChoice::Never,
+        _ => ColorChoice::Auto,
+    }
+}
+
 /// Returns the options of these matches.
 fn options_of<'a>(matches: &ArgMatches<'a>) -> Options<'a>
     ensures kind { result.kind ≡ kind_of_word (first_value (found_of matches.now) (codes "type")) }
@@ -137,6 +184,7 @@ fn options_of<'a>(matches: &ArgMatches<'a>) -> Options<'a>
     ensures json { IsFlag (one_text (found_of matches.now) (codes "json")) result.json }
     ensures tree { IsFlag (one_text (found_of matches.now) (codes "tree")) result.tree }
     ensures strict { IsFlag (one_text (found_of matches.now) (codes "strict")) result.strict }
+    ensures color { result.color ≡ color_of_word (first_value (found_of matches.now) (codes "color")) }
 {
     Options {
         kind: kind_of_word(matches.get_str("type")),
@@ -147,6 +195,7 @@ fn options_of<'a>(matches: &ArgMatches<'a>) -> Options<'a>
         json: matches.get_flag("json"),
         tree: matches.get_flag("tree"),
         strict: matches.get_flag("strict"),
+        color: color_of_word(matches.get_str("color")),
     }
 }
 

@@ -62,6 +62,7 @@ fn has_early_space(line: &[u8]) -> bool
 }
 
 /// Returns `true` if the line contains `HTTP/`.
+#[tactic(auto, using(crate::proofs::Steps::names_http_step))]
 fn names_http(line: &[u8]) -> bool
     ensures { result ≡ names_http line.now }
 {

@@ -1,10 +1,10 @@
 //! Structured fields as trees for reading: a line for each part, with its type, below the part that contains it.
 
 use sfv::{
-    BareItem, Dictionary, GenericBareItem, InnerList, Item, ItemSerializer, List, ListEntry,
-    Parameters, RefBareItem, SerializeError,
+    BareItem, Dictionary, GenericBareItem, InnerList, Item, List, ListEntry, OutOfMemory,
+    Parameters,
 };
-use std::alloc::AllocError;
+use sfv_writer::item::serialize_bare_item;
 
 /// Returns the name of the type of a bare item.
 fn type_name(item: &BareItem) -> &'static str {
@@ -21,12 +21,10 @@ fn type_name(item: &BareItem) -> &'static str {
 }
 
 /// Appends the type of a bare item, and its canonical text.
-fn append_bare_item(out: &mut String, item: &BareItem) -> Result<(), SerializeError> {
+fn append_bare_item(out: &mut String, item: &BareItem) -> Result<(), OutOfMemory> {
     out.push_str(type_name(item))?;
     out.push(' ')?;
-    ItemSerializer::with_buffer(out)
-        .bare_item(item.as_ref_item())?
-        .finish();
+    serialize_bare_item(item.as_ref_item(), out)?;
     out.push('\n')?;
     Ok(())
 }
@@ -36,7 +34,7 @@ fn append_parameters(
     out: &mut String,
     indent: &str,
     params: &Parameters,
-) -> Result<(), SerializeError> {
+) -> Result<(), OutOfMemory> {
     for (key, value) in params {
         out.push_str(indent)?;
         out.push(';')?;
@@ -48,13 +46,13 @@ fn append_parameters(
 }
 
 /// Appends the lines of an item, without white space before the first.
-fn append_item_at(out: &mut String, indent: &str, item: &Item) -> Result<(), SerializeError> {
+fn append_item_at(out: &mut String, indent: &str, item: &Item) -> Result<(), OutOfMemory> {
     append_bare_item(out, &item.bare_item)?;
     append_parameters(out, indent, &item.params)
 }
 
 /// Appends the lines of an inner list, without white space before the first.
-fn append_inner_list(out: &mut String, list: &InnerList) -> Result<(), SerializeError> {
+fn append_inner_list(out: &mut String, list: &InnerList) -> Result<(), OutOfMemory> {
     out.push_str("inner list\n")?;
     for item in &list.items {
         out.push_str("        ")?;
@@ -64,7 +62,7 @@ fn append_inner_list(out: &mut String, list: &InnerList) -> Result<(), Serialize
 }
 
 /// Appends the lines of a member, without white space before the first.
-fn append_member(out: &mut String, entry: &ListEntry) -> Result<(), SerializeError> {
+fn append_member(out: &mut String, entry: &ListEntry) -> Result<(), OutOfMemory> {
     match entry {
         ListEntry::Item(item) => append_item_at(out, "      ", item),
         ListEntry::InnerList(list) => append_inner_list(out, list),
@@ -75,8 +73,8 @@ fn append_member(out: &mut String, entry: &ListEntry) -> Result<(), SerializeErr
 ///
 /// # Errors
 ///
-/// Returns `SerializeError::OutOfMemory` if memory runs out. A part may then be appended.
-pub fn append_item(out: &mut String, item: &Item) -> Result<(), SerializeError> {
+/// Returns `OutOfMemory` if memory runs out. A part may then be appended.
+pub fn append_item(out: &mut String, item: &Item) -> Result<(), OutOfMemory> {
     out.push_str("    ")?;
     append_item_at(out, "      ", item)
 }
@@ -85,8 +83,8 @@ pub fn append_item(out: &mut String, item: &Item) -> Result<(), SerializeError> 
 ///
 /// # Errors
 ///
-/// Returns `SerializeError::OutOfMemory` if memory runs out. A part may then be appended.
-pub fn append_list(out: &mut String, list: &List) -> Result<(), SerializeError> {
+/// Returns `OutOfMemory` if memory runs out. A part may then be appended.
+pub fn append_list(out: &mut String, list: &List) -> Result<(), OutOfMemory> {
     for entry in list {
         out.push_str("    ")?;
         append_member(out, entry)?;
@@ -98,8 +96,8 @@ pub fn append_list(out: &mut String, list: &List) -> Result<(), SerializeError> 
 ///
 /// # Errors
 ///
-/// Returns `SerializeError::OutOfMemory` if memory runs out. A part may then be appended.
-pub fn append_dictionary(out: &mut String, dictionary: &Dictionary) -> Result<(), SerializeError> {
+/// Returns `OutOfMemory` if memory runs out. A part may then be appended.
+pub fn append_dictionary(out: &mut String, dictionary: &Dictionary) -> Result<(), OutOfMemory> {
     for (key, entry) in dictionary {
         out.push_str("    ")?;
         out.push_str(key.as_str())?;

@@ -1,13 +1,16 @@
 //! Notes on accepted fields: what is allowed by RFC 9651 and is still worth a look.
 
+ghost use Rattle.std.specs.Prelude.{◌≡◌, ◌++◌, [], true, OnOk, IfOk, string_bytes};
+ghost use Rattle.sfv_lint_report.specs.Reports.{has_error};
+ghost use Rattle.sfv_lint_notes.specs.Notes.{note_text};
+
 use crate::keys::has_repeated_key;
-use crate::rules::{Part, Rule, rules};
+use crate::rules::{Part, Rule, append_rule, rules};
 use sfv::{Dictionary, GenericBareItem, Item, ListEntry, Parameters};
 use sfv_lint_head::lines::join;
 use sfv_lint_report::check::{Accepted, FieldValue};
 use sfv_lint_report::report::Field;
 use std::alloc::{AllocError, Global};
-use std::fmt;
 
 /// A note on an accepted field.
 #[derive(Clone, Copy)]
@@ -16,27 +19,33 @@ pub enum Note {
     RepeatedKey,
     /// The canonical text is another one, other than in spaces and tabs.
     Changes,
-    /// A part has not the type that the definition of the field wants.
+    /// A part has not the type that the definition of the field requires.
     WrongType(Rule),
     /// The urgency of a priority is not an integer from 0 to 7.
     Urgency,
-    /// The digest of this algorithm has not this length.
-    DigestLength(&'static str, usize),
+    /// A SHA-256 digest has not 32 bytes.
+    Sha256Length,
+    /// A SHA-512 digest has not 64 bytes.
+    Sha512Length,
 }
 
-impl fmt::Display for Note {
-    fn fmt<W: fmt::Write>(&self, f: &mut fmt::Formatter<W>) -> fmt::Result {
-        match self {
-            Note::RepeatedKey => f.write_str("a key occurs twice, and its last value counts"),
-            Note::Changes => f.write_str("the value changes when it is written"),
-            Note::WrongType(rule) => write!(f, "{rule}"),
-            Note::Urgency => f.write_str(
-                "u is not an integer from 0 to 7, so it is ignored (RFC 9218, section 4.1)",
-            ),
-            Note::DigestLength(algorithm, length) => {
-                write!(f, "a digest of {algorithm} has {length} bytes (RFC 9530)")
-            }
-        }
+/// Appends what the note says.
+///
+/// # Errors
+///
+/// Returns `AllocError` if memory runs out. A part may then be appended.
+pub fn append_note(out: &mut String, note: &Note) -> Result<(), AllocError>
+    ensures { OnOk result (string_bytes out.new ≡ string_bytes out.old ++ note_text note.now) }
+{
+    match note {
+        Note::RepeatedKey => out.push_str("a key occurs twice, and its last value counts"),
+        Note::Changes => out.push_str("the value changes when it is written"),
+        Note::WrongType(rule) => append_rule(out, rule),
+        Note::Urgency => out.push_str(
+            "u is not an integer from 0 to 7, so it is ignored (RFC 9218, section 4)",
+        ),
+        Note::Sha256Length => out.push_str("a digest of sha-256 has 32 bytes (RFC 9530)"),
+        Note::Sha512Length => out.push_str("a digest of sha-512 has 64 bytes (RFC 9530)"),
     }
 }
 
@@ -112,18 +121,18 @@ fn is_broken(rule: &Rule, value: &FieldValue) -> bool {
     }
 }
 
-/// Returns the length of a digest of the algorithm, if it is known (RFC 9530, section 7.2).
-fn digest_length(algorithm: &str) -> Option<(&'static str, usize)> {
+/// Returns the length of a digest of the algorithm, if it is known, and the note on another length (RFC 9530).
+fn digest_length(algorithm: &str) -> Option<(usize, Note)> {
     match algorithm {
-        "sha-256" => Some(("sha-256", 32)),
-        "sha-512" => Some(("sha-512", 64)),
+        "sha-256" => Some((32, Note::Sha256Length)),
+        "sha-512" => Some((64, Note::Sha512Length)),
         _ => None,
     }
 }
 
 /// Returns the note on a digest of another length than its algorithm has.
 fn digest_note(algorithm: &str, member: &ListEntry) -> Option<Note> {
-    let (name, length) = digest_length(algorithm)?;
+    let (length, note) = digest_length(algorithm)?;
     let ListEntry::Item(item) = member else {
         return None;
     };
@@ -133,7 +142,7 @@ fn digest_note(algorithm: &str, member: &ListEntry) -> Option<Note> {
     if bytes.len() == length {
         return None;
     }
-    Some(Note::DigestLength(name, length))
+    Some(note)
 }
 
 /// Returns the note on an urgency that is not an integer from 0 to 7.
@@ -227,7 +236,9 @@ fn notes_on(
 /// # Errors
 ///
 /// Returns `AllocError` if memory runs out.
-pub fn notes(alloc: Global, field: &Field) -> Result<Vec<Note>, AllocError> {
+pub fn notes(alloc: Global, field: &Field) -> Result<Vec<Note>, AllocError>
+    ensures { IfOk result (λ notes. has_error field.now ≡ true → notes.items ≡ []) }
+{
     match &field.outcome {
         Ok(accepted) => notes_on(
             alloc,

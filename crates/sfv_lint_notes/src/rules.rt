@@ -1,7 +1,11 @@
 //! The types that the definitions of fields want.
 
+ghost use Rattle.std.specs.Prelude.{◌≡◌, ◌++◌, OnOk, string_bytes};
+ghost use Rattle.sfv.specs.Field.{bare_value};
+ghost use Rattle.sfv_lint_notes.specs.Rules.{types_text, part_text, rule_text, has_type};
+
 use sfv::{BareItem, GenericBareItem};
-use std::fmt;
+use std::alloc::AllocError;
 
 /// A set of types of bare items.
 #[derive(Clone, Copy)]
@@ -24,7 +28,9 @@ pub enum Types {
 
 impl Types {
     /// Returns `true` if the bare item has one of the types.
-    pub fn has(self, item: &BareItem) -> bool {
+    pub fn has(self, item: &BareItem) -> bool
+        ensures { result ≡ has_type self (bare_value item.now) }
+    {
         match item {
             GenericBareItem::Boolean(_) => matches!(self, Types::Boolean),
             GenericBareItem::Integer(_) => matches!(self, Types::Integer),
@@ -41,7 +47,9 @@ impl Types {
     }
 
     /// Returns the types in words.
-    pub fn name(self) -> &'static str {
+    pub fn name(self) -> &'static str
+        ensures { result.now ≡ types_text self }
+    {
         match self {
             Types::Boolean => "a boolean",
             Types::Integer => "an integer",
@@ -80,20 +88,38 @@ pub struct Rule {
     pub source: &'static str,
 }
 
-impl fmt::Display for Rule {
-    fn fmt<W: fmt::Write>(&self, f: &mut fmt::Formatter<W>) -> fmt::Result {
-        let types = self.types.name();
-        let source = self.source;
-        match self.part {
-            Part::Members => write!(f, "a member is {types} ({source})"),
-            Part::InnerItems => write!(
-                f,
-                "a member is an inner list, and each of its items {types} ({source})"
-            ),
-            Part::Member(key) => write!(f, "{key} is {types} ({source})"),
-            Part::Parameter(key) => write!(f, "the parameter {key} is {types} ({source})"),
+/// Appends what the part of the field is.
+fn append_part(out: &mut String, part: Part) -> Result<(), AllocError>
+    ensures { OnOk result (string_bytes out.new ≡ string_bytes out.old ++ part_text part) }
+{
+    match part {
+        Part::Members => out.push_str("a member is "),
+        Part::InnerItems => out.push_str("a member is an inner list, and each of its items "),
+        Part::Member(key) => {
+            out.push_str(key)?;
+            out.push_str(" is ")
+        }
+        Part::Parameter(key) => {
+            out.push_str("the parameter ")?;
+            out.push_str(key)?;
+            out.push_str(" is ")
         }
     }
+}
+
+/// Appends what the rule says: the part, its types and the document.
+///
+/// # Errors
+///
+/// Returns `AllocError` if memory runs out. A part may then be appended.
+pub fn append_rule(out: &mut String, rule: &Rule) -> Result<(), AllocError>
+    ensures { OnOk result (string_bytes out.new ≡ string_bytes out.old ++ rule_text rule.now) }
+{
+    append_part(out, rule.part)?;
+    out.push_str(rule.types.name())?;
+    out.push_str(" (")?;
+    out.push_str(rule.source)?;
+    out.push(')')
 }
 
 fn row(field: &'static str, part: Part, types: Types, source: &'static str) -> Rule {
@@ -106,7 +132,7 @@ fn row(field: &'static str, part: Part, types: Types, source: &'static str) -> R
 }
 
 /// Returns the rules of all fields.
-pub fn rules() -> [Rule; 29] {
+pub fn rules() -> [Rule; 28] {
     [
         row(
             "accept-ch",
@@ -181,12 +207,6 @@ pub fn rules() -> [Rule; 29] {
             "RFC 9211, section 2.7",
         ),
         row(
-            "cache-status",
-            Part::Parameter("detail"),
-            Types::StringOrToken,
-            "RFC 9211, section 2.8",
-        ),
-        row(
             "proxy-status",
             Part::Members,
             Types::StringOrToken,
@@ -232,7 +252,7 @@ pub fn rules() -> [Rule; 29] {
             "signature-input",
             Part::InnerItems,
             Types::String,
-            "RFC 9421, section 4.1",
+            "RFC 9421, sections 2 and 4.1",
         ),
         row(
             "signature-input",

@@ -4,7 +4,7 @@ use serde_json::{Value, json};
 use sfv::{Error, FieldKind};
 use sfv_lint_args::explain::kind_name;
 use sfv_lint_json::json::{dictionary, item, list};
-use sfv_lint_notes::notes::notes;
+use sfv_lint_notes::notes::{append_note, notes};
 use sfv_lint_report::check::{Accepted, FieldValue};
 use sfv_lint_report::report::Field;
 use std::alloc::{AllocError, Global};
@@ -45,7 +45,9 @@ fn error(alloc: Global, error: &Error) -> Result<Value, AllocError> {
 fn note_texts(alloc: Global, field: &Field) -> Result<Value, AllocError> {
     let mut texts = Vec::new(alloc);
     for note in &notes(alloc, field)? {
-        texts.push(Value::String(note.to_string(alloc)?))?;
+        let mut text = String::new(alloc);
+        append_note(&mut text, note)?;
+        texts.push(Value::String(text))?;
     }
     Ok(Value::Array(texts))
 }

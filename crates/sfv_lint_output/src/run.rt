@@ -1,12 +1,24 @@
 //! A run of the program `sfv_lint`.
 
+ghost use Rattle.std.specs.Prelude.{◌≡◌, ◌++◌, [], ◌∷◌, IfOk, IfErr, OnOk, Some, None, false, string_bytes, codes, ℕ, List};
+ghost use Rattle.std.specs.Borrow.{Bor};
+ghost use Rattle.sfv.specs.Types.{FieldKind};
+ghost use Rattle.sfv_http_fields.specs.Registry.{registered_type};
+ghost use Rattle.sfv_lint_head.specs.Heads.{HasNoHead};
+ghost use Rattle.sfv_lint_head.specs.declared.head.HeadFault.TheVariants as head_faults;
+ghost use Rattle.sfv_lint_output.specs.Lines.{IsPrinted};
+ghost use Rattle.sfv_lint_output.specs.Runs.{IsFailed, IsHeadOutput, IsValueOutput, IsFieldOutput, IsPrintedValue};
+ghost use Rattle.sfv_lint_output.specs.Runs.{IsOfHead, AppendsAdvice, hint_text};
+ghost use Rattle.sfv_lint_output.specs.declared.run.Failure.TheVariants as failures;
+
 use crate::document::document;
-use crate::lines::{append_field_lines, append_report_lines};
-use sfv::{FieldKind, HashSeed, SerializeError};
+use crate::lines::{append_field_lines, report_lines};
+use sfv::{FieldKind, HashSeed, OutOfMemory};
 use sfv_http_fields::registry::type_of;
 use sfv_lint_args::explain::{Explanation, explain};
 use sfv_lint_args::options::Options;
 use sfv_lint_head::head::HeadFault;
+use sfv_lint_head::paint::Colors;
 use sfv_lint_notes::notes::notes;
 use sfv_lint_report::report::{Field, Report, report_head, report_value};
 use std::alloc::{AllocError, AllocFailed, Global};
@@ -48,6 +60,8 @@ impl fmt::Display for Failure {
 impl std::error::Error for Failure {}
 
 impl From<HeadFault> for Failure {
+    ghost from_gives = { λ fault failure. failure ≡ failures.NoHead → fault ≡ head_faults.NoHead };
+
     fn from(fault: HeadFault) -> Failure {
         match fault {
             HeadFault::NoHead => Failure::NoHead,
@@ -57,30 +71,51 @@ impl From<HeadFault> for Failure {
 }
 
 impl From<AllocError> for Failure {
+    ghost from_gives = { λ _ failure. failure ≡ failures.OutOfMemory };
+
     fn from(_error: AllocError) -> Failure {
         Failure::OutOfMemory
     }
 }
 
 impl<T: Drop> From<AllocFailed<T>> for Failure {
+    ghost from_gives = { λ _ failure. failure ≡ failures.OutOfMemory };
+
     fn from(_error: AllocFailed<T>) -> Failure {
         Failure::OutOfMemory
     }
 }
 
-impl From<SerializeError> for Failure {
-    fn from(_error: SerializeError) -> Failure {
+impl From<OutOfMemory> for Failure {
+    ghost from_gives = { λ _ failure. failure ≡ failures.OutOfMemory };
+
+    fn from(_error: OutOfMemory) -> Failure {
         Failure::OutOfMemory
     }
 }
 
+/// Returns `true` if the field has an error, or if `strict` a note.
+#[tactic(auto, using(crate::proofs::Failing::field_failed, crate::proofs::Failing::only_if_strict))]
+fn is_failed(alloc: Global, field: &Field, strict: bool) -> Result<bool, AllocError>
+    ensures { IfOk result (IsFailed strict (field.now ∷ [])) }
+{
+    if field.outcome.is_err() {
+        return Ok(true);
+    }
+    if !strict {
+        return Ok(false);
+    }
+    let notes = notes(alloc, field)?;
+    Ok(!notes.is_empty())
+}
+
 /// Returns `true` if one of the fields has an error, or if `strict` a note.
-fn has_failed(alloc: Global, fields: &[Field], strict: bool) -> Result<bool, AllocError> {
+#[tactic(auto, using(crate::proofs::Failing::failed_here, crate::proofs::Failing::passed_here, crate::proofs::Failing::none_failed))]
+fn has_failed(alloc: Global, fields: &[Field], strict: bool) -> Result<bool, AllocError>
+    ensures { IfOk result (IsFailed strict fields.now) }
+{
     for field in fields {
-        if field.outcome.is_err() {
-            return Ok(true);
-        }
-        if strict && !notes(alloc, field)?.is_empty() {
+        if is_failed(alloc, field, strict)? {
             return Ok(true);
         }
     }
@@ -95,20 +130,31 @@ fn pasted_name(line: &[u8]) -> Option<&str> {
     Some(name)
 }
 
+/// Appends advice to leave out the name of the field.
+fn append_hint(out: &mut String, name: &str) -> Result<(), AllocError>
+    ensures { OnOk result (string_bytes out.new ≡ string_bytes out.old ++ hint_text name.now) }
+{
+    write!(
+        out,
+        "    hint: leave out `{name}:`, or leave out --type and --field\n"
+    )
+}
+
 /// Appends advice for a rejected value that begins with the name of its field.
-fn append_advice(out: &mut String, field: &Field) -> Result<(), AllocError> {
+#[tactic(auto, using(crate::proofs::Outputs::no_advice, crate::proofs::Outputs::advice_given))]
+fn append_advice(out: &mut String, field: &Field) -> Result<(), AllocError>
+    ensures { OnOk result (AppendsAdvice field.now (string_bytes out.old) (string_bytes out.new)) }
+{
     if field.outcome.is_ok() {
         return Ok(());
     }
     let Some(line) = field.lines.first() else {
         return Ok(());
     };
-    if let Some(name) = pasted_name(line.as_slice()) {
-        writeln!(
-            out,
-            "    hint: leave out `{name}:`, or leave out --type and --field"
-        )?;
-    }
+    let Some(name) = pasted_name(line.as_slice()) else {
+        return Ok(());
+    };
+    append_hint(out, name)?;
     Ok(())
 }
 
@@ -119,43 +165,98 @@ fn json_output(alloc: Global, fields: &[Field], others: &[Vec<u8>]) -> Result<St
     Ok(text)
 }
 
+/// Returns `true` if one of the fields of a report has an error, or if `strict` a note.
+fn report_failed(alloc: Global, report: &Report, strict: bool) -> Result<bool, AllocError>
+    ensures { IfOk result (IsFailed strict report.now.fields.items) }
+{
+    has_failed(alloc, report.fields.as_slice(), strict)
+}
+
+/// Returns the text for a head.
+fn head_text(
+    alloc: Global,
+    options: &Options<'_>,
+    colors: Colors,
+    report: &Report,
+) -> Result<String, OutOfMemory>
+    ensures { IfOk result (λ text. options.now.json ≡ false
+        → IsPrinted colors options.now.tree options.now.all report.now (string_bytes text)) }
+{
+    if options.json {
+        let text = json_output(alloc, report.fields.as_slice(), report.others.as_slice())?;
+        return Ok(text);
+    }
+    report_lines(alloc, colors, report, options.tree, options.all)
+}
+
 /// Returns the output for a head.
+#[tactic(auto, using(crate::proofs::Outputs::head_output))]
 fn run_head(
     alloc: Global,
     seed: HashSeed,
     options: &Options<'_>,
+    colors: Colors,
     input: &[u8],
-) -> Result<Output, Failure> {
+) -> Result<Output, Failure>
+    ensures output { IfOk result (IsHeadOutput options.now colors input.now) }
+    ensures no_head { IfErr result (λ failure. failure ≡ failures.NoHead → HasNoHead input.now) }
+{
     let report = report_head(alloc, seed, options.version, input)?;
-    let fields = report.fields.as_slice();
-    let failed = has_failed(alloc, fields, options.strict)?;
-    if options.json {
-        let text = json_output(alloc, fields, report.others.as_slice())?;
-        return Ok(Output { text, failed });
-    }
-    let mut text = String::new(alloc);
-    append_report_lines(alloc, &mut text, &report, options.tree, options.all)?;
+    let failed = report_failed(alloc, &report, options.strict)?;
+    let text = head_text(alloc, options, colors, &report)?;
     Ok(Output { text, failed })
 }
 
+/// Returns the lines on one value.
+#[tactic(auto, using(crate::proofs::Outputs::value_printed))]
+fn value_lines(
+    alloc: Global,
+    colors: Colors,
+    field: &Field,
+    tree: bool,
+) -> Result<String, OutOfMemory>
+    ensures { IfOk result (λ text. IsPrintedValue colors tree field.now (string_bytes text)) }
+{
+    let mut text = String::new(alloc);
+    append_field_lines(alloc, &mut text, colors, field, tree)?;
+    append_advice(&mut text, field)?;
+    Ok(text)
+}
+
+/// Returns the text for one value.
+fn value_text(
+    alloc: Global,
+    options: &Options<'_>,
+    colors: Colors,
+    field: &Field,
+) -> Result<String, OutOfMemory>
+    ensures { IfOk result (λ text. options.now.json ≡ false
+        → IsPrintedValue colors options.now.tree field.now (string_bytes text)) }
+{
+    if options.json {
+        let text = json_output(alloc, std::slice::from_ref(field), &[])?;
+        return Ok(text);
+    }
+    value_lines(alloc, colors, field, options.tree)
+}
+
 /// Returns the output for one value of this type.
+#[tactic(auto, using(crate::proofs::Outputs::value_output))]
 fn run_value(
     alloc: Global,
     seed: HashSeed,
     options: &Options<'_>,
+    colors: Colors,
     name: &str,
     kind: FieldKind,
     input: &[u8],
-) -> Result<Output, Failure> {
+) -> Result<Output, Failure>
+    ensures output { IfOk result (IsValueOutput options.now colors name.now kind input.now) }
+    ensures failed { IfErr result (λ failure. failure ≡ failures.OutOfMemory) }
+{
     let field = report_value(alloc, seed, options.version, name.as_bytes(), kind, input)?;
-    let failed = has_failed(alloc, std::slice::from_ref(&field), options.strict)?;
-    if options.json {
-        let text = json_output(alloc, std::slice::from_ref(&field), &[])?;
-        return Ok(Output { text, failed });
-    }
-    let mut text = String::new(alloc);
-    append_field_lines(alloc, &mut text, &field, options.tree)?;
-    append_advice(&mut text, &field)?;
+    let failed = is_failed(alloc, &field, options.strict)?;
+    let text = value_text(alloc, options, colors, &field)?;
     Ok(Output { text, failed })
 }
 
@@ -170,18 +271,26 @@ pub fn run(
     alloc: Global,
     seed: HashSeed,
     options: &Options<'_>,
+    colors: Colors,
     input: &[u8],
-) -> Result<Output, Failure> {
+) -> Result<Output, Failure>
+    ensures head { IsOfHead options.now → IfOk result (IsHeadOutput options.now colors input.now) }
+    ensures value { (kind : FieldKind) → options.now.kind ≡ Some kind
+        → IfOk result (IsValueOutput options.now colors (codes "value") kind input.now) }
+    ensures field { (name : Bor (List ℕ)) → options.now.kind ≡ None → options.now.field ≡ Some name
+        → IfOk result (IsFieldOutput options.now colors name.now input.now) }
+    ensures no_head { IfErr result (λ failure. failure ≡ failures.NoHead → HasNoHead input.now) }
+{
     if let Some(kind) = options.kind {
-        return run_value(alloc, seed, options, "value", kind, input);
+        return run_value(alloc, seed, options, colors, "value", kind, input);
     }
     if let Some(name) = options.field {
         let Some(kind) = type_of(name) else {
             return Err(Failure::UnknownField);
         };
-        return run_value(alloc, seed, options, name, kind, input);
+        return run_value(alloc, seed, options, colors, name, kind, input);
     }
-    run_head(alloc, seed, options, input)
+    run_head(alloc, seed, options, colors, input)
 }
 
 /// Appends what a kind of error means.

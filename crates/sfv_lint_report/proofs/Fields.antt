@@ -1,6 +1,6 @@
 -- A report with one more line.
 use Rattle.std.proofs.Common.{◌≡◌, ℕ, ◌+◌, ◌<◌, ◌≤◌, List, [], ◌∷◌, ◌++◌, Bool, true, false, length, take, get_or, refl, sym, ap, ◌∙◌, inl, inr, arith, zero, suc}
-use Rattle.std.specs.Prelude.{Some, None, All, IsUtf8, map}
+use Rattle.std.specs.Prelude.{Some, None, All, map}
 use Rattle.std.specs.List.{list_any}
 use Rattle.std.specs.Str.{str_eq_ignore_ascii_case, str_to_ascii_lowercase}
 use Rattle.std.proofs.lemmas.Slice.Eq.{bytes_eq-Decides}
@@ -30,7 +30,7 @@ same_name : (name : List ℕ) → str_eq_ignore_ascii_case name name ≡ true
 same_name name = (bytes_eq-Decides (str_to_ascii_lowercase name) (str_to_ascii_lowercase name)).1 refl
 
 module _ (version : Version) (lines : List (List ℕ × List ℕ)) (name : List ℕ) (old new : Report) where
-  pub with_other : new.fields.items ≡ old.fields.items → (IsUtf8 name → registered_type name ≡ None)
+  pub with_other : new.fields.items ≡ old.fields.items → registered_type name ≡ None
       → IsWithLine version lines name old new
   with_other same none = record {
     fields = λ h. rw same h;

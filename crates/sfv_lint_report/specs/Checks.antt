@@ -23,12 +23,18 @@ tree_of (values.Item item) = item_tree item
 tree_of (values.List list) = list_tree list.items
 tree_of (values.Dictionary dictionary) = dictionary_tree dictionary.entries
 
+-- the canonical text of the value is this text, if it has a member
+abbrev pub IsCanonical : FieldValue → Option (List ℕ) → Type 0
+IsCanonical (values.Item item) text = IsSerializedAs Rfc9651 item_field (item_tree item) text
+IsCanonical (values.List list) text = IsSerializedAs Rfc9651 list_field (list_tree list.items) text
+IsCanonical (values.Dictionary dictionary) text =
+    IsSerializedAs Rfc9651 dictionary_field (dictionary_tree dictionary.entries) text
+
 -- the text parses to this value under the version, and this is the canonical text of the value, if it has a member
 pub record IsAccepted (version : Version) (kind : FieldKind) (t : List ℕ) (accepted : Accepted) : Type 0 where
   pub same_kind : kind_of accepted.value ≡ kind
   pub parsed : IsParsedAs version (kind_of accepted.value) t (tree_of accepted.value)
-  pub canonical : IsSerializedAs Rfc9651 (kind_of accepted.value) (tree_of accepted.value)
-      (option_map string_bytes accepted.text)
+  pub canonical : IsCanonical accepted.value (option_map string_bytes accepted.text)
 
 -- the outcome of a check: the value with its canonical text, or the error of `Parser::parse`
 pub record IsOutcome (version : Version) (kind : FieldKind) (t : List ℕ) (outcome : Result Accepted Error) : Type 0 where

@@ -1,5 +1,6 @@
 -- The report on the fields of a head, or on one value.
-use Rattle.std.specs.Prelude.{◌≡◌, ◌⊎◌, ℕ, List, [], ◌∷◌, ◌++◌, Bool, true, false, Some, None, map, All, IsUtf8}
+use Rattle.std.specs.Prelude.{◌≡◌, ◌⊎◌, ℕ, List, [], ◌∷◌, ◌++◌, Bool, true, false, Some, None, map, All}
+use Rattle.std.specs.Result.{is_err}
 use Rattle.std.specs.List.{list_any}
 use Rattle.std.specs.Str.{str_eq_ignore_ascii_case}
 use Rattle.sfv.specs.Types.{FieldKind, Version}
@@ -24,6 +25,10 @@ pub record IsFieldOf (version : Version) (lines : List (List ℕ × List ℕ)) (
   pub its_lines : lines_of field ≡ values_of field.name.items lines
   pub checked : IsCheckedField version field
 
+-- the field has an error
+abbrev pub has_error : Field → Bool
+has_error field = is_err field.outcome
+
 -- the field has this name, in any case
 abbrev pub is_of_name : List ℕ → Field → Bool
 is_of_name name field = str_eq_ignore_ascii_case field.name.items name
@@ -31,7 +36,7 @@ is_of_name name field = str_eq_ignore_ascii_case field.name.items name
 -- a name that the registry has is the name of a field of the report
 abbrev pub IsCovered : Report → List ℕ → Type 0
 IsCovered report name = (list_any (is_of_name name) report.fields.items ≡ true)
-    ⊎ (IsUtf8 name → registered_type name ≡ None)
+    ⊎ (registered_type name ≡ None)
 
 -- the fields are fields of the head with these lines
 abbrev pub AreFieldsOf : Version → List (List ℕ × List ℕ) → Report → Type 0
@@ -51,7 +56,8 @@ pub record IsWithLine (version : Version) (lines : List (List ℕ × List ℕ)) 
   pub kept : (other : List ℕ) → IsCovered old other → IsCovered new other
 
 -- the check of a pasted value
-pub record IsValueReport (version : Version) (kind : FieldKind) (input : List ℕ) (field : Field) : Type 0 where
+pub record IsValueReport (version : Version) (name : List ℕ) (kind : FieldKind) (input : List ℕ) (field : Field) : Type 0 where
+  pub same_name : field.name.items ≡ name
   pub same_kind : field.kind ≡ kind
   pub its_lines : lines_of field ≡ value_lines input
   pub checked : IsCheckedField version field

@@ -1,10 +1,9 @@
 //! The check of one field.
 
 ghost use Rattle.std.specs.Prelude.{◌≡◌, IfOk, IfErr, option_map, string_bytes};
-ghost use Rattle.sfv.specs.Types.{Rfc9651};
-ghost use Rattle.sfv.specs.Statements.{IsParsedAs, IsSerializedAs};
+ghost use Rattle.sfv.specs.Statements.{IsParsedAs};
 ghost use Rattle.sfv.specs.Parsers.{IsParseError};
-ghost use Rattle.sfv_lint_report.specs.Checks.{kind_of, tree_of, IsOutcome};
+ghost use Rattle.sfv_lint_report.specs.Checks.{kind_of, tree_of, IsCanonical, IsOutcome};
 
 use sfv::{
     Dictionary, Error, FieldKind, FieldType, HashSeed, Item, List, OutOfMemory, Parser, Version,
@@ -54,8 +53,7 @@ impl FieldValue {
 
     /// Returns the canonical text of the value, or `None` if it has no member.
     fn canonical(&self, alloc: Global) -> Result<Option<String>, OutOfMemory>
-        ensures { IfOk result (λ text.
-            IsSerializedAs Rfc9651 (kind_of self.now) (tree_of self.now) (option_map string_bytes text)) }
+        ensures { IfOk result (λ text. IsCanonical self.now (option_map string_bytes text)) }
     {
         match self {
             FieldValue::Item(item) => Ok(Some(item.serialize(alloc)?)),

@@ -1,6 +1,6 @@
 //! The report on the fields of a head, or on one value.
 
-ghost use Rattle.std.specs.Prelude.{◌≡◌, IfOk, IfErr, OnOk, IfSome, IfNone, Some, None, IsUtf8, map};
+ghost use Rattle.std.specs.Prelude.{◌≡◌, IfOk, IfErr, OnOk, IfSome, IfNone, Some, None, map};
 ghost use Rattle.std.specs.List.{list_any};
 ghost use Rattle.std.specs.Str.{str_eq_ignore_ascii_case};
 ghost use Rattle.sfv_http_fields.specs.Registry.{registered_type};
@@ -40,9 +40,10 @@ pub struct Report {
 }
 
 /// Returns the type of a name in the registry.
+#[tactic(auto, using(crate::proofs::Names::unregistered))]
 fn type_of_name(name: &[u8]) -> Option<FieldKind>
     ensures some { IfSome result (λ kind. registered_type name.now ≡ Some kind) }
-    ensures none { IfNone result (IsUtf8 name.now → registered_type name.now ≡ None) }
+    ensures none { IfNone result (registered_type name.now ≡ None) }
 {
     match str::from_utf8(name) {
         Ok(name) => type_of(name),
@@ -158,7 +159,7 @@ pub fn report_value(
     kind: FieldKind,
     input: &[u8],
 ) -> Result<Field, AllocError>
-    ensures { IfOk result (IsValueReport version kind input.now) }
+    ensures { IfOk result (IsValueReport version name.now kind input.now) }
 {
     let lines = split(alloc, input)?;
     check_lines(alloc, seed, version, name, kind, lines)
