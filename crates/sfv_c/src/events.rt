@@ -81,7 +81,7 @@ impl<'r, 'a> Collector<'r, 'a> {
     }
 
     /// Adds the row of an event without a value.
-    #[inline(always)]
+    #[inline]
     fn keep_plain(&mut self, tag: u32, key: &'a [u8])
         ensures { IsRowKept self.old (record { tag = tag; key = key.now; value = value_numbers None }) 0 self.new }
     {

@@ -5,7 +5,7 @@ ghost use Rattle.sfv_spec.proofs.Marks.{is_symbol};
 ghost use Rattle.sfv_model.specs.Content.{symbol_value, most_padding};
 ghost use Rattle.sfv.specs.parser.Base64.{IsSymbolRun, IsPaddingRun};
 
-use sfv_base::runs::{Symbol, long_run_end};
+use sfv_base::runs::{Symbol, whole_run_end};
 
 /// For each byte, its value as a Base64 symbol, or 0.
 #[rattlefmt::skip]
@@ -43,7 +43,7 @@ pub(crate) fn value_of(byte: u8) -> u8
 pub(crate) fn symbol_run(bytes: &[u8]) -> usize
     ensures { IsSymbolRun bytes.now result }
 {
-    long_run_end::<Symbol>(bytes)
+    whole_run_end::<Symbol>(bytes)
 }
 
 /// Returns the number of padding bytes at the start of `bytes`, at most `most`.

@@ -32,7 +32,7 @@ impl<'de> Cursor<'de> {
             return Err(self.error(ErrorKind::ExpectedStartOfKey));
         }
         // SAFETY: the bytes of a key are ASCII.
-        let bytes = self.byte_and_run::<InnerKey>();
+        let bytes = self.byte_and_short_run::<InnerKey>();
         let text = unsafe { std::str::from_utf8_unchecked(bytes) };
         Ok(KeyRef::constant(text))
     }
