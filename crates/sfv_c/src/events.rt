@@ -89,10 +89,10 @@ impl<'r, 'a> Collector<'r, 'a> {
         ensures same_rows { self.new.rows.ghost_name ≡ self.old.rows.ghost_name }
         ensures rows { self.new.rows.now ≡ self.old.rows.now }
         ensures count { self.new.count ≡ self.old.count }
-        ensures used { self.new.used ≡ counted (self.old.used + length bytes.entry.items) }
-        ensures held { length bytes.entry.items ≤ length self.old.room.now → result.now ≡ bytes.entry.items }
-        ensures left { length bytes.entry.items ≤ length self.old.room.now
-            → length self.new.room.now + length bytes.entry.items ≡ length self.old.room.now }
+        ensures used { self.new.used ≡ counted (self.old.used + length bytes.items) }
+        ensures held { length bytes.items ≤ length self.old.room.now → result.now ≡ bytes.items }
+        ensures left { length bytes.items ≤ length self.old.room.now
+            → length self.new.room.now + length bytes.items ≡ length self.old.room.now }
     {
         self.hold(bytes.as_slice())
     }
@@ -103,10 +103,10 @@ impl<'r, 'a> Collector<'r, 'a> {
         ensures same_rows { self.new.rows.ghost_name ≡ self.old.rows.ghost_name }
         ensures rows { self.new.rows.now ≡ self.old.rows.now }
         ensures count { self.new.count ≡ self.old.count }
-        ensures used { self.new.used ≡ counted (self.old.used + length text.entry) }
-        ensures held { length text.entry ≤ length self.old.room.now → result.now ≡ text.entry }
-        ensures left { length text.entry ≤ length self.old.room.now
-            → length self.new.room.now + length text.entry ≡ length self.old.room.now }
+        ensures used { self.new.used ≡ counted (self.old.used + length text) }
+        ensures held { length text ≤ length self.old.room.now → result.now ≡ text }
+        ensures left { length text ≤ length self.old.room.now
+            → length self.new.room.now + length text ≡ length self.old.room.now }
     {
         self.hold(text.as_str().as_bytes())
     }
@@ -138,10 +138,10 @@ impl<'r, 'a> Collector<'r, 'a> {
         ensures same_rows { self.new.rows.ghost_name ≡ self.old.rows.ghost_name }
         ensures rows { self.new.rows.now ≡ self.old.rows.now }
         ensures count { self.new.count ≡ self.old.count }
-        ensures used { self.new.used ≡ counted (self.old.used + length (string_bytes text.entry)) }
-        ensures held { length (string_bytes text.entry) ≤ length self.old.room.now → result.now ≡ string_bytes text.entry }
-        ensures left { length (string_bytes text.entry) ≤ length self.old.room.now
-            → length self.new.room.now + length (string_bytes text.entry) ≡ length self.old.room.now }
+        ensures used { self.new.used ≡ counted (self.old.used + length (string_bytes text)) }
+        ensures held { length (string_bytes text) ≤ length self.old.room.now → result.now ≡ string_bytes text }
+        ensures left { length (string_bytes text) ≤ length self.old.room.now
+            → length self.new.room.now + length (string_bytes text) ≡ length self.old.room.now }
     {
         self.hold(text.as_str().as_bytes())
     }

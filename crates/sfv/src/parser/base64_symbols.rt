@@ -4,13 +4,17 @@ ghost use Rattle.std.specs.Prelude.{◌≡◌};
 ghost use Rattle.sfv_model.specs.Content.{most_padding};
 ghost use Rattle.sfv.specs.parser.Base64.{IsSymbolRun, IsPaddingRun};
 
-use sfv_base::runs::{Symbol, whole_run_end};
+use sfv_base::runs::{Symbol, long_run_end, whole_run_end};
 
 /// Returns the number of symbols at the start of `bytes`.
 pub(crate) fn symbol_run(bytes: &[u8]) -> usize
     ensures { IsSymbolRun bytes.now result }
 {
-    whole_run_end::<Symbol>(bytes)
+    // Most fields with a byte sequence end soon after it.
+    if bytes.len() <= 64 {
+        return whole_run_end::<Symbol>(bytes);
+    }
+    long_run_end::<Symbol>(bytes)
 }
 
 /// Returns the number of padding bytes at the start of `bytes`, at most `most`.
