@@ -233,7 +233,7 @@ impl<'de, V: Visitor<'de>> Member<'de, V> for KeyedEntry {
 
     #[inline(always)]
     fn consume(cursor: &mut Cursor<'de>, visitor: &mut V) -> Result<(), ParseError<V::Error>> {
-        let key = cursor.key()?;
+        let key = cursor.short_key()?;
         visit(visitor, Event::KeyedEntry(key))?;
         cursor.member_value(visitor)
     }
