@@ -112,7 +112,7 @@ impl<'r, 'a> Collector<'r, 'a> {
     }
 
     /// Returns the bytes of a string. Copies them to the room if they are decoded.
-    // A function, as is `bytes_of_display_string`, so that `parts_of` is short: the compiler inlines no function that is large.
+    // A function, as is `bytes_of_display_string`, so `parts_of` is short: large functions are not inlined.
     #[inline]
     fn bytes_of_string(&mut self, text: StringFromInput<'a>) -> &'a [u8]
         ensures same_rows { self.new.rows.ghost_name ≡ self.old.rows.ghost_name }
