@@ -3,7 +3,6 @@ pub mod Runs
 pub mod Steps
 pub mod Contents
 pub mod Coded
-pub mod SymbolValues
 pub mod Blocks
 pub mod Escapes
 pub mod Errors

@@ -1,7 +1,9 @@
 //! Events as rows, which point to their texts: into the input, or to the decoded text in a borrowed buffer.
 
-ghost use Rattle.std.specs.Prelude.{◌≡◌, ◌≤◌, ◌<◌, ◌^◌, ◌+◌, Some, None, length};
-ghost use Rattle.sfv.specs.BareItems.{input_value};
+ghost use Rattle.std.specs.Prelude.{◌≡◌, ◌≤◌, ◌<◌, ◌^◌, ◌+◌, [], Some, None, length, string_bytes};
+ghost use Rattle.std.specs.Cow.{cow_str_bytes};
+ghost use Rattle.sfv.specs.Types.bare_items as bare;
+ghost use Rattle.sfv.specs.BareItems.{input_value, read_text};
 ghost use Rattle.sfv.specs.Parsers.{input_of, version_of};
 ghost use Rattle.sfv_c.specs.Rows.{row_parts, value_numbers};
 ghost use Rattle.sfv_c.specs.Events.{counted, put_row, room_of_read, IsRowKept, TakesRow, PutsEvents};
@@ -13,9 +15,10 @@ use crate::rows::{
     BARE_ITEM, ENTRY, INNER_LIST, INNER_LIST_END, ITEM, KEYED_ENTRY, PARAMETER, PARAMETERS_END, Row,
 };
 use sfv::visitor::Event;
-use sfv::{BareItemFromInput, FieldKind, GenericBareItem, Parser, StringFromInput};
+use sfv::{BareItemFromInput, FieldKind, GenericBareItem, Parser, String, StringFromInput};
 use std::alloc::Global;
 use std::borrow::CowStr;
+use std::string::String as StdString;
 
 /// A borrowed buffer of rows, the number of rows so far, the free part of the room for decoded texts, and the length of
 /// all decoded texts so far.
@@ -80,8 +83,91 @@ impl<'r, 'a> Collector<'r, 'a> {
         }
     }
 
+    /// Copies decoded bytes to the room, if they fit, and returns the copy.
+    #[inline(never)]
+    fn hold_bytes(&mut self, bytes: Vec<u8>) -> &'a [u8]
+        ensures same_rows { self.new.rows.ghost_name ≡ self.old.rows.ghost_name }
+        ensures rows { self.new.rows.now ≡ self.old.rows.now }
+        ensures count { self.new.count ≡ self.old.count }
+        ensures used { self.new.used ≡ counted (self.old.used + length bytes.items) }
+        ensures held { length bytes.items ≤ length self.old.room.now → result.now ≡ bytes.items }
+        ensures left { length bytes.items ≤ length self.old.room.now
+            → length self.new.room.now + length bytes.items ≡ length self.old.room.now }
+    {
+        self.hold(bytes.as_slice())
+    }
+
+    /// Copies a decoded string to the room, if it fits, and returns the copy.
+    #[inline(never)]
+    fn hold_string(&mut self, text: String) -> &'a [u8]
+        ensures same_rows { self.new.rows.ghost_name ≡ self.old.rows.ghost_name }
+        ensures rows { self.new.rows.now ≡ self.old.rows.now }
+        ensures count { self.new.count ≡ self.old.count }
+        ensures used { self.new.used ≡ counted (self.old.used + length text) }
+        ensures held { length text ≤ length self.old.room.now → result.now ≡ text }
+        ensures left { length text ≤ length self.old.room.now
+            → length self.new.room.now + length text ≡ length self.old.room.now }
+    {
+        self.hold(text.as_str().as_bytes())
+    }
+
+    /// Returns the bytes of a string. Copies them to the room if they are decoded.
+    // A function, as is `bytes_of_display_string`, so `parts_of` is short: large functions are not inlined.
+    #[inline]
+    fn bytes_of_string(&mut self, text: StringFromInput<'a>) -> &'a [u8]
+        ensures same_rows { self.new.rows.ghost_name ≡ self.old.rows.ghost_name }
+        ensures rows { self.new.rows.now ≡ self.old.rows.now }
+        ensures count { self.new.count ≡ self.old.count }
+        ensures used { self.new.used ≡ counted (self.old.used + room_of_read (bare.String text.entry)) }
+        ensures held { room_of_read (bare.String text.entry) ≤ length self.old.room.now
+            → result.now ≡ read_text text.entry }
+        ensures left { room_of_read (bare.String text.entry) ≤ length self.old.room.now
+            → length self.new.room.now + room_of_read (bare.String text.entry) ≡ length self.old.room.now }
+    {
+        // This gives the proof the range of the field.
+        let _used = self.used;
+        match text {
+            StringFromInput::Borrowed(text) => text.as_str().as_bytes(),
+            StringFromInput::Owned(text) => self.hold_string(text),
+        }
+    }
+
+    /// Copies a decoded display string to the room, if it fits, and returns the copy.
+    #[inline(never)]
+    fn hold_display_string(&mut self, text: StdString) -> &'a [u8]
+        ensures same_rows { self.new.rows.ghost_name ≡ self.old.rows.ghost_name }
+        ensures rows { self.new.rows.now ≡ self.old.rows.now }
+        ensures count { self.new.count ≡ self.old.count }
+        ensures used { self.new.used ≡ counted (self.old.used + length (string_bytes text)) }
+        ensures held { length (string_bytes text) ≤ length self.old.room.now → result.now ≡ string_bytes text }
+        ensures left { length (string_bytes text) ≤ length self.old.room.now
+            → length self.new.room.now + length (string_bytes text) ≡ length self.old.room.now }
+    {
+        self.hold(text.as_str().as_bytes())
+    }
+
+    /// Returns the bytes of a display string. Copies them to the room if they are decoded.
+    #[inline]
+    fn bytes_of_display_string(&mut self, text: CowStr<'a>) -> &'a [u8]
+        ensures same_rows { self.new.rows.ghost_name ≡ self.old.rows.ghost_name }
+        ensures rows { self.new.rows.now ≡ self.old.rows.now }
+        ensures count { self.new.count ≡ self.old.count }
+        ensures used { self.new.used ≡ counted (self.old.used + room_of_read (bare.DisplayString text.entry)) }
+        ensures held { room_of_read (bare.DisplayString text.entry) ≤ length self.old.room.now
+            → result.now ≡ cow_str_bytes text.entry }
+        ensures left { room_of_read (bare.DisplayString text.entry) ≤ length self.old.room.now
+            → length self.new.room.now + room_of_read (bare.DisplayString text.entry) ≡ length self.old.room.now }
+    {
+        // This gives the proof the range of the field.
+        let _used = self.used;
+        match text {
+            CowStr::Borrowed(text) => text.as_bytes(),
+            CowStr::Owned(text) => self.hold_display_string(text),
+        }
+    }
+
     /// Adds the row of an event without a value.
-    #[inline(always)]
+    #[inline]
     fn keep_plain(&mut self, tag: u32, key: &'a [u8])
         ensures { IsRowKept self.old (record { tag = tag; key = key.now; value = value_numbers None }) 0 self.new }
     {
@@ -92,6 +178,14 @@ impl<'r, 'a> Collector<'r, 'a> {
             bytes: b"",
             number: 0,
         });
+    }
+
+    /// Adds the row of an event without a key and a value.
+    #[inline]
+    fn keep_tag(&mut self, tag: u32)
+        ensures { IsRowKept self.old (record { tag = tag; key = []; value = value_numbers None }) 0 self.new }
+    {
+        self.keep_plain(tag, b"");
     }
 
     /// Returns the kind, the bytes and the number of a value. Copies a decoded text to the room.
@@ -112,20 +206,12 @@ impl<'r, 'a> Collector<'r, 'a> {
         match item {
             GenericBareItem::Integer(value) => (1, b"", value.to_i64()),
             GenericBareItem::Decimal(value) => (2, b"", value.as_integer_scaled_1000().to_i64()),
-            GenericBareItem::String(StringFromInput::Borrowed(text)) => {
-                (3, text.as_str().as_bytes(), 0)
-            }
-            GenericBareItem::String(StringFromInput::Owned(text)) => {
-                (3, self.hold(text.as_str().as_bytes()), 0)
-            }
+            GenericBareItem::String(text) => (3, self.bytes_of_string(text), 0),
             GenericBareItem::Token(text) => (4, text.as_str().as_bytes(), 0),
-            GenericBareItem::ByteSequence(bytes) => (5, self.hold(bytes.as_slice()), 0),
+            GenericBareItem::ByteSequence(bytes) => (5, self.hold_bytes(bytes), 0),
             GenericBareItem::Boolean(value) => (6, b"", i64::from(value)),
             GenericBareItem::Date(value) => (7, b"", value.unix_seconds().to_i64()),
-            GenericBareItem::DisplayString(CowStr::Borrowed(text)) => (8, text.as_bytes(), 0),
-            GenericBareItem::DisplayString(CowStr::Owned(text)) => {
-                (8, self.hold(text.as_str().as_bytes()), 0)
-            }
+            GenericBareItem::DisplayString(text) => (8, self.bytes_of_display_string(text), 0),
         }
     }
 
@@ -156,16 +242,16 @@ impl<'r, 'a> Receiver<'a> for Collector<'r, 'a> {
     #[inline(always)]
     fn receive(&mut self, event: Event<'a>) {
         match event {
-            Event::Entry => self.keep_plain(ENTRY, b""),
+            Event::Entry => self.keep_tag(ENTRY),
             Event::KeyedEntry(key) => self.keep_plain(KEYED_ENTRY, key.as_str().as_bytes()),
-            Event::Item => self.keep_plain(ITEM, b""),
-            Event::InnerList => self.keep_plain(INNER_LIST, b""),
+            Event::Item => self.keep_tag(ITEM),
+            Event::InnerList => self.keep_tag(INNER_LIST),
             Event::BareItem(item) => self.keep_value(BARE_ITEM, b"", item),
             Event::Parameter(key, item) => {
                 self.keep_value(PARAMETER, key.as_str().as_bytes(), item)
             }
-            Event::ParametersEnd => self.keep_plain(PARAMETERS_END, b""),
-            Event::InnerListEnd => self.keep_plain(INNER_LIST_END, b""),
+            Event::ParametersEnd => self.keep_tag(PARAMETERS_END),
+            Event::InnerListEnd => self.keep_tag(INNER_LIST_END),
         }
     }
 }

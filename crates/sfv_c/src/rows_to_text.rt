@@ -47,6 +47,20 @@ fn parameters(rows: &[Row<'_>], from: usize, output: &mut Output) -> Result<usiz
     Err(WrongRow { index: at })
 }
 
+/// Writes parameters, as `parameters` does.
+// Most items have none. This path avoids a call.
+#[inline(always)]
+fn parameters_or_end(rows: &[Row<'_>], from: usize, output: &mut Output) -> Result<usize, WrongRow>
+    ensures { (p : ParseState) → WritesOrStops rows.now (parameters p) p from output.old output.new result }
+{
+    if let Some(row) = row_at(rows, from) {
+        if is_plain(row, PARAMETERS_END) {
+            return Ok(from + 1);
+        }
+    }
+    parameters(rows, from, output)
+}
+
 /// Writes an item, whose bare item may be the value of a key.
 #[inline(always)]
 fn item(rows: &[Row<'_>], from: usize, keyed: bool, output: &mut Output) -> Result<usize, WrongRow>
@@ -59,7 +73,7 @@ fn item(rows: &[Row<'_>], from: usize, keyed: bool, output: &mut Output) -> Resu
         return Err(WrongRow { index: from });
     };
     output.append_item(keyed, value);
-    parameters(rows, from + 1, output)
+    parameters_or_end(rows, from + 1, output)
 }
 
 /// Writes the items of an inner list, its end, and its parameters.

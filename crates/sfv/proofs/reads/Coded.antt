@@ -1,8 +1,8 @@
 -- The bytes of symbols, group by group.
 use Rattle.std.proofs.Common.{◌≡◌, ℕ, ◌<◌, ◌≤◌, ◌+◌, ◌*◌, ◌/◌, ◌%◌, List, [], ◌∷◌, ◌++◌, length, map, append_assoc}
-use Rattle.std.proofs.Common.{take, drop, refl, sym, ◌∙◌, ap, true, arith, get_or}
+use Rattle.std.proofs.Common.{take, drop, refl, sym, ◌∙◌, ap, true, arith, suc, take-take}
 use Rattle.std.specs.List.{list_all}
-use Rattle.std.proofs.lemmas.Bool.{and_parts}
+use Rattle.std.proofs.lemmas.Bool.{and_parts, and_from}
 use Rattle.std.proofs.lemmas.List.{append-nil, length-map, length-take-le, length-drop, take-append-drop, map-append}
 use Rattle.std.proofs.lemmas.List.Folds.{list_all-append}
 use Rattle.sfv_spec.proofs.Marks.{is_symbol}
@@ -38,60 +38,63 @@ symbols_from cs w l whole =
     ap decoded_symbols (sym (take-append-drop w cs)) ∙ ap bytes_from (map-append symbol_value (take w cs) (drop w cs))
     ∙ bytes_from-append (map symbol_value (take w cs)) (map symbol_value (drop w cs)) (rw size whole)
 
--- the bytes of both, one after the other
-pub both_decoded : (cs start front whole : List ℕ) (w : ℕ) → w ≤ length cs → w % 4 ≡ 0 → start ≡ []
-    → front ≡ start ++ decoded_symbols (take w cs) → whole ≡ front ++ decoded_symbols (drop w cs)
-    → whole ≡ decoded_symbols cs
-both_decoded cs start front whole w l groups empty begun is =
-    is ∙ rw (begun, empty) (sym (symbols_from cs w l groups))
-
--- what is left, by its length
-few_decoded : (cs : List ℕ) → length cs < 2 → decoded_symbols cs ≡ []
+-- the values before others that make whole groups with them
+front_bytes : (vs ws : List ℕ) → (length vs + length ws) % 4 ≡ 0
+    → take (length vs * 3 / 4) (bytes_from (vs ++ ws)) ≡ bytes_from vs
 unfolding bytes_from
-few_decoded [] few = refl
-few_decoded (a ∷ []) few = refl
-few_decoded (a ∷ b ∷ cs) few = absurd (omega (arith, few))
+front_bytes [] ws n = refl
+front_bytes (a ∷ []) ws n = refl
+front_bytes (a ∷ b ∷ []) [] n = absurd (omega (arith, n))
+front_bytes (a ∷ b ∷ []) (c ∷ []) n = absurd (omega (arith, n))
+front_bytes (a ∷ b ∷ []) (c ∷ d ∷ ws) n = refl
+front_bytes (a ∷ b ∷ c ∷ []) [] n = absurd (omega (arith, n))
+front_bytes (a ∷ b ∷ c ∷ []) (d ∷ ws) n = refl
+front_bytes (a ∷ b ∷ c ∷ d ∷ vs) ws n =
+    let m : (length vs + length ws) % 4 ≡ 0 = omega (arith, n) in
+    let size : length (a ∷ b ∷ c ∷ d ∷ vs) * 3 / 4 ≡ suc (suc (suc (length vs * 3 / 4))) = omega arith in
+    rw size (cc (front_bytes vs ws m))
 
-two_decoded : (cs : List ℕ) → length cs ≡ 2
-    → decoded_symbols cs ≡ (symbol_value (get_or cs 0 0) * 4 + symbol_value (get_or cs 1 0) / 16) ∷ []
+-- a block of the symbol with the value 0
+abbrev pub zeros : List ℕ
+zeros = 65 ∷ 65 ∷ 65 ∷ 65 ∷ 65 ∷ 65 ∷ 65 ∷ 65 ∷ 65 ∷ 65 ∷ 65 ∷ 65 ∷ 65 ∷ 65 ∷ 65 ∷ 65 ∷ []
+
+pub zeros_each : list_all is_symbol zeros ≡ true
+unfolding is_symbol
+zeros_each = refl
+
+-- symbols that others fill up to a block
+pub filled_each : (cs front fill : List ℕ) → front ≡ cs → list_all is_symbol cs ≡ true → list_all is_symbol fill ≡ true
+    → list_all is_symbol (front ++ drop (length cs) fill) ≡ true
+filled_each cs front fill is each filled =
+    list_all-append is_symbol front (drop (length cs) fill)
+    ∙ and_from _ _ (rw is each) ((all_parts (length cs) fill filled).1)
+
+-- the bytes of such symbols, from the bytes of the block
+pub filled_decoded : (cs front fill block : List ℕ) → front ≡ cs → length fill ≡ 16 → length cs < 16
+    → take 12 block ≡ decoded_symbols (front ++ drop (length cs) fill)
+    → take (length cs * 3 / 4) block ≡ decoded_symbols cs
+filled_decoded cs front fill block is size few bytes =
+    let vs : List ℕ = map symbol_value cs in
+    let ws : List ℕ = map symbol_value (drop (length cs) fill) in
+    let n : length vs ≡ length cs = length-map cs symbol_value in
+    let m : length ws ≡ length (drop (length cs) fill) = length-map (drop (length cs) fill) symbol_value in
+    let groups : (length vs + length ws) % 4 ≡ 0 = omega (arith, n, m, length-drop (length cs) fill, size, few) in
+    let front_is : decoded_symbols (front ++ drop (length cs) fill) ≡ bytes_from (vs ++ ws) =
+    ap (λ (l : List ℕ). decoded_symbols (l ++ drop (length cs) fill)) is
+    ∙ ap bytes_from (map-append symbol_value cs (drop (length cs) fill)) in
+    sym (take-take (length cs * 3 / 4) 12 block (omega (arith, few)))
+    ∙ ap (λ (l : List ℕ). take (length cs * 3 / 4) l) (bytes ∙ front_is)
+    ∙ ap (λ (k : ℕ). take (k * 3 / 4) (bytes_from (vs ++ ws))) (sym n) ∙ front_bytes vs ws groups
+
+-- no symbol has no byte
+pub none_after : (old cs : List ℕ) → length cs ≡ 0 → old ≡ old ++ decoded_symbols cs
 unfolding bytes_from
-two_decoded [] two = absurd (omega (arith, two))
-two_decoded (a ∷ []) two = absurd (omega (arith, two))
-two_decoded (a ∷ b ∷ []) two = refl
-two_decoded (a ∷ b ∷ c ∷ cs) two = absurd (omega (arith, two))
-
-three_decoded : (cs : List ℕ) → length cs ≡ 3
-    → decoded_symbols cs ≡ (symbol_value (get_or cs 0 0) * 4 + symbol_value (get_or cs 1 0) / 16)
-    ∷ (symbol_value (get_or cs 1 0) % 16 * 16 + symbol_value (get_or cs 2 0) / 4) ∷ []
-unfolding bytes_from
-three_decoded [] three = absurd (omega (arith, three))
-three_decoded (a ∷ []) three = absurd (omega (arith, three))
-three_decoded (a ∷ b ∷ []) three = absurd (omega (arith, three))
-three_decoded (a ∷ b ∷ c ∷ []) three = refl
-three_decoded (a ∷ b ∷ c ∷ d ∷ cs) three = absurd (omega (arith, three))
-
-group_parts : (cs : List ℕ) → length cs ≡ 4
-    → (symbol_value (get_or cs 0 0) * 4 + symbol_value (get_or cs 1 0) / 16)
-    ∷ (symbol_value (get_or cs 1 0) % 16 * 16 + symbol_value (get_or cs 2 0) / 4)
-    ∷ (symbol_value (get_or cs 2 0) % 4 * 64 + symbol_value (get_or cs 3 0)) ∷ [] ≡ decoded_symbols cs
-unfolding bytes_from
-group_parts [] four = absurd (omega (arith, four))
-group_parts (a ∷ []) four = absurd (omega (arith, four))
-group_parts (a ∷ b ∷ []) four = absurd (omega (arith, four))
-group_parts (a ∷ b ∷ c ∷ []) four = absurd (omega (arith, four))
-group_parts (a ∷ b ∷ c ∷ d ∷ []) four = refl
-group_parts (a ∷ b ∷ c ∷ d ∷ e ∷ cs) four = absurd (omega (arith, four))
-
--- a group of symbols
-pub group_decoded : (cs : List ℕ) (a b c d : ℕ) → length cs ≡ 4 → a ≡ symbol_value (get_or cs 0 0)
-    → b ≡ symbol_value (get_or cs 1 0) → c ≡ symbol_value (get_or cs 2 0) → d ≡ symbol_value (get_or cs 3 0)
-    → (a * 4 + b / 16) ∷ (b % 16 * 16 + c / 4) ∷ (c % 4 * 64 + d) ∷ [] ≡ decoded_symbols cs
-group_decoded cs a b c d four first second third fourth = rw (first, second, third, fourth) (group_parts cs four)
+none_after old [] none = sym (append-nil old)
+none_after old (c ∷ cs) none = absurd (omega (arith, none))
 
 -- What is known of the bytes and of the symbols that are left, when those before are decoded.
 pub record IsDecodedUpTo (before symbols rest bytes : List ℕ) : Type 0 where
   pub each : list_all is_symbol rest ≡ true
-  pub whole : length rest % 4 ≡ 0
   pub within : length rest ≤ length symbols
   pub all : bytes ++ decoded_symbols rest ≡ before ++ decoded_symbols symbols
 
@@ -104,28 +107,11 @@ more_decoded before symbols rest bytes part after new n so_far fits groups front
     let parts = symbols_from rest n fits groups in
     record {
       each = rw back ((all_parts n rest so_far.each).1);
-      whole = rw back (omega (arith, length-drop n rest, so_far.whole, groups));
       within = rw back (omega (arith, length-drop n rest, so_far.within));
       all = rw (is, front, back, append_assoc, ← parts) so_far.all;
     }
 
--- none is left
-pub all_decoded : (before symbols rest bytes : List ℕ) → IsDecodedUpTo before symbols rest bytes → length rest < 4
-    → bytes ≡ before ++ decoded_symbols symbols
-all_decoded before symbols rest bytes so_far few =
-    sym (append-nil bytes)
-    ∙ ap (λ t. bytes ++ t) (sym (few_decoded rest (omega (arith, so_far.whole, few)))) ∙ so_far.all
-
--- the same after other bytes
-pub few_after : (old cs : List ℕ) → length cs < 2 → old ≡ old ++ decoded_symbols cs
-few_after old cs few = rw (few_decoded cs few) (sym (append-nil old))
-
-pub two_after : (old new cs : List ℕ) (a b : ℕ) → length cs ≡ 2 → a ≡ symbol_value (get_or cs 0 0)
-    → b ≡ symbol_value (get_or cs 1 0) → new ≡ old ++ (a * 4 + b / 16) ∷ [] → new ≡ old ++ decoded_symbols cs
-two_after old new cs a b two first second is = is ∙ rw (first, second) (rw (two_decoded cs two) refl)
-
-pub three_after : (old one new cs : List ℕ) (a b c : ℕ) → length cs ≡ 3 → a ≡ symbol_value (get_or cs 0 0)
-    → b ≡ symbol_value (get_or cs 1 0) → c ≡ symbol_value (get_or cs 2 0) → one ≡ old ++ (a * 4 + b / 16) ∷ []
-    → new ≡ one ++ (b % 16 * 16 + c / 4) ∷ [] → new ≡ old ++ decoded_symbols cs
-three_after old one new cs a b c three first second third begun is =
-    is ∙ rw (begun, first, second, third) (rw (three_decoded cs three) (simp append_assoc))
+-- the last ones are decoded
+pub all_decoded : (before symbols rest bytes new : List ℕ) → IsDecodedUpTo before symbols rest bytes
+    → new ≡ bytes ++ decoded_symbols rest → new ≡ before ++ decoded_symbols symbols
+all_decoded before symbols rest bytes new so_far is = is ∙ so_far.all

@@ -308,6 +308,15 @@ quoted_reads t r q m k n = quoted_is t r m k ∙ branch_true _ _ _ r q n
 next_byte : (c : ℕ) (t : List ℕ) → (m : NextIs (byte c) true t) → t ≡ c ∷ m.1
 next_byte c t m = m.2 ∙ ap (λ (b : ℕ). b ∷ m.1) (eqb-true m.0 c m.3)
 
+-- a byte of the class that was skipped was consumed
+pub skip_takes : (class : ℕ → Bool) (t r : List ℕ) → NextIs class true t → Skips t r → TakesIf class true t r
+skip_takes class t r n s =
+    let here : List ℕ = n.0 ∷ n.1 in
+    let there : List ℕ = s.0 ∷ r in
+    let same : here ≡ there = sym n.2 ∙ s.1 in
+    let head : n.0 ≡ s.0 = cc in
+    (s.0, s.1, ap class (sym head) ∙ n.3)
+
 pub passed : (c : ℕ) (t r : List ℕ) → NextIs (byte c) true t → Skips t r → t ≡ c ∷ r
 passed c t r m k =
     let same : c ∷ m.1 ≡ k.0 ∷ r = sym (next_byte c t m) ∙ k.1 in

@@ -1,6 +1,6 @@
 -- The results of parsing functions with a visitor that receives the events as read: by the parts of a reading.
 use Rattle.std.proofs.Common.{◌≡◌, ℕ, true, false, Bool, List, [], ◌∷◌, ◌++◌, Result, Ok, Err, Some, None, refl, sym}
-use Rattle.std.proofs.Common.{ap, subst, ◌∙◌, ◌<◌, append_assoc, flat_map, length, inl, inr}
+use Rattle.std.proofs.Common.{ap, subst, ◌∙◌, ◌<◌, ◌+◌, cond, append_assoc, flat_map, length, inl, inr}
 use Rattle.std.specs.Prelude.{OnOk, IfOk, IfErr, ⊤, map, is_some}
 use Rattle.std.proofs.lemmas.List.{append-nil}
 use Rattle.std.specs.List.{FoldsTo}
@@ -57,7 +57,7 @@ use Rattle.sfv.proofs.visits.Keyed.{value_visits, true_visits, keyed_visits, tru
 use Rattle.sfv.proofs.visits.Keyed.{key_fails, keyed_fails}
 use Rattle.sfv.proofs.visits.BorrowedBareItem.{lent_front}
 use Rattle.sfv.proofs.visits.Loops.{Loop, VisitedSoFar, Wants, IsFirst, begun, more, ended as loop_ended, all_events}
-use Rattle.sfv.proofs.visits.Loops.{first_fails, one_fails, delimiter_fails, shorter}
+use Rattle.sfv.proofs.visits.Loops.{first_fails, one_fails, delimiter_fails, shorter, members_loop, turn_shortens}
 use Rattle.sfv.proofs.visits.Parameters.{VisitedParameters, visited_none, visited_more, visited_error, end_visits}
 use Rattle.sfv.proofs.visits.Parameters.{parameter_failed, of_visitor, item_visits, bare_faulty, bare_failed}
 use Rattle.sfv.proofs.visits.Parts.{led_visits, led_fails, start_visits}
@@ -485,6 +485,39 @@ module _ {S O E : Type 0} (v : Ghosts S O E) where
           passes_then k.0 (rest now) (rest after) k.1 skipped,
           loop_ended (Next (version start)) (Stop (version start)) l start total now after (from, t) (to, k.0) k.2 wanted,
         )
+
+    -- What follows at this place: for `true`, a part, by what its parsing gives; for `false`, nothing.
+    abbrev pub Awaits : Bool → Cursor → S → S → Type 0
+    Awaits true middle from at = ((after : Cursor) (to : S) → Reads l.parts middle after at to (Ok tt) l.one
+        → ReadSoFar l start total after from to)
+        × ((after : Cursor) (to : S) (error : ParseError E) → Reads l.parts middle after at to (Err error) l.one
+        → Ends after from to (Err error))
+    Awaits false middle from at = Ends middle from at (Ok tt)
+
+    pub awaits_first : (middle : Cursor) (from : S) → Passes (rest start) (rest middle) → First middle
+        → Awaits true middle from from
+    awaits_first middle from skipped first = (
+      λ after to h. begun_reads middle after from to skipped first h,
+      λ after to error h. first_stops middle after from to error skipped first h,
+    )
+
+    pub awaits_next : (b : Bool) (now middle : Cursor) (from at : S) → Passing l.delimiter
+        → ReadSoFar l start total now from at → Wants l b now middle → Awaits b middle from at
+    awaits_next true now middle from at passing h wanted = (
+      λ after to one. more_reads now middle after from at to passing h wanted one,
+      λ after to error one. one_stops now middle after from at to error passing h wanted one,
+    )
+    awaits_next false now middle from at passing h wanted = ended_reads now middle from at passing h wanted
+
+  -- a member and the delimiter after it make the rest shorter
+  pub turn_shorter : (keyed here b : Bool) (middle now after : Cursor) (at to : S) → here ≡ true
+      → Reads (member_parts keyed) middle now at to (Ok tt) (one_member_at keyed)
+      → Wants (members_loop keyed) b now after
+      → cond b (1 + length (rest after)) 0 < cond here (1 + length (rest middle)) 0
+  turn_shorter keyed true b middle now after at to here one wanted =
+      let n = one (rest middle) (passes_none (rest middle)) in
+      turn_shortens keyed (version middle) b (rest middle) (rest now) (rest after) n.2.0 n.2.1 wanted.0
+  turn_shorter keyed false b middle now after at to here one wanted = absurd cc
 
   -- a further part makes the rest shorter
   pub shorter_reads : {A : Type 0} (l : Loop A) (now middle after : Cursor) (at to : S) → Wants l true now middle

@@ -1,6 +1,6 @@
 -- Readings one by one, each after a delimiter: the loops of inner lists and of members.
 use Rattle.std.proofs.Common.{◌≡◌, ℕ, ◌<◌, Bool, true, false, List, [], ◌∷◌, ◌++◌, length, Option, Some, None, Ok, Err}
-use Rattle.std.proofs.Common.{refl, sym, ap, subst, ◌∙◌}
+use Rattle.std.proofs.Common.{refl, sym, ap, subst, ◌∙◌, ◌≤◌, ◌+◌, cond, arith, length-append}
 use Rattle.std.specs.Prelude.{flat_map}
 use Rattle.std.specs.declared.alloc.Global.{Global}
 use Rattle.std.proofs.lemmas.List.{append-nil}
@@ -17,6 +17,8 @@ use Rattle.sfv_model.specs.Fields.{next_at}
 use Rattle.sfv_model.specs.Visits.{VisitorFails}
 use Rattle.sfv_model.proofs.sound.Members.{Consumes-next_item, Sound-entry, Sound-keyed}
 use Rattle.sfv_model.proofs.sound.Separated.{Consumes-next}
+use Rattle.sfv_model.proofs.sound.Combinators.{Sound-give}
+use Rattle.sfv_model.specs.Judgements.{Sound, Reached}
 use Rattle.sfv_model.proofs.sound.Many.{Consumes, put, in_front, starts, regroup, many_is, goes_on, is_done, is_faulty}
 use Rattle.sfv_model.proofs.visits.Parts.{failed_within}
 use Rattle.sfv_model.proofs.complete.Combinators.{bind_complete}
@@ -347,3 +349,35 @@ members_loop keyed = record {
   is_next = λ version. next_member_is (one_member_at keyed version);
   quiet = member_delimiter_quiet;
 }
+
+-- ---- each turn of the loop of members makes the rest shorter
+
+reached_within : {A : Type 0} (f : Reader A) (P : A → List ℕ → Type 0) (W : List ℕ → List TreeEvent → Type 0)
+    (V : List TreeEvent → Type 0) (t r : List ℕ) (v : A) → Sound f P W V → f t ≡ Ok (v, r) → length r ≤ length t
+reached_within f P W V t r v h e =
+    let k = subst (λ a. Reached P W V t a) e (h.sound t) in
+    let len = ap length k.1 in
+    omega (arith, len, length-append k.0 r)
+
+member_within : (keyed : Bool) (version : Version) (t r : List ℕ) (v : MemberValue keyed)
+    → one_member_at keyed version t ≡ Ok (v, r) → length r ≤ length t
+member_within true version t r v e = reached_within (keyed_at version) _ _ _ t r v (Sound-keyed version) e
+member_within false version t r v e = reached_within (entry_at version) _ _ _ t r v (Sound-entry version) e
+
+-- a delimiter before a member has a comma
+delimiter_shortens : (t r : List ℕ) → member_delimiter_at t ≡ Ok (true, r) → length r < length t
+unfolding give bind
+delimiter_shortens t r e =
+    let empty : Unit {0} → List ℕ → Type 0 = λ u s. s ≡ [] in
+    let none : Unit {0} → List TreeEvent = λ u. [] in
+    let one : Reader (Unit {0}) = give tt in
+    let next : next_at one t ≡ Ok (Some tt, r) = next_member_is one t
+    ∙ bind_complete member_delimiter_at (one_if one) t r true e in
+    (Consumes-next empty none one (Sound-give tt empty _ _ refl)).consumes t r tt next
+
+pub turn_shortens : (keyed : Bool) (version : Version) (b : Bool) (t r q : List ℕ) (v : MemberValue keyed)
+    → one_member_at keyed version t ≡ Ok (v, r) → member_delimiter_at r ≡ Ok (b, q)
+    → cond b (1 + length q) 0 < 1 + length t
+turn_shortens keyed version true t r q v one next =
+    omega (arith, member_within keyed version t r v one, delimiter_shortens r q next)
+turn_shortens keyed version false t r q v one next = omega arith

@@ -1,10 +1,9 @@
 //! Parsing of byte sequences (RFC 9651, section 4.2.7).
 //!
 //! The symbols and the padding are checked before memory is allocated, once, for all bytes. So decoding tests no symbol.
-//! The last two or three symbols are decoded apart from the whole groups of four symbols, because padding may be missing
-//! and their spare bits need not be zero.
+//! The last symbols are decoded in a block of their own, which is filled up, because padding may be missing.
 
-ghost use Rattle.std.specs.Prelude.{◌≡◌, ◌≢◌, ◌<◌, ◌%◌, ◌++◌, [], length, IfOk, IfErr, IsOk, OnOk, OnErr};
+ghost use Rattle.std.specs.Prelude.{◌≡◌, ◌≢◌, ◌<◌, ◌++◌, [], length, IfOk, IfErr, IsOk, OnOk, OnErr};
 ghost use Rattle.sfv_spec.specs.Texts.{RunOf};
 ghost use Rattle.sfv_spec.proofs.Marks.{is_symbol};
 ghost use Rattle.sfv_base.specs.Errors.{out_of_memory};
@@ -14,31 +13,31 @@ ghost use Rattle.sfv.specs.parser.Values.{vec_bytes};
 ghost use Rattle.sfv.specs.parser.Base64.{decoded_symbols};
 
 use crate::parser::base64_blocks::block_bytes;
-use crate::parser::base64_symbols::{padding_after, padding_run, symbol_run, value_of};
+use crate::parser::base64_symbols::{padding_after, padding_run, symbol_run};
 use crate::parser::cursor::Cursor;
 use sfv_base::error::{Error, ErrorKind};
 use std::alloc::{AllocError, Global};
 
-/// Returns the bytes of a group of four symbols. A group has no spare bits.
-#[inline(always)]
-#[tactic(auto, using(crate::proofs::reads::Coded::group_decoded))]
-fn group_bytes(group: &[u8; 4]) -> [u8; 3]
-    requires { RunOf is_symbol group.now }
-    ensures { result ≡ decoded_symbols group.now }
+/// Appends the bytes of fewer than 16 symbols, and ignores spare bits. A single symbol has no byte.
+fn append_last(symbols: &[u8], bytes: &mut Vec<u8>) -> Result<(), AllocError>
+    requires symbols { RunOf is_symbol symbols.now }
+    requires few { length symbols.now < 16 }
+    ensures bytes { OnOk result (bytes.new.items ≡ bytes.old.items ++ decoded_symbols symbols.now) }
+    ensures out_of_memory { OnErr result (symbols.now ≢ []) }
 {
-    let second = value_of(group[1]);
-    let third = value_of(group[2]);
-    [
-        value_of(group[0]) * 4 + second / 16,
-        second % 16 * 16 + third / 4,
-        third % 4 * 64 + value_of(group[3]),
-    ]
+    if symbols.is_empty() {
+        return Ok(());
+    }
+    // The symbol `A` has the value 0.
+    let mut block = [b'A'; 16];
+    block[..symbols.len()].copy_from_slice(symbols);
+    bytes.extend_from_slice(&block_bytes(&block)[..symbols.len() * 3 / 4])?;
+    Ok(())
 }
 
-/// Appends the bytes of whole groups of four symbols. Without a symbol, no memory is requested.
-fn append_groups(symbols: &[u8], bytes: &mut Vec<u8>) -> Result<(), AllocError>
-    requires symbols { RunOf is_symbol symbols.now }
-    requires whole { length symbols.now % 4 ≡ 0 }
+/// Appends the bytes of symbols, and ignores the spare bits of the last one. Without a symbol, no memory is requested.
+fn append_symbols(symbols: &[u8], bytes: &mut Vec<u8>) -> Result<(), AllocError>
+    requires { RunOf is_symbol symbols.now }
     ensures bytes { OnOk result (bytes.new.items ≡ bytes.old.items ++ decoded_symbols symbols.now) }
     ensures out_of_memory { OnErr result (symbols.now ≢ []) }
 {
@@ -47,31 +46,7 @@ fn append_groups(symbols: &[u8], bytes: &mut Vec<u8>) -> Result<(), AllocError>
         bytes.extend_from_slice(&block_bytes(block)[..12])?;
         rest = after;
     }
-    while let Some((group, after)) = rest.split_first_chunk::<4>() {
-        bytes.extend_from_slice(&group_bytes(group))?;
-        rest = after;
-    }
-    Ok(())
-}
-
-/// Appends the bytes of the symbols after the whole groups, and ignores spare bits. A single symbol has no byte.
-#[tactic(auto, using(crate::proofs::reads::Coded::few_after, crate::proofs::reads::Coded::two_after, crate::proofs::reads::Coded::three_after))]
-fn append_last(symbols: &[u8], bytes: &mut Vec<u8>) -> Result<(), AllocError>
-    requires symbols { RunOf is_symbol symbols.now }
-    requires few { length symbols.now < 4 }
-    ensures bytes { OnOk result (bytes.new.items ≡ bytes.old.items ++ decoded_symbols symbols.now) }
-    ensures out_of_memory { OnErr result (symbols.now ≢ []) }
-{
-    let count = symbols.len();
-    if count < 2 {
-        return Ok(());
-    }
-    let second = value_of(symbols[1]);
-    bytes.push(value_of(symbols[0]) * 4 + second / 16)?;
-    if count == 3 {
-        bytes.push(second % 16 * 16 + value_of(symbols[2]) / 4)?;
-    }
-    Ok(())
+    append_last(rest, bytes)
 }
 
 /// Decodes symbols, and ignores the spare bits of the last one. Without a symbol, no memory is requested.
@@ -82,9 +57,7 @@ fn decode_symbols(alloc: Global, symbols: &[u8]) -> Result<Vec<u8>, AllocError>
 {
     let len = symbols.len() / 4 * 3 + symbols.len() % 4 * 3 / 4;
     let mut bytes = Vec::with_capacity(alloc, len)?;
-    let (groups, last) = symbols.split_at(symbols.len() / 4 * 4);
-    append_groups(groups, &mut bytes)?;
-    append_last(last, &mut bytes)?;
+    append_symbols(symbols, &mut bytes)?;
     Ok(bytes)
 }
 

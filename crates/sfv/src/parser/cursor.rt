@@ -81,6 +81,14 @@ impl<'de> Cursor<'de> {
         self.peek().is_some_and(is_digit_byte)
     }
 
+    /// Returns `true` if the next byte is of the class.
+    #[inline(always)]
+    fn next_is_of<C: RunClass>(&self) -> bool
+        ensures { NextIs C.class result (rest self.now) }
+    {
+        self.peek().is_some_and(|byte| C::has(byte))
+    }
+
     /// Consumes the next byte if it is `wanted`, and returns `true` if it was.
     #[inline(always)]
     pub(super) fn take_if(&mut self, wanted: u8) -> bool
@@ -133,6 +141,35 @@ impl<'de> Cursor<'de> {
         let start = self.index;
         self.skip();
         self.run::<C>();
+        &self.parser.input[start..self.index]
+    }
+
+    /// Does the same as `run`. Tests the first byte by itself, which is faster where many runs are empty.
+    #[inline(always)]
+    fn short_run<C: RunClass>(&mut self) -> &'de [u8]
+        ensures each { RunOf C.class result.now }
+        ensures taken { rest self.old ≡ result.now ++ rest self.new }
+        ensures ends { Apart C.class (rest self.new) }
+        ensures kept { kept self.new ≡ kept self.old }
+    {
+        if self.next_is_of::<C>() {
+            return self.run::<C>();
+        }
+        b""
+    }
+
+    /// Does the same as `byte_and_run`, by `short_run`.
+    #[inline(always)]
+    pub(super) fn byte_and_short_run<C: RunClass>(&mut self) -> &'de [u8]
+        requires { 1 ≤ length (rest self.old) }
+        ensures each { (b : ℕ) × (s : List ℕ) × (result.now ≡ b ∷ s) × RunOf C.class s }
+        ensures taken { rest self.old ≡ result.now ++ rest self.new }
+        ensures ends { Apart C.class (rest self.new) }
+        ensures kept { kept self.new ≡ kept self.old }
+    {
+        let start = self.index;
+        self.skip();
+        self.short_run::<C>();
         &self.parser.input[start..self.index]
     }
 

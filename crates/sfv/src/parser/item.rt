@@ -52,7 +52,7 @@ impl<'de> Cursor<'de> {
             return Ok(None);
         }
         self.skip_sp();
-        let key = self.key()?;
+        let key = self.short_key()?;
         let value = self.parameter_value()?;
         Ok(Some(ReadParameter { key, value }))
     }

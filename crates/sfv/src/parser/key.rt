@@ -36,4 +36,20 @@ impl<'de> Cursor<'de> {
         let text = unsafe { std::str::from_utf8_unchecked(bytes) };
         Ok(KeyRef::constant(text))
     }
+
+    /// Parses a key, as `key` does. This is faster where many keys have one byte.
+    #[inline(always)]
+    #[tactic(auto, using(crate::proofs::reads::Steps::key_steps))]
+    pub(crate) fn short_key(&mut self) -> Result<KeyRef<'de>, Error>
+        ensures read { Reads text_of self.old self.new result key_at }
+        ensures taken { IfOk result (λ key. rest self.old ≡ text_of key ++ rest self.new) }
+    {
+        if !self.next_is_key_start() {
+            return Err(self.error(ErrorKind::ExpectedStartOfKey));
+        }
+        // SAFETY: the bytes of a key are ASCII.
+        let bytes = self.byte_and_short_run::<InnerKey>();
+        let text = unsafe { std::str::from_utf8_unchecked(bytes) };
+        Ok(KeyRef::constant(text))
+    }
 }

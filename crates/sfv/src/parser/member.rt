@@ -2,9 +2,11 @@
 
 ghost use Rattle.std.specs.Prelude.{◌≡◌, [], Bool, true, false, OnOk, flat_map};
 ghost use Rattle.sfv_spec.specs.Events.{member_events, inner_item_events};
+ghost use Rattle.sfv_spec.proofs.Marks.{left_parenthesis};
+ghost use Rattle.sfv_model.specs.Reader.{byte};
 ghost use Rattle.sfv_model.specs.Members.{inner_item_at, inner_items_at, inner_at, member_at, member_value_at};
 ghost use Rattle.sfv_model.specs.Fields.{members_at};
-ghost use Rattle.sfv.specs.parser.Cursor.{rest, Reads};
+ghost use Rattle.sfv.specs.parser.Cursor.{rest, NextIs, Reads};
 ghost use Rattle.sfv.specs.parser.Members.{item_delimiter_at, member_delimiter_at, after_begin, member_parts};
 ghost use Rattle.sfv.specs.parser.Members.{one_member_at};
 ghost use Rattle.sfv.specs.parser.AsRead.{VisitsAsRead};
@@ -71,7 +73,7 @@ impl<'de> Cursor<'de> {
     }
 
     /// Parses an inner list after its opening parenthesis, with its parameters, and passes its parts to `visitor`.
-    #[inline(never)]
+    #[inline(always)]
     fn inner_list<V: Visitor<'de>>(&mut self, visitor: &mut V) -> Result<(), ParseError<V::Error>>
         requires { V.is_ready visitor.old }
         ensures ready { OnOk result (V.is_ready visitor.new) }
@@ -82,18 +84,37 @@ impl<'de> Cursor<'de> {
         self.parameters(visitor)
     }
 
-    /// Parses an inner list, as `inner_list` does, by a call.
+    /// Parses an inner list with its parentheses, and passes its parts to `visitor`.
+    #[inline(never)]
+    fn inner_list_member<V: Visitor<'de>>(
+        &mut self,
+        visitor: &mut V,
+    ) -> Result<(), ParseError<V::Error>>
+        requires ready { V.is_ready visitor.old }
+        requires next { NextIs (byte left_parenthesis) true (rest self.old) }
+        ensures ready { OnOk result (V.is_ready visitor.new) }
+        ensures visited { VisitsAsRead V.Visitor member_events
+            self.old self.new visitor.old visitor.new result member_at }
+    {
+        self.skip();
+        visit(visitor, Event::InnerList)?;
+        self.inner_list(visitor)
+    }
+
+    /// Parses an inner list, as `inner_list_member` does, by a call.
     // Inlined at the branch of a parenthesis: the other branch then clears no room for the result of the call.
     #[inline(always)]
     fn inner_list_by_call<V: Visitor<'de>>(
         &mut self,
         visitor: &mut V,
     ) -> Result<(), ParseError<V::Error>>
-        requires { V.is_ready visitor.old }
+        requires ready { V.is_ready visitor.old }
+        requires next { NextIs (byte left_parenthesis) true (rest self.old) }
         ensures ready { OnOk result (V.is_ready visitor.new) }
-        ensures visited { VisitsAsRead V.Visitor after_begin self.old self.new visitor.old visitor.new result inner_at }
+        ensures visited { VisitsAsRead V.Visitor member_events
+            self.old self.new visitor.old visitor.new result member_at }
     {
-        self.inner_list(visitor)
+        self.inner_list_member(visitor)
     }
 
     /// Parses an item or an inner list, and passes its parts to `visitor`.
@@ -107,8 +128,7 @@ impl<'de> Cursor<'de> {
         ensures visited { VisitsAsRead V.Visitor member_events
             self.old self.new visitor.old visitor.new result member_at }
     {
-        if self.take_if(b'(') {
-            visit(visitor, Event::InnerList)?;
+        if self.next_is(b'(') {
             return self.inner_list_by_call(visitor);
         }
         visit(visitor, Event::Item)?;
@@ -170,9 +190,11 @@ impl<'de> Cursor<'de> {
         if self.peek().is_none() {
             return Ok(());
         }
-        M::consume(self, visitor)?;
-        while self.consume_comma()? {
+        // One call in the loop: the compiler inlines a function that has no other call.
+        let mut wants = true;
+        while wants {
             M::consume(self, visitor)?;
+            wants = self.consume_comma()?;
         }
         Ok(())
     }
@@ -211,7 +233,7 @@ impl<'de, V: Visitor<'de>> Member<'de, V> for KeyedEntry {
 
     #[inline(always)]
     fn consume(cursor: &mut Cursor<'de>, visitor: &mut V) -> Result<(), ParseError<V::Error>> {
-        let key = cursor.key()?;
+        let key = cursor.short_key()?;
         visit(visitor, Event::KeyedEntry(key))?;
         cursor.member_value(visitor)
     }

@@ -14,6 +14,6 @@ returns-in_default-value_in c p = stops_at (writes_none _ _ _ _) (stuck_at (valu
     (not_value c.in-Some.row.now c.args.keyed p c.in_default-value_in.ensures))
 
 pub returns : goal.returns
-returns c p = answers_on p c.parameters.new.output c.parameters.result
+returns c p = answers_on p c.parameters_or_end.new.output c.parameters_or_end.result
     (writes_row (bare_item (ref_value c.in-Some-value_in.value)) c.in-Some.ensures.1 c.in-Some-value_in.ensures.0 c.in-Some-value_in.ensures.1 refl c.append_item.ensures.appended)
-    (c.parameters.ensures p)
+    (c.parameters_or_end.ensures p)
