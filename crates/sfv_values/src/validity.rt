@@ -6,7 +6,7 @@ ghost use Rattle.sfv_spec.specs.Classes.{is_key, is_token, is_string_byte};
 ghost use Rattle.sfv_values.specs.InvalidTexts.{IsInvalidKey, IsInvalidToken, IsInvalidString};
 
 use sfv_base::error::{Error, ErrorKind};
-use sfv_base::runs::{InnerKey, InnerToken, RunClass, StringByte, run_end};
+use sfv_base::runs::{InnerKey, InnerToken, RunClass, StringByte, whole_run_end};
 use sfv_base::utils::{is_allowed_start_key_char, is_allowed_start_token_char};
 
 /// Returns the index of the first byte outside the class.
@@ -14,7 +14,8 @@ use sfv_base::utils::{is_allowed_start_key_char, is_allowed_start_token_char};
 fn first_outside<C: RunClass>(bytes: &[u8]) -> Option<usize>
     ensures { result ≡ position (λ b. not (C.class b)) bytes.now }
 {
-    let end = run_end::<C>(bytes);
+    // Keys, tokens and strings are short, and most are valid to their end.
+    let end = whole_run_end::<C>(bytes);
     if end < bytes.len() { Some(end) } else { None }
 }
 
