@@ -4,3 +4,4 @@ pub mod HttpMessages
 pub mod ParseFaults
 pub mod SignatureFields
 pub mod Parts
+pub mod TwoBases

@@ -1,6 +1,6 @@
 -- The signature base (RFC 9421, section 2.5).
 use Rattle.std.specs.Prelude.{◌≡◌, ◌≢◌, ℕ, List, [], ◌∷◌, ◌++◌, ◌⊎◌, ⊤, length, take, flat_map, Bool, not, ◌==◌, ◌||◌}
-use Rattle.std.specs.Prelude.{codes, Any, bytes_eq, if◌then◌else◌, nat_lt, slice_get, Result, Ok, Err, Some}
+use Rattle.std.specs.Prelude.{codes, Any, if◌then◌else◌, nat_lt, slice_get, Result, Ok, Err, Some}
 use Rattle.std.specs.List.{zip, list_any, list_all, AllByRecursion}
 use Rattle.sfv.specs.Ascii.{byte}
 use Rattle.sfv.specs.Texts.{RunOf}
@@ -108,11 +108,6 @@ AgreeOn a b l = (values : List (List ℕ)) × HaveValues a [] l.items values × 
 -- if two messages have the same base, the inner lists are equal, and each component has the same value in both messages
 abbrev pub OneMessage : Message → Message → Type 0
 OneMessage a b = (l m : RawInnerList) (t : List ℕ) → IsBaseOf a l t → IsBaseOf b m t → (l ≡ m) × AgreeOn a b l
-
--- the answer is whether the bases of two inner lists and messages are equal
-abbrev pub IsSameBase : Message → Message → RawInnerList → RawInnerList → Bool → Type 0
-IsSameBase a b l m same =
-    (t u : List ℕ) × IsBaseOf a l t × IsBaseOf b m u × (same ≡ bytes_eq t u)
 
 -- a message has one outcome for a component
 abbrev pub HasOneOutcome : Message → Type 0

@@ -2,6 +2,7 @@
 use Rattle.std.specs.Prelude.{◌≡◌, ℕ, List, [], ◌∷◌, Bool, true, false, not, Option, Some, None, MatchOption, codes}
 use Rattle.std.specs.List.{find}
 use Rattle.std.specs.Option.{option_map_or}
+use Rattle.std.specs.Borrow.{Bor}
 use Rattle.sfv.specs.CheckedTexts.{text_of}
 use Rattle.sfv.specs.NumberValues.{integer_of}
 use Rattle.sfv.specs.Ordered.{last_of}
@@ -62,12 +63,12 @@ IsInputError found (errors.WrongType param) =
     (l : RawInnerList) × (found ≡ Some (inner_list l)) × (find (has_other l.parameters) six ≡ Some param)
 
 -- the found member is a byte sequence with these bytes
-abbrev pub IsSignature : Option RawMember → List ℕ → Type 0
+abbrev pub IsSignature : Option RawMember → Bor (List ℕ) → Type 0
 IsSignature found bytes = (ps : RawParameters)
-    × (found ≡ Some (item (record { bare = byte_sequence bytes; parameters = ps })))
+    × (found ≡ Some (item (record { bare = byte_sequence bytes.now; parameters = ps })))
 
 -- the error of a signature: no member, or a member that is not a byte sequence
 abbrev pub IsSignatureError : Option RawMember → SignatureError → Type 0
 IsSignatureError found errors.UnknownLabel = found ≡ None
-IsSignatureError found errors.WrongMember = (m : RawMember) × (found ≡ Some m) × ((bytes : List ℕ) → ¬ IsSignature (Some m) bytes)
+IsSignatureError found errors.WrongMember = (m : RawMember) × (found ≡ Some m) × ((bytes : Bor (List ℕ)) → ¬ IsSignature (Some m) bytes)
 IsSignatureError found (errors.WrongType param) = ⊥

@@ -147,15 +147,13 @@ pub fn signature_input<'a>(
 ///
 /// Returns `UnknownLabel` if there is no such member, and `WrongMember` if it is not a byte sequence.
 pub fn signature_bytes<'a>(
-    signatures: &'a Dictionary,
+    field: &'a Dictionary,
     label: KeyRef<'_>,
 ) -> Result<&'a [u8], SignatureError>
-    ensures read { IfOk result (λ bytes.
-        IsSignature (last_of (text_of label.entry) (dictionary_tree signatures.now.entries)) bytes.now) }
-    ensures failed { IfErr result
-        (IsSignatureError (last_of (text_of label.entry) (dictionary_tree signatures.now.entries))) }
+    ensures read { IfOk result (IsSignature (last_of (text_of label.entry) (dictionary_tree field.now.entries))) }
+    ensures failed { IfErr result (IsSignatureError (last_of (text_of label.entry) (dictionary_tree field.now.entries))) }
 {
-    match find_entry(signatures, label) {
+    match find_entry(field, label) {
         Some(ListEntry::Item(item)) => match item.bare_item.as_byte_sequence() {
             Some(bytes) => Ok(bytes),
             None => Err(SignatureError::WrongMember),
