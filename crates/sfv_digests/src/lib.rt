@@ -8,6 +8,7 @@ ghost use Rattle.sfv_readers.specs.Field.{Rfc9651, dictionary_field, IsParseErro
 ghost use Rattle.sfv_headers.specs.Fields.{IsReadError};
 ghost use Rattle.sfv_http_fields.specs.LastDigests.{held_value};
 ghost use Rattle.sfv_digests.specs.Verifying.{name_of, IsVerification, IsVerified, IsVerifiedIn};
+ghost use Rattle.sfv_digests.specs.Verifying.{NeedsMarkIn};
 
 use comparing::{Comparison, compare};
 use http_header::HeaderMap;
@@ -88,7 +89,8 @@ pub fn verify_digest(alloc: Global, text: &[u8], content: &[u8]) -> Result<Verif
 /// # Errors
 ///
 /// Returns the error of `Parser::parse` if the lines of the field, joined by a comma and a space, are not a dictionary,
-/// or if memory runs out.
+/// or if memory runs out. Memory runs out only if the field has two lines, or contains a backslash, a percent sign or a
+/// colon.
 #[tactic(auto, using(sfv_headers::proofs::ReadErrors::joining_fails))]
 pub fn verify_digest_in(
     alloc: Global,
@@ -98,6 +100,7 @@ pub fn verify_digest_in(
 ) -> Result<Verification, Error>
     ensures verified { IfOk result (IsVerifiedIn content.now headers.now (name_of field)) }
     ensures rejected { IfErr result (IsReadError Rfc9651 dictionary_field headers.now (name_of field)) }
+    ensures memory { IfErr result (NeedsMarkIn headers.now (name_of field)) }
 {
     match field_text(alloc, headers, field.name())? {
         Some(text) => verify_digest(alloc, text.as_slice(), content),

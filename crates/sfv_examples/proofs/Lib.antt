@@ -5,3 +5,4 @@ mod Pairs
 mod Foos
 mod Called
 mod Exits
+mod Ambiguous

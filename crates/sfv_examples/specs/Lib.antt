@@ -1,5 +1,6 @@
 pub mod Start
 pub mod Uses
+pub mod Signed
 pub mod Rows
 pub mod RowSteps
 pub mod Pairs

@@ -17,7 +17,7 @@ use Rattle.sfv.specs.Types.serialize_errors as errors
 use Rattle.sfv.specs.Texts.{◌⨾◌}
 use Rattle.sfv.specs.Grammar.{Spaces, IsBareText, IsEnded, IsFieldText, IsAccepted, BeginsWithLongest}
 use Rattle.sfv.specs.Ordered.{ordered, last_of}
-use Rattle.sfv.specs.Statements.{IsParsedAs, IsSerializedAs}
+use Rattle.sfv.specs.Statements.{IsParsedAs}
 use Rattle.sfv.specs.KeyText.{KeyRef}
 use Rattle.sfv.specs.CheckedTexts.{text_of}
 use Rattle.sfv.specs.TokenText.{TokenRef}

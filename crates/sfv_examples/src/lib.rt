@@ -8,6 +8,7 @@ pub mod member_integers;
 pub mod reading;
 pub mod rows;
 pub mod serializing;
+pub mod signed;
 pub mod start;
 pub mod values;
 pub mod versions;

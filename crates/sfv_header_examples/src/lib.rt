@@ -1,9 +1,10 @@
 //! Examples for callers: the field Accept-CH in a header map, read and written as a list.
 #![tactic(auto)]
 
-ghost use Rattle.std.specs.Prelude.{◌≡◌, IfOk, IfErr, OnOk, OnErr, codes, option_map};
+ghost use Rattle.std.specs.Prelude.{◌≡◌, IfOk, IfErr, OnOk, OnErr, codes};
 ghost use Rattle.sfv.specs.Field.{list_field, Rfc9651, list_tree};
-ghost use Rattle.sfv_headers.specs.Fields.{IsReadIn, IsReadError, HasValue};
+ghost use Rattle.sfv_headers.specs.Fields.{IsReadError, HasValue};
+ghost use Rattle.sfv_header_examples.specs.Hints.{AreHints};
 
 use http_header::HeaderMap;
 use sfv::{Error, HashSeed, List, Version};
@@ -16,8 +17,7 @@ use std::alloc::Global;
 ///
 /// Returns the error of `Parser::parse` if the lines of the field are not a list, or if memory runs out.
 pub fn hints(alloc: Global, headers: &HeaderMap) -> Result<Option<List>, Error>
-    ensures read { IfOk result (λ found. IsReadIn Rfc9651 list_field headers.now (codes "accept-ch")
-        (option_map (λ list. list_tree list.items) found)) }
+    ensures read { IfOk result (AreHints headers.now) }
     ensures rejected { IfErr result (IsReadError Rfc9651 list_field headers.now (codes "accept-ch")) }
 {
     read_field(
@@ -34,9 +34,9 @@ pub fn hints(alloc: Global, headers: &HeaderMap) -> Result<Option<List>, Error>
 /// # Errors
 ///
 /// Returns `OutOfMemory` if memory runs out, and `MaxSizeReached` if the map is full. Then the map is unchanged.
-pub fn set_hints(alloc: Global, headers: &mut HeaderMap, hints: &List) -> Result<(), WriteError>
-    ensures written { OnOk result (HasValue Rfc9651 list_field headers.new (codes "accept-ch") (list_tree hints.now.items)) }
+pub fn set_hints(alloc: Global, headers: &mut HeaderMap, list: &List) -> Result<(), WriteError>
+    ensures written { OnOk result (HasValue Rfc9651 list_field headers.new (codes "accept-ch") (list_tree list.now.items)) }
     ensures unchanged { OnErr result (headers.new ≡ headers.old) }
 {
-    write_field(alloc, headers, "accept-ch", Version::Rfc9651, hints)
+    write_field(alloc, headers, "accept-ch", Version::Rfc9651, list)
 }

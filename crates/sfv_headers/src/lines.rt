@@ -19,7 +19,7 @@ pub fn add_line<'a>(
     text: Option<CowSlice<'a, u8, Global>>,
     line: &'a [u8],
 ) -> Result<CowSlice<'a, u8, Global>, AllocError>
-    ensures text { IfOk result (λ after. cow_slice_items after ≡ with_line (option_map cow_slice_items text.entry) line.now) }
+    ensures text { IfOk result (λ new. cow_slice_items new ≡ with_line (option_map cow_slice_items text.entry) line.now) }
     ensures borrowed { text.entry ≡ None → IfOk result IsBorrowedSlice }
     ensures memory { OnErr result (text.entry ≢ None) }
 {

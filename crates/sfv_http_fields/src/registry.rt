@@ -8,7 +8,7 @@ ghost use Rattle.sfv_http_fields.specs.Registry.{registered_type, OneRow};
 use sfv::FieldKind;
 
 // The rows. Each names the document that defines the field.
-const ROWS: [(&str, FieldKind); 36] = [
+const ROWS: [(&str, FieldKind); 39] = [
     ("accept-ch", FieldKind::List), // RFC 8942, section 3.1
     ("accept-signature", FieldKind::Dictionary), // RFC 9421, section 5.1
     ("available-dictionary", FieldKind::Item), // RFC 9842, section 2.2
@@ -24,6 +24,8 @@ const ROWS: [(&str, FieldKind); 36] = [
     ("cross-origin-opener-policy-report-only", FieldKind::Item), // HTML Standard
     ("deprecation", FieldKind::Item), // RFC 9745, section 2.1
     ("dictionary-id", FieldKind::Item), // RFC 9842, section 2.3
+    ("incremental", FieldKind::Item), // draft-ietf-httpbis-incremental
+    ("no-vary-search", FieldKind::Dictionary), // draft-ietf-httpbis-no-vary-search
     ("origin-agent-cluster", FieldKind::Item), // HTML Standard
     ("permissions-policy", FieldKind::Dictionary), // W3C Permissions Policy
     ("priority", FieldKind::Dictionary), // RFC 9218, section 5
@@ -33,6 +35,7 @@ const ROWS: [(&str, FieldKind); 36] = [
     ("sec-ch-ua", FieldKind::List), // User-Agent Client Hints
     ("sec-ch-ua-arch", FieldKind::Item), // User-Agent Client Hints
     ("sec-ch-ua-bitness", FieldKind::Item), // User-Agent Client Hints
+    ("sec-ch-ua-form-factors", FieldKind::List), // User-Agent Client Hints
     ("sec-ch-ua-full-version", FieldKind::Item), // User-Agent Client Hints
     ("sec-ch-ua-full-version-list", FieldKind::List), // User-Agent Client Hints
     ("sec-ch-ua-mobile", FieldKind::Item), // User-Agent Client Hints

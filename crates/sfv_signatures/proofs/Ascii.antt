@@ -5,8 +5,9 @@ use Rattle.std.specs.List.{list_all, list_any}
 use Rattle.std.specs.Str.{IsAscii, IsNotAscii}
 use Rattle.std.proofs.lemmas.Bool.Decides.{nat_tests}
 use Rattle.std.proofs.lemmas.List.Elements.{All-weaker}
-use Rattle.std.proofs.lemmas.List.Sums.{list_all-from_AllPass}
-use Rattle.std.proofs.lemmas.Str.Ascii.{All-from_ascii}
+use Rattle.std.proofs.lemmas.Bool.{ltb-true}
+use Rattle.std.proofs.lemmas.List.Sums.{list_all-from_AllPass, AllPass-from_list_all}
+use Rattle.std.proofs.lemmas.Str.Ascii.{All-from_ascii, IsAscii-from_all}
 use Rattle.sfv_signatures.specs.SignatureBase.{is_line_break, checked}
 use Rattle.sfv_signatures.specs.declared.base_error.BaseErrorKind.TheVariants as kinds
 
@@ -22,6 +23,10 @@ some_not_ascii (c ∷ bs) (suc i, h) = either (nat_lt c 128) (some_not_ascii bs 
     either : (b : Bool) → list_all (λ c. nat_lt c 128) bs ≡ false → (b && list_all (λ c. nat_lt c 128) bs) ≡ false
     either true k = k
     either false k = refl
+
+pub ascii_from : (v : List ℕ) → list_all (λ c. nat_lt c 128) v ≡ true → IsAscii v
+ascii_from v h = IsAscii-from_all v (All-weaker (λ c. nat_lt c 128 ≡ true) (λ c. c < 128) (λ c k. ltb-true c 128 k) v
+    (AllPass-from_list_all (λ c. nat_lt c 128) v h))
 
 -- ---- checked values
 

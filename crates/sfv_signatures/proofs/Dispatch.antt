@@ -1,116 +1,156 @@
--- The value of a field by its form and its lines.
-use Rattle.std.proofs.Common.{◌≡◌, ℕ, List, [], ◌∷◌, refl, sym, ◌∙◌, ap, subst, inr, map}
-use Rattle.std.specs.Prelude.{Option, Some, None, option_and_then, true, false, Result, Ok, Err, slice_get}
-use Rattle.sfv.specs.CheckedTexts.{text_of}
+-- The value of a field by its parameters and its lines, and of a component of a message.
+use Rattle.std.proofs.Common.{◌≡◌, ℕ, List, [], ◌∷◌, refl, sym, subst, inr, map}
+use Rattle.std.specs.Prelude.{Option, Some, None, MatchOption, Bool, true, false, Result, Ok, Err, slice_get}
+use Rattle.std.specs.Prelude.{if◌then◌else◌, option_and_then, codes}
 use Rattle.sfv.specs.Canonical.{canonical}
-use Rattle.sfv.specs.KeyText.{KeyRef}
-use Rattle.sfv.specs.StringText.{StringRef}
 use Rattle.sfv.specs.Types.{FieldKind, dictionary_field}
-use Rattle.sfv_signatures.specs.declared.base_error.BaseErrorKind.{BaseErrorKind}
-use Rattle.sfv_signatures.specs.declared.base_error.BaseErrorKind.TheVariants as kinds
-use Rattle.sfv_signatures.specs.declared.parameters.Form as types
-use Rattle.sfv_signatures.specs.declared.parameters.Form.TheVariants as forms
-use Rattle.sfv_signatures.specs.SignatureBase.{IsChecked}
-use Rattle.sfv_signatures.specs.Components.{UnlessMemory, AppendsValue}
-use Rattle.sfv_signatures.specs.Forms.{form_value}
 use Rattle.sfv.specs.Values.{RawParameters}
 use Rattle.std.specs.Borrow.{Bor}
 use Rattle.std.specs.Char.{is_ascii_uppercase}
 use Rattle.std.specs.List.{list_any}
-use Rattle.http_header.specs.HeaderMap.{Entries, get_all}
+use Rattle.http_header.specs.HeaderMap.{Entries}
 use Rattle.http_header.specs.Token.{lowercase}
 use Rattle.http_header.specs.FieldValue.{FieldValue}
+use Rattle.sfv_headers.specs.Lines.{lines_in}
+use Rattle.sfv_signatures.specs.declared.base_error.BaseErrorKind.{BaseErrorKind}
+use Rattle.sfv_signatures.specs.declared.base_error.BaseErrorKind.TheVariants as kinds
 use Rattle.sfv_signatures.specs.declared.http_message.HttpMessage.{HttpMessage}
-use Rattle.sfv_signatures.specs.HttpMessages.{HttpGives, GivesIf, is_derived, derived_value, type_of, section_of, part_of}
-use Rattle.sfv_signatures.specs.HttpMessages.{lines_from, lines_in, lines_of, form_of}
-use Rattle.sfv_signatures.specs.HttpMessages.{Form, ParsedGives, FormGives, LinesGive, member_of, plain_text}
+use Rattle.sfv_signatures.specs.SignatureBase.{IsChecked}
+use Rattle.sfv_signatures.specs.Components.{UnlessMemory, AppendsValue, lines_from}
+use Rattle.sfv_signatures.specs.HttpMessages.{HttpGives, ValueGives, is_derived, fault_of, type_in, section_of, part_of}
+use Rattle.sfv_signatures.specs.HttpMessages.{ParsedGives, FieldGives, LinesGive, member_of, plain_text, byte_text}
+use Rattle.sfv_signatures.specs.HttpMessages.{has, string_param}
 
-module _ (type : Option FieldKind) (form : types.Form) (lines : List (List ℕ)) where
-  pub form_member : {T : Type 0} (key : StringRef) (t old new : List ℕ) (r : Result T BaseErrorKind) → form ≡ forms.Member key
-      → t ≡ plain_text lines → AppendsValue (ParsedGives dictionary_field (member_of (text_of key)) t) old new r
-      → AppendsValue (FormGives type (form_value form) lines) old new r
-  form_member key t old new r h k x =
-      subst (λ (form : types.Form). AppendsValue (FormGives type (form_value form) lines) old new r) (sym h)
-      (subst (λ t. AppendsValue (ParsedGives dictionary_field (member_of (text_of key)) t) old new r) k x)
+Gives : Type 1
+Gives = Result (List ℕ) BaseErrorKind → Type 0
 
-  pub form_strict : {T : Type 0} (kind : FieldKind) (t old new : List ℕ) (r : Result T BaseErrorKind) → form ≡ forms.Strict
-      → type ≡ Some kind → t ≡ plain_text lines
+-- a field of one type
+pub of_kind : {T : Type 0} (kind k : FieldKind) (t old new : List ℕ) (r : Result T BaseErrorKind) → kind ≡ k
+    → AppendsValue (ParsedGives k (λ value. Ok (canonical k value)) t) old new r
+    → AppendsValue (ParsedGives kind (λ value. Ok (canonical kind value)) t) old new r
+of_kind kind k t old new r h x =
+    subst (λ (k : FieldKind). AppendsValue (ParsedGives k (λ value. Ok (canonical k value)) t) old new r) (sym h) x
+
+-- ---- the value by its form
+
+module _ {T : Type 0} (old new : List ℕ) (r : Result T BaseErrorKind) where
+  pub with_bs : (bs : Bool) (key : Option (List ℕ)) (sf : Bool) (type : Option FieldKind) (lines : List (List ℕ))
+      → bs ≡ true → AppendsValue (λ r. r ≡ Ok (byte_text lines)) old new r
+      → AppendsValue (FieldGives bs key sf type lines) old new r
+  with_bs bs key sf type lines h x =
+      subst (λ b. AppendsValue (FieldGives b key sf type lines) old new r) (sym h) x
+
+  pub with_key : (bs : Bool) (key : Option (List ℕ)) (sf : Bool) (type : Option FieldKind) (lines : List (List ℕ))
+      (k t : List ℕ) → bs ≡ false → key ≡ Some k → t ≡ plain_text lines
+      → AppendsValue (ParsedGives dictionary_field (member_of k) t) old new r
+      → AppendsValue (FieldGives bs key sf type lines) old new r
+  with_key bs key sf type lines k t h some e x =
+      subst (λ b. AppendsValue (FieldGives b key sf type lines) old new r) (sym h)
+      (subst (λ (o : Option (List ℕ)). AppendsValue (FieldGives false o sf type lines) old new r) (sym some)
+      (subst (λ t. AppendsValue (ParsedGives dictionary_field (member_of k) t) old new r) e x))
+
+  pub as_it_is : (bs : Bool) (key : Option (List ℕ)) (sf : Bool) (type : Option FieldKind) (lines : List (List ℕ))
+      → bs ≡ false → key ≡ None → sf ≡ false → AppendsValue (λ r. r ≡ Ok (plain_text lines)) old new r
+      → AppendsValue (FieldGives bs key sf type lines) old new r
+  as_it_is bs key sf type lines h none k x =
+      subst (λ b. AppendsValue (FieldGives b key sf type lines) old new r) (sym h)
+      (subst (λ (o : Option (List ℕ)). AppendsValue (FieldGives false o sf type lines) old new r) (sym none)
+      (subst (λ b. AppendsValue (FieldGives false None b type lines) old new r) (sym k) x))
+
+  pub with_sf : (bs : Bool) (key : Option (List ℕ)) (sf : Bool) (type : Option FieldKind) (lines : List (List ℕ))
+      (kind : FieldKind) (t : List ℕ) → bs ≡ false → key ≡ None → sf ≡ true → type ≡ Some kind → t ≡ plain_text lines
       → AppendsValue (ParsedGives kind (λ value. Ok (canonical kind value)) t) old new r
-      → AppendsValue (FormGives type (form_value form) lines) old new r
-  form_strict kind t old new r h some k x =
-      subst (λ (form : types.Form). AppendsValue (FormGives type (form_value form) lines) old new r) (sym h)
-      (subst (λ (type : Option FieldKind). AppendsValue (FormGives type (form_value forms.Strict) lines) old new r) (sym some)
-      (subst (λ t. AppendsValue (ParsedGives kind (λ value. Ok (canonical kind value)) t) old new r) k x))
+      → AppendsValue (FieldGives bs key sf type lines) old new r
+  with_sf bs key sf type lines kind t h none k some e x =
+      subst (λ b. AppendsValue (FieldGives b key sf type lines) old new r) (sym h)
+      (subst (λ (o : Option (List ℕ)). AppendsValue (FieldGives false o sf type lines) old new r) (sym none)
+      (subst (λ b. AppendsValue (FieldGives false None b type lines) old new r) (sym k)
+      (subst (λ (o : Option FieldKind). AppendsValue (FieldGives false None true o lines) old new r) (sym some)
+      (subst (λ t. AppendsValue (ParsedGives kind (λ value. Ok (canonical kind value)) t) old new r) e x))))
 
-  pub form_unknown : form ≡ forms.Strict → type ≡ None
-      → UnlessMemory (λ k. IsChecked (FormGives type (form_value form) lines) (Err k)) kinds.UnknownType
-  form_unknown h none = inr (
-    Err kinds.UnknownType,
-    subst (λ (form : types.Form). FormGives type (form_value form) lines (Err kinds.UnknownType)) (sym h)
-        (subst (λ (type : Option FieldKind). FormGives type (form_value forms.Strict) lines (Err kinds.UnknownType))
-        (sym none) refl),
-    refl,
-  )
+pub untyped : (bs : Bool) (key : Option (List ℕ)) (sf : Bool) (type : Option FieldKind) (lines : List (List ℕ))
+    → bs ≡ false → key ≡ None → sf ≡ true → type ≡ None
+    → UnlessMemory (λ k. IsChecked (FieldGives bs key sf type lines) (Err k)) kinds.UnknownType
+untyped bs key sf type lines h none k unknown = inr (
+  Err kinds.UnknownType,
+  subst (λ b. FieldGives b key sf type lines (Err kinds.UnknownType)) (sym h)
+      (subst (λ (o : Option (List ℕ)). FieldGives false o sf type lines (Err kinds.UnknownType)) (sym none)
+      (subst (λ b. FieldGives false None b type lines (Err kinds.UnknownType)) (sym k)
+      (subst (λ (o : Option FieldKind). FieldGives false None true o lines (Err kinds.UnknownType)) (sym unknown) refl))),
+  refl,
+)
 
-module _ (type : Option FieldKind) (f : Result Form BaseErrorKind) (lines : List (List ℕ)) where
-  pub lines_fault : (kind e : BaseErrorKind) → f ≡ Err kind → kind ≡ e
-      → UnlessMemory (λ k. IsChecked (LinesGive type f lines) (Err k)) e
-  lines_fault kind e h k = inr (
-    Err kind,
-    subst (λ (f : Result Form BaseErrorKind). LinesGive type f lines (Err kind)) (sym h) refl,
-    ap Err (sym k),
-  )
+-- ---- lines
 
-  pub lines_absent : (form : Form) → f ≡ Ok form → lines ≡ []
-      → UnlessMemory (λ k. IsChecked (LinesGive type f lines) (Err k)) kinds.Absent
-  lines_absent form h k = inr (
+pub none_first : {A B : Type 0} (f : A → B) (xs : List A) → None ≡ slice_get xs 0 → map f xs ≡ []
+none_first f [] h = refl
+none_first f (x ∷ xs) h = absurd (cc)
+
+pub some_first : {A B : Type 0} (f : A → B) (xs : List A) (y : A) → Some y ≡ slice_get xs 0
+    → slice_get (map f xs) 0 ≡ Some (f y)
+some_first f [] y h = absurd (cc)
+some_first f (x ∷ xs) y h = let same : y ≡ x = cc in cc
+
+module _ (ps : RawParameters) (type : Option FieldKind) (lines : List (List ℕ)) where
+  pub lines_absent : lines ≡ [] → UnlessMemory (λ k. IsChecked (LinesGive ps type lines) (Err k)) kinds.Absent
+  lines_absent h = inr (
     Err kinds.Absent,
-    subst (λ (f : Result Form BaseErrorKind). LinesGive type f lines (Err kinds.Absent)) (sym h)
-        (subst (λ (ls : List (List ℕ)). LinesGive type (Ok form) ls (Err kinds.Absent)) (sym k) refl),
+    subst (λ (ls : List (List ℕ)). LinesGive ps type ls (Err kinds.Absent)) (sym h) refl,
     refl,
   )
 
-  pub lines_given : {T : Type 0} (form : Form) (line : List ℕ) (rest all : List (List ℕ)) (old new : List ℕ)
-      (r : Result T BaseErrorKind) → f ≡ Ok form → lines ≡ all → all ≡ line ∷ rest
-      → AppendsValue (FormGives type form all) old new r → AppendsValue (LinesGive type f lines) old new r
-  lines_given form line rest all old new r h k e x =
-      subst (λ (f : Result Form BaseErrorKind). AppendsValue (LinesGive type f lines) old new r) (sym h)
-      (subst (λ (ls : List (List ℕ)). AppendsValue (LinesGive type (Ok form) ls) old new r) (sym (k ∙ e))
-      (subst (λ (ls : List (List ℕ)). AppendsValue (FormGives type form ls) old new r) e x))
+  pub lines_given : {T : Type 0} (old new : List ℕ) (r : Result T BaseErrorKind) (all : List (List ℕ)) (line : List ℕ)
+      → lines ≡ all → slice_get all 0 ≡ Some line
+      → AppendsValue (FieldGives (has (codes "bs") ps) (string_param (codes "key") ps) (has (codes "sf") ps) type all) old
+      new r → AppendsValue (LinesGive ps type lines) old new r
+  lines_given old new r all line e some x =
+      subst (λ (ls : List (List ℕ)). AppendsValue (LinesGive ps type ls) old new r) (sym e)
+      (subst (λ (first : Option (List ℕ)). AppendsValue (λ r. MatchOption first (r ≡ Err kinds.Absent)
+      (λ _. FieldGives (has (codes "bs") ps) (string_param (codes "key") ps) (has (codes "sf") ps) type all r)) old new r)
+      (sym some) x)
 
--- ---- the first of a list
-
-pub none_first : {A : Type 0} (xs : List A) → None ≡ slice_get xs 0 → xs ≡ []
-none_first [] h = refl
-none_first (x ∷ xs) h = absurd (cc)
-
-pub some_first : {A : Type 0} (xs : List A) (y : A) → Some y ≡ slice_get xs 0 → (rest : List A) × (xs ≡ y ∷ rest)
-some_first [] y h = absurd (cc)
-some_first (x ∷ xs) y h = (xs, let same : y ≡ x = cc in cc)
-
--- ---- the lines of a field
-
-module _ (name : List ℕ) (fields : Entries FieldValue) where
-  pub upper_none : list_any is_ascii_uppercase name ≡ true → lines_in name fields ≡ []
+module _ (name : List ℕ) (fields : Bor (Entries FieldValue)) where
+  pub upper_none : list_any is_ascii_uppercase name ≡ true → lines_from name (Some fields) ≡ []
   upper_none h = rw h refl
 
   pub lower_lines : list_any is_ascii_uppercase name ≡ false
-      → lines_in name fields ≡ map (λ v. v.bytes) (get_all fields (lowercase name))
+      → lines_from name (Some fields) ≡ lines_in fields.now (lowercase name)
   lower_lines h = rw h refl
+
+either : (b : Bool) (xs : List (List ℕ)) → (if b then xs else xs) ≡ xs
+either true xs = refl
+either false xs = refl
+
+pub no_section : (name : List ℕ) → lines_from name None ≡ []
+no_section name = either (list_any is_ascii_uppercase name) []
 
 -- ---- messages
 
 module _ (m : HttpMessage) (name : List ℕ) (ps : RawParameters) where
-  pub http_derived : {T : Type 0} (old new : List ℕ) (r : Result T BaseErrorKind) → is_derived name ≡ true
-      → AppendsValue (λ r. r ≡ derived_value m name ps) old new r → AppendsValue (HttpGives m name ps) old new r
-  http_derived old new r h x = subst (λ b. AppendsValue (GivesIf b m name ps) old new r) (sym h) x
+  abbrev By : Option BaseErrorKind → Bool → Result (List ℕ) BaseErrorKind → Type 0
+  By fault derived r = MatchOption fault (ValueGives derived m name ps r) (λ kind. r ≡ Err kind)
 
-  pub http_field : {T : Type 0} (type : Option FieldKind) (section : Option (Bor (Entries FieldValue))) (old new : List ℕ)
-      (r : Result T BaseErrorKind) → is_derived name ≡ false → type ≡ type_of m name
-      → section ≡ option_and_then (section_of ps) (part_of m ps)
-      → AppendsValue (LinesGive type (form_of ps) (lines_from name section)) old new r
-      → AppendsValue (HttpGives m name ps) old new r
-  http_field type section old new r h k e x = subst (λ b. AppendsValue (GivesIf b m name ps) old new r) (sym h)
-      (subst (λ (type : Option FieldKind). AppendsValue (LinesGive type (form_of ps) (lines_of m name ps)) old new r) k
-      (subst (λ (s : Option (Bor (Entries FieldValue))). AppendsValue (LinesGive type (form_of ps) (lines_from name s)) old
-      new r) e x))
+  pub http_fault : (kind : BaseErrorKind) → Some kind ≡ fault_of name ps
+      → UnlessMemory (λ k. IsChecked (HttpGives m name ps) (Err k)) kind
+  http_fault kind h = inr (
+    Err kind,
+    subst (λ (fault : Option BaseErrorKind). By fault (is_derived name) (Err kind)) h refl,
+    refl,
+  )
+
+  module _ {T : Type 0} (old new : List ℕ) (r : Result T BaseErrorKind) (sound : None ≡ fault_of name ps) where
+    pub http_derived : is_derived name ≡ true → AppendsValue (ValueGives true m name ps) old new r
+        → AppendsValue (HttpGives m name ps) old new r
+    http_derived h x =
+        subst (λ (fault : Option BaseErrorKind). AppendsValue (By fault (is_derived name)) old new r) sound
+        (subst (λ b. AppendsValue (By None b) old new r) (sym h) x)
+
+    pub http_field : (section : Option (Bor (Entries FieldValue))) → is_derived name ≡ false
+        → section ≡ option_and_then (section_of ps) (part_of m ps)
+        → AppendsValue (LinesGive ps (type_in m.types.now name) (lines_from name section)) old new r
+        → AppendsValue (HttpGives m name ps) old new r
+    http_field section h e x =
+        subst (λ (fault : Option BaseErrorKind). AppendsValue (By fault (is_derived name)) old new r) sound
+        (subst (λ b. AppendsValue (By None b) old new r) (sym h)
+        (subst (λ (s : Option (Bor (Entries FieldValue))). AppendsValue (LinesGive ps (type_in m.types.now name)
+        (lines_from name s)) old new r) e x))

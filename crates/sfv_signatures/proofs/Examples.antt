@@ -1,9 +1,7 @@
--- What the definitions say of one message, and of values with line feeds.
-use Rattle.std.proofs.Common.{◌≡◌, ℕ, List, [], ◌∷◌, ◌++◌, length, refl, pos, codes, lit<}
+-- What the definitions say of one message.
+use Rattle.std.proofs.Common.{◌≡◌, ℕ, List, [], ◌∷◌, ◌++◌, refl, pos, codes, lit<}
 use Rattle.std.specs.Fmt.{digits}
-use Rattle.sfv.specs.Values.{RawItem, RawInnerList, integer, string, inner_list}
-use Rattle.sfv.specs.Types.{list_field}
-use Rattle.sfv.specs.Statements.{IsValue}
+use Rattle.sfv.specs.Values.{RawItem, RawInnerList, integer, string}
 use Rattle.sfv.specs.Ordered.{last_of, collapse}
 use Rattle.sfv_signatures.specs.SignatureBase.{base_text, AreComponents}
 
@@ -45,26 +43,3 @@ are_components = record {
   counted = refl;
   lines = (refl, (refl, (refl, (refl, (refl, (refl, tt))))));
 }
-
--- two identifiers
-two : RawInnerList
-two = record { items = named (codes "a") ∷ named (codes "b") ∷ []; parameters = [] }
-
-one_way : List (List ℕ)
-one_way = codes "x" ∷ codes "y\n\"b\": z" ∷ []
-
-another_way : List (List ℕ)
-another_way = codes "x\n\"b\": y" ∷ codes "z" ∷ []
-
--- the law without its premise on line feeds
-abbrev WithLineFeeds : Type 0
-WithLineFeeds = (l : RawInnerList) (v w : List (List ℕ)) → IsValue list_field (inner_list l ∷ [])
-    → length v ≡ length l.items → length w ≡ length l.items → base_text l v ≡ base_text l w → v ≡ w
-
--- is false: with line feeds in values, one text is the base of different values
-ambiguous_with_line_feeds : ¬ WithLineFeeds
-unfolding two one_way another_way last_of collapse
-ambiguous_with_line_feeds law =
-    let same : one_way ≡ another_way = law two one_way another_way
-    (record { parts = ((((refl, tt), ((refl, tt), tt)), tt), tt); distinct = refl }) refl refl refl in
-    absurd (cc)

@@ -1,11 +1,14 @@
 -- Lines, each with a line feed after it, and a last line without one.
 use Rattle.std.proofs.Common.{◌≡◌, ℕ, List, [], ◌∷◌, ◌++◌, map, refl, sym, ap, ◌∙◌, append_assoc}
-use Rattle.std.specs.Prelude.{flat_map, codes}
+use Rattle.std.specs.Prelude.{flat_map, codes, Bool, not, ◌==◌}
 use Rattle.std.specs.List.{list_all, AllByRecursion}
 use Rattle.std.proofs.lemmas.Bool.{true≢false, and_parts}
 use Rattle.sfv.specs.Ascii.{byte}
 use Rattle.sfv.specs.Texts.{RunOf}
-use Rattle.sfv_signatures.specs.SignatureBase.{is_line_byte}
+
+-- c is not a line feed
+abbrev pub is_line_byte : ℕ → Bool
+is_line_byte c = not (c == byte "\n")
 
 abbrev pub Line : List ℕ → Type 0
 Line = RunOf is_line_byte

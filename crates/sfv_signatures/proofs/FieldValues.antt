@@ -1,14 +1,9 @@
 -- The values of fields that parse, or do not.
-use Rattle.std.proofs.Common.{◌≡◌, ℕ, ◌<◌, List, [], ◌∷◌, ◌++◌, Bool, true, false, refl, sym, ◌∙◌, ap, subst, inl, inr, arith, length}
-use Rattle.std.specs.Prelude.{nat_lt, not, position, Option, Some, None, Result, Ok, Err, IsTrue, IsUtf8, option_map, ok_or}
+use Rattle.std.proofs.Common.{◌≡◌, ℕ, List, [], ◌∷◌, ◌++◌, Bool, true, false, refl, sym, ◌∙◌, ap, subst, inl, inr, arith, length}
+use Rattle.std.specs.Prelude.{nat_lt, not, position, Option, Some, None, Result, Ok, Err, IsTrue, option_map, ok_or}
 use Rattle.std.specs.List.{list_all, position_or_len, AllByRecursion}
 use Rattle.std.proofs.lemmas.Bool.Decides.{nat_tests}
-use Rattle.std.specs.Str.{IsAscii}
-use Rattle.std.proofs.lemmas.Bool.{ltb-true, and_parts, false≢true}
-use Rattle.std.proofs.lemmas.List.Elements.{All-weaker}
-use Rattle.std.proofs.lemmas.List.Sums.{AllPass-from_list_all}
-use Rattle.std.proofs.lemmas.Str.{IsUtf8-from_ascii}
-use Rattle.std.proofs.lemmas.Str.Ascii.{IsAscii-from_all}
+use Rattle.std.proofs.lemmas.Bool.{and_parts, false≢true}
 use Rattle.sfv.specs.Classes.{is_key, is_key_start, is_key_inner, first_outside}
 use Rattle.sfv.specs.InvalidTexts.{IsInvalidKey}
 use Rattle.sfv.specs.Canonical.{member_text}
@@ -18,26 +13,13 @@ use Rattle.sfv.specs.Parsers.{IsParseError}
 use Rattle.sfv.specs.Statements.{IsParsedAs}
 use Rattle.sfv.specs.Types.{FieldKind, dictionary_field, Rfc9651, Error}
 use Rattle.sfv.specs.Values.{RawField, RawMember, IsMember}
-use Rattle.sfv.proofs.Callers.{last_of-split, IsLast, read_is_value}
+use Rattle.sfv.proofs.Callers.{last_of-split, read_is_value}
 use Rattle.sfv_signatures.specs.declared.base_error.BaseErrorKind.{BaseErrorKind}
 use Rattle.sfv_signatures.specs.declared.base_error.BaseErrorKind.TheVariants as kinds
-use Rattle.sfv_signatures.specs.SignatureBase.{checked, IsChecked}
+use Rattle.sfv_signatures.specs.SignatureBase.{IsChecked}
 use Rattle.sfv_signatures.specs.Components.{UnlessMemory}
 use Rattle.sfv_signatures.specs.HttpMessages.{ParsedGives, member_of}
 use Rattle.sfv_signatures.specs.ParseFaults.{parse_fault}
-
--- ---- bytes that are not UTF-8
-
-ascii_from : (v : List ℕ) → list_all (λ c. nat_lt c 128) v ≡ true → IsAscii v
-ascii_from v h = IsAscii-from_all v (All-weaker (λ c. nat_lt c 128 ≡ true) (λ c. c < 128) (λ c k. ltb-true c 128 k) v
-    (AllPass-from_list_all (λ c. nat_lt c 128) v h))
-
-pub not_utf8_checked : (v : List ℕ) → (IsUtf8 v → ⊥) → Err kinds.NotAscii ≡ checked (Ok v)
-not_utf8_checked v h = go (list_all (λ c. nat_lt c 128) v) refl
-  where
-    go : (b : Bool) → list_all (λ c. nat_lt c 128) v ≡ b → Err kinds.NotAscii ≡ checked (Ok v)
-    go true e = absurd (h (IsUtf8-from_ascii v (ascii_from v e)))
-    go false e = rw e refl
 
 -- ---- fields that do not parse
 

@@ -1,25 +1,17 @@
--- Lines, without the spaces and tabs at their ends, and joined.
-use Rattle.std.proofs.Common.{◌≡◌, ℕ, ◌+◌, ◌<◌, Bool, true, false, List, [], ◌∷◌, ◌++◌, length, take, drop, map, refl, sym, ◌∙◌, ap}
-use Rattle.std.proofs.Common.{append_assoc, append-nil, get_or, ◌-◌, ◌≤◌, arith}
-use Rattle.std.specs.Prelude.{codes, if◌then◌else◌}
-use Rattle.std.proofs.lemmas.List.{take_more}
+-- Lines that are joined.
+use Rattle.std.proofs.Common.{◌≡◌, ℕ, Bool, true, false, List, [], ◌∷◌, ◌++◌, refl, sym, ◌∙◌, ap, inl, inr}
+use Rattle.std.proofs.Common.{append_assoc, append-nil}
+use Rattle.std.specs.Prelude.{codes, nat_lt, Ok, Err, IsUtf8}
+use Rattle.std.specs.List.{list_all}
+use Rattle.std.proofs.lemmas.Bool.{and_parts, and_from}
+use Rattle.std.proofs.lemmas.Str.{IsUtf8-from_ascii}
 use Rattle.sfv.specs.Texts.{joined}
 use Rattle.sfv.specs.Written.{with_separators, separator_before}
-use Rattle.sfv_signatures.specs.HttpMessages.{is_blank, kept_before, without_start, without_end}
-
--- ---- spaces and tabs
-
-pub end_blank : (t : List ℕ) (c : ℕ) → is_blank c ≡ true → without_end (t ++ c ∷ []) ≡ without_end t
-end_blank [] c h = rw h refl
-end_blank (d ∷ t) c h = ap (kept_before d) (end_blank t c h)
-
-snoc_kept : (d : ℕ) (t : List ℕ) (c : ℕ) → kept_before d (t ++ c ∷ []) ≡ d ∷ (t ++ c ∷ [])
-snoc_kept d [] c = refl
-snoc_kept d (e ∷ t) c = refl
-
-pub end_kept : (t : List ℕ) (c : ℕ) → is_blank c ≡ false → without_end (t ++ c ∷ []) ≡ t ++ c ∷ []
-end_kept [] c h = rw h refl
-end_kept (d ∷ t) c h = ap (kept_before d) (end_kept t c h) ∙ snoc_kept d t c
+use Rattle.sfv_signatures.specs.declared.base_error.BaseErrorKind.{BaseErrorKind}
+use Rattle.sfv_signatures.specs.declared.base_error.BaseErrorKind.TheVariants as kinds
+use Rattle.sfv_signatures.specs.SignatureBase.{checked, IsChecked}
+use Rattle.sfv_signatures.specs.Components.{UnlessMemory}
+use Rattle.sfv_signatures.proofs.Ascii.{ascii_from}
 
 -- ---- parts with a separator between neighbours
 
@@ -33,23 +25,76 @@ pub joined_parts : (s : List ℕ) (xs : List (List ℕ)) → joined s xs ≡ wit
 joined_parts s [] = refl
 joined_parts s (x ∷ xs) = separated s x xs
 
--- ---- steps of the loops
-
-pub end_step : (text : List ℕ) (n : ℕ) → 0 < n → n ≤ length text → is_blank (get_or text (n - 1) 0) ≡ true
-    → without_end (take (n - 1) text) ≡ without_end (take n text)
-end_step text n h k blank =
-    let more : take (n - 1 + 1) text ≡ take (n - 1) text ++ get_or text (n - 1) 0 ∷ [] = take_more text (n - 1) 0 (omega (arith, h, k)) in
-    let same : n - 1 + 1 ≡ n = omega (arith, h) in
-    sym (ap without_end (sym (ap (λ m. take m text) same) ∙ more) ∙ end_blank (take (n - 1) text) (get_or text (n - 1) 0) blank)
-
-pub end_stop : (text : List ℕ) (n : ℕ) → 0 < n → n ≤ length text → is_blank (get_or text (n - 1) 0) ≡ false
-    → take n text ≡ without_end (take n text)
-end_stop text n h k kept =
-    let more : take (n - 1 + 1) text ≡ take (n - 1) text ++ get_or text (n - 1) 0 ∷ [] = take_more text (n - 1) 0 (omega (arith, h, k)) in
-    let same : n - 1 + 1 ≡ n = omega (arith, h) in
-    let split : take n text ≡ take (n - 1) text ++ get_or text (n - 1) 0 ∷ [] = sym (ap (λ m. take m text) same) ∙ more in
-    split ∙ sym (ap without_end split ∙ end_kept (take (n - 1) text) (get_or text (n - 1) 0) kept)
-
 pub end_joined : (t u : List ℕ) (xs : List (List ℕ)) → t ++ [] ≡ u ++ with_separators true (codes ", ") xs
     → t ≡ u ++ joined (codes ", ") xs
 end_joined t u xs h = sym (append-nil t) ∙ h ∙ ap (λ (s : List ℕ). u ++ s) (sym (joined_parts (codes ", ") xs))
+
+-- ---- steps of a loop that may fail
+
+-- the text after `old` has the parts before those that are left
+pub record IsSoFar (old new : List ℕ) (is_first : Bool) (left all : List (List ℕ)) : Type 0 where
+  pub done : List ℕ
+  pub text : new ≡ old ++ done
+  pub whole : done ++ with_separators is_first (codes ", ") left ≡ with_separators true (codes ", ") all
+
+pub none_yet : (old : List ℕ) (all : List (List ℕ)) → IsSoFar old old true all all
+none_yet old all = record { done = []; text = sym (append-nil old); whole = refl }
+
+pub one_more : (old new next : List ℕ) (is_first : Bool) (x : List ℕ) (left all : List (List ℕ))
+    → IsSoFar old new is_first (x ∷ left) all → next ≡ new ++ (separator_before is_first (codes ", ") ++ x)
+    → IsSoFar old next false left all
+one_more old new next is_first x left all so_far e = record {
+  done = so_far.done ++ (separator_before is_first (codes ", ") ++ x);
+  text = e ∙ ap (λ (t : List ℕ). t ++ (separator_before is_first (codes ", ") ++ x)) so_far.text
+      ∙ append_assoc old so_far.done (separator_before is_first (codes ", ") ++ x);
+  whole = append_assoc so_far.done (separator_before is_first (codes ", ") ++ x) (with_separators false (codes ", ") left)
+      ∙ so_far.whole;
+}
+
+pub all_joined : (old new : List ℕ) (is_first : Bool) (all : List (List ℕ)) → IsSoFar old new is_first [] all
+    → new ≡ old ++ joined (codes ", ") all
+all_joined old new is_first all so_far =
+    let done : so_far.done ≡ joined (codes ", ") all =
+    sym (append-nil so_far.done) ∙ so_far.whole ∙ sym (joined_parts (codes ", ") all) in
+    so_far.text ∙ ap (λ (t : List ℕ). old ++ t) done
+
+-- ---- a part that is not UTF-8
+
+ascii_part : (a b : List ℕ) → list_all (λ c. nat_lt c 128) (a ++ b) ≡ true
+    → (list_all (λ c. nat_lt c 128) a ≡ true) × (list_all (λ c. nat_lt c 128) b ≡ true)
+ascii_part [] b h = (refl, h)
+ascii_part (c ∷ a) b h =
+    let p = and_parts (nat_lt c 128) (list_all (λ c. nat_lt c 128) (a ++ b)) h in
+    let q = ascii_part a b p.1 in (and_from (nat_lt c 128) (list_all (λ c. nat_lt c 128) a) p.0 q.0, q.1)
+
+pub part_checked : (old new : List ℕ) (is_first : Bool) (x : List ℕ) (left all : List (List ℕ))
+    → IsSoFar old new is_first (x ∷ left) all → (IsUtf8 x → ⊥)
+    → Err kinds.NotAscii ≡ checked (Ok (joined (codes ", ") all))
+part_checked old new is_first x left all so_far other = go (list_all (λ c. nat_lt c 128) (joined (codes ", ") all)) refl
+  where
+    sep : List ℕ
+    sep = separator_before is_first (codes ", ")
+
+    rest : List ℕ
+    rest = with_separators false (codes ", ") left
+
+    split : joined (codes ", ") all ≡ so_far.done ++ ((sep ++ x) ++ rest)
+    split = joined_parts (codes ", ") all ∙ sym so_far.whole
+
+    go : (b : Bool) → list_all (λ c. nat_lt c 128) (joined (codes ", ") all) ≡ b
+        → Err kinds.NotAscii ≡ checked (Ok (joined (codes ", ") all))
+    go true e =
+        let p = ascii_part so_far.done ((sep ++ x) ++ rest) (ap (list_all (λ c. nat_lt c 128)) (sym split) ∙ e) in
+        absurd (other (IsUtf8-from_ascii x (ascii_from x (ascii_part sep x (ascii_part (sep ++ x) rest p.1).0).1)))
+    go false e = rw e refl
+
+-- the error of a line, as that of the value
+pub plain_fault : (old new : List ℕ) (is_first : Bool) (x : List ℕ) (left all : List (List ℕ)) (kind e : BaseErrorKind)
+    → IsSoFar old new is_first (x ∷ left) all → UnlessMemory (λ kind. (kind ≡ kinds.NotAscii) × (IsUtf8 x → ⊥)) kind
+    → kind ≡ e → UnlessMemory (λ k. IsChecked (λ r. r ≡ Ok (joined (codes ", ") all)) (Err k)) e
+plain_fault old new is_first x left all kind e so_far (inl memory) same = inl (sym same ∙ memory)
+plain_fault old new is_first x left all kind e so_far (inr h) same = inr (
+  Ok (joined (codes ", ") all),
+  refl,
+  ap Err (sym same ∙ h.0) ∙ part_checked old new is_first x left all so_far h.1,
+)

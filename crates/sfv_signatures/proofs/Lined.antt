@@ -1,16 +1,18 @@
 -- The lines of the first identifiers.
-use Rattle.std.proofs.Common.{◌≡◌, ℕ, ◌+◌, ◌<◌, List, [], ◌∷◌, ◌++◌, length, map, take, drop, refl, sym, ◌∙◌, ap, subst, arith}
-use Rattle.std.proofs.Common.{append_assoc, inl, inr, ◌≤◌}
-use Rattle.std.specs.Prelude.{flat_map, codes}
+use Rattle.std.proofs.Common.{◌≡◌, ℕ, ◌+◌, ◌<◌, ◌≤◌, zero, suc, List, [], ◌∷◌, ◌++◌, length, map, take, refl, sym, ◌∙◌, ap}
+use Rattle.std.proofs.Common.{append_assoc, inl, inr, subst, arith}
+use Rattle.std.specs.Prelude.{flat_map, codes, slice_get, option_map, Some, Ok, Err}
 use Rattle.std.specs.List.{zip, slice_index_or}
-use Rattle.std.proofs.lemmas.List.{append-nil, take_more, map-append, take-append-drop, take_all, length-map, length-take-le}
+use Rattle.std.proofs.lemmas.List.{append-nil, take_all, take-map}
+use Rattle.std.proofs.lemmas.Option.{slice_get-map, slice_get_read}
 use Rattle.sfv.specs.Types.{list_field}
 use Rattle.sfv.specs.Values.{RawItem, RawInnerList, inner_list}
 use Rattle.sfv.specs.Statements.{IsValue}
 use Rattle.sfv_signatures.specs.declared.base_error.BaseErrorKind.{BaseErrorKind}
-use Rattle.sfv_signatures.specs.SignatureBase.{Message, component_line, params_line, base_text, HasValue, Breaks}
-use Rattle.sfv_signatures.specs.SignatureBase.{HaveValues, IsBaseOf, BreaksFirst}
-use Rattle.sfv_signatures.specs.Components.{UnlessMemory}
+use Rattle.sfv_signatures.specs.SignatureBase.{Message, component_line, params_line, Gives, HaveValues}
+use Rattle.sfv_signatures.specs.SignatureBase.{IsBaseOf, BreaksFirst}
+use Rattle.sfv_signatures.specs.Components.{UnlessMemory, HasAppended, IsBaseError}
+use Rattle.sfv_signatures.specs.declared.base_error.BaseError.{BaseError}
 use Rattle.sfv_signatures.proofs.Rules.{values_snoc, values_counted}
 
 -- a line with its line feed
@@ -36,7 +38,7 @@ zip_snoc (j ∷ is) (w ∷ vs) i v h =
     ∙ sym (append_assoc (fed_line (j, w)) (flat_map fed_line (zip is vs)) (fed_line (i, v)))
 
 pub one_more : (message : Message) (is : List RawItem) (i : RawItem) (v t u : List ℕ) → HasLines message is t
-    → HasValue message is i v → u ≡ t ++ (component_line (i, v) ++ codes "\n") → HasLines message (is ++ i ∷ []) u
+    → Gives message is i (Ok v) → u ≡ t ++ (component_line (i, v) ++ codes "\n") → HasLines message (is ++ i ∷ []) u
 one_more message is i v t u h k e = record {
   values = h.values ++ v ∷ [];
   found = values_snoc message [] is h.values i v h.found k;
@@ -53,63 +55,63 @@ lined_base message l t u h k e = record {
   text = e ∙ ap (λ s. s ++ params_line l) h.text;
 }
 
-pub lined_fault : (message : Message) (l : RawInnerList) (before : List RawItem) (i : RawItem) (after : List RawItem)
-    (t : List ℕ) (kind : BaseErrorKind) (index : ℕ) → HasLines message before t → Breaks message before i kind
-    → l.items ≡ before ++ i ∷ after → length before ≡ index → BreaksFirst message l kind index
-lined_fault message l before i after t kind index h k e n = record {
-  before = before;
-  broken = i;
-  after = after;
-  values = h.values;
-  items = e;
-  found = h.found;
-  rule = k;
-  here = n;
-}
+-- ---- the identifier at an index
 
--- ---- the items of a list up to an index
+take_next : {A : Type 0} (xs : List A) (n : ℕ) (x : A) → slice_get xs n ≡ Some x → take (suc n) xs ≡ take n xs ++ x ∷ []
+take_next [] n x h = absurd (cc)
+take_next (y ∷ xs) zero x h = cc
+take_next {A} (y ∷ xs) (suc n) x h = ap (λ (t : List A). y ∷ t) (take_next xs n x h)
 
-module _ {A B : Type 0} (f : A → B) where
-  pub map_take_more : (xs : List A) (n : ℕ) (x : A) → n < length xs → slice_index_or xs n x ≡ x
-      → map f (take (n + 1) xs) ≡ map f (take n xs) ++ f x ∷ []
-  map_take_more xs n x h e = ap (map f) (take_more xs n x h) ∙ map-append f (take n xs) (slice_index_or xs n x ∷ [])
-      ∙ ap (λ (y : A). map f (take n xs) ++ f y ∷ []) e
+-- the lines before an index, and the line at it
+pub step_more : (message : Message) (l : RawInnerList) (n : ℕ) (t u : List ℕ) → HasLines message (take n l.items) t
+    → (i : RawItem) × (slice_get l.items n ≡ Some i) × HasAppended message (take n l.items) i t u
+    → HasLines message (take (n + 1) l.items) u
+step_more message l n t u lines (i, at, (v, value, text)) =
+    let next : take (suc n) l.items ≡ take n l.items ++ i ∷ [] = take_next l.items n i at in
+    let same : n + 1 ≡ suc n = omega arith in
+    subst (λ (is : List RawItem). HasLines message is u) (sym (ap (λ m. take m l.items) same ∙ next))
+    (one_more message (take n l.items) i v t u lines value text)
 
-  pub map_take_at : (xs : List A) (n : ℕ) (x : A) → n < length xs → slice_index_or xs n x ≡ x
-      → map f xs ≡ map f (take n xs) ++ f x ∷ map f (drop (n + 1) xs)
-  map_take_at xs n x h e = ap (map f) (sym (take-append-drop (n + 1) xs)) ∙ map-append f (take (n + 1) xs) (drop (n + 1) xs)
-      ∙ ap (λ ys. ys ++ map f (drop (n + 1) xs)) (map_take_more xs n x h e)
-      ∙ append_assoc (map f (take n xs)) (f x ∷ []) (map f (drop (n + 1) xs))
-
--- ---- the steps of the loop: the list xs is seen as ys and as zs
-
-module _ {A : Type 0} (f : A → RawItem) (message : Message) (xs ys zs : List A) (d : ys ≡ xs) (e : zs ≡ xs) (n : ℕ) (x : A)
-    (h : n < length ys) (k : x ≡ slice_index_or ys n x) (t : List ℕ) (lines : HasLines message (map f (take n xs)) t) where
-  within : n < length xs
-  within = subst (λ (s : List A). n < length s) d h
-
-  here : slice_index_or xs n x ≡ x
-  here = subst (λ (s : List A). slice_index_or s n x ≡ x) d (sym k)
-
-  pub step_more : (u v : List ℕ) → HasValue message (map f (take n zs)) (f x) v
-      → u ≡ t ++ (component_line (f x, v) ++ codes "\n") → HasLines message (map f (take (n + 1) xs)) u
-  step_more u v value text = subst (λ (is : List RawItem). HasLines message is u) (sym (map_take_more f xs n x within here))
-      (one_more message (map f (take n xs)) (f x) v t u lines
-      (subst (λ (s : List A). HasValue message (map f (take n s)) (f x) v) e value) text)
-
-  pub step_fault : (l : RawInnerList) (kind : BaseErrorKind) → l.items ≡ map f xs
-      → UnlessMemory (Breaks message (map f (take n zs)) (f x)) kind
-      → UnlessMemory (λ kind. BreaksFirst message l kind n) kind
-  step_fault l kind items (inl memory) = inl memory
-  step_fault l kind items (inr broken) = inr (lined_fault message l (map f (take n xs)) (f x) (map f (drop (n + 1) xs)) t
-      kind n lines (subst (λ (s : List A). Breaks message (map f (take n s)) (f x) kind) e broken)
-      (items ∙ map_take_at f xs n x within here) counted)
-    where
-      counted : length (map f (take n xs)) ≡ n
-      counted = length-map (take n xs) f ∙ length-take-le n xs (omega (arith, within))
+-- the lines before an index, and the rule that the identifier at it breaks
+pub step_fault : (message : Message) (l : RawInnerList) (n : ℕ) (t : List ℕ) (kind : BaseErrorKind)
+    → HasLines message (take n l.items) t
+    → UnlessMemory (λ kind. (i : RawItem) × (slice_get l.items n ≡ Some i) × Gives message (take n l.items) i (Err kind))
+    kind → UnlessMemory (λ kind. BreaksFirst message l kind n) kind
+step_fault message l n t kind lines (inl memory) = inl memory
+step_fault message l n t kind lines (inr (i, at, rule)) = inr (i, at, rule, (lines.values, lines.found))
 
 -- all lines
-pub all_lines : {A : Type 0} (f : A → RawItem) (message : Message) (xs ys : List A) (n : ℕ) (t : List ℕ) → ys ≡ xs
-    → length ys ≤ n → HasLines message (map f (take n xs)) t → HasLines message (map f xs) t
-all_lines {A} f message xs ys n t e h lines = subst (λ (s : List A). HasLines message (map f s) t)
-    (take_all n xs (subst (λ (s : List A). length s ≤ n) e h)) lines
+pub all_lines : (message : Message) (l : RawInnerList) (n : ℕ) (t : List ℕ) → length l.items ≤ n
+    → HasLines message (take n l.items) t → HasLines message l.items t
+all_lines message l n t h lines = subst (λ (is : List RawItem). HasLines message is t) (take_all n l.items h) lines
+
+-- the error at an index, after the lines before it
+pub error_at : (message : Message) (l : RawInnerList) (n : ℕ) (t : List ℕ) (e : BaseError)
+    → HasLines message (take n l.items) t
+    → UnlessMemory (λ kind. (i : RawItem) × (slice_get l.items n ≡ Some i) × Gives message (take n l.items) i (Err kind))
+    e.kind → e.index ≡ n → IsBaseError message l e
+error_at message l n t e lines h here = subst (λ m. UnlessMemory (λ kind. BreaksFirst message l kind m) e.kind) (sym here)
+    (step_fault message l n t e.kind lines h)
+
+-- ---- the items xs, seen as raw items
+
+module _ {A : Type 0} (f : A → RawItem) (message : Message) (xs zs : List A) (n : ℕ) (x : A) (e : zs ≡ xs)
+    (h : n < length xs) (k : x ≡ slice_index_or xs n x) where
+  here : slice_get (map f xs) n ≡ Some (f x)
+  here = slice_get-map f xs n ∙ ap (option_map f) (slice_get_read xs (length xs) n x refl h k)
+
+  before : map f (take n zs) ≡ take n (map f xs)
+  before = ap (λ (s : List A). map f (take n s)) e ∙ sym (take-map f n xs)
+
+  pub appended_at : (old new : List ℕ) → HasAppended message (map f (take n zs)) (f x) old new
+      → (i : RawItem) × (slice_get (map f xs) n ≡ Some i) × HasAppended message (take n (map f xs)) i old new
+  appended_at old new a =
+      (f x, here, subst (λ (is : List RawItem). HasAppended message is (f x) old new) before a)
+
+  pub broken_at : (kind : BaseErrorKind)
+      → UnlessMemory (λ kind. Gives message (map f (take n zs)) (f x) (Err kind)) kind
+      → UnlessMemory (λ kind. (i : RawItem) × (slice_get (map f xs) n ≡ Some i)
+      × Gives message (take n (map f xs)) i (Err kind)) kind
+  broken_at kind (inl memory) = inl memory
+  broken_at kind (inr b) =
+      inr (f x, here, subst (λ (is : List RawItem). Gives message is (f x) (Err kind)) before b)

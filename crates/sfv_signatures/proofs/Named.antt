@@ -1,9 +1,9 @@
 -- The line of one identifier, and the last line.
-use Rattle.std.proofs.Common.{◌≡◌, ℕ, List, ◌++◌, refl, sym, ◌∙◌, subst, append_assoc, inl, inr}
+use Rattle.std.proofs.Common.{◌≡◌, ℕ, List, ◌++◌, sym, subst, append_assoc, inl, inr}
 use Rattle.std.specs.Prelude.{◌≢◌, Any, Result, Ok, Err}
 use Rattle.sfv.specs.Values.{BareValue, string, RawParameters, RawItem}
 use Rattle.sfv_signatures.specs.declared.base_error.BaseErrorKind.{BaseErrorKind}
-use Rattle.sfv_signatures.specs.SignatureBase.{Message, IsChecked, GivesFor, AreSame, HasValue, Breaks}
+use Rattle.sfv_signatures.specs.SignatureBase.{Message, IsChecked, GivesFor, AreSame, Gives}
 use Rattle.sfv_signatures.specs.Components.{UnlessMemory}
 use Rattle.std.specs.Prelude.{codes, MatchResult}
 use Rattle.std.specs.Result.{IsErrAnd}
@@ -22,13 +22,13 @@ gives_named message ps b name r h k l = subst (λ (b : BareValue). GivesFor mess
 
 pub named_value : (message : Message) (before : List RawItem) (i : RawItem) (name v : List ℕ)
     → (Any (AreSame i) before → ⊥) → i.bare ≡ string name → name ≢ codes "@signature-params"
-    → IsChecked (message name i.parameters) (Ok v) → HasValue message before i v
-named_value message before i name v new h k l = (new, gives_named message i.parameters i.bare name (Ok v) h k l)
+    → IsChecked (message name i.parameters) (Ok v) → Gives message before i (Ok v)
+named_value message before i name v new h k l = inr (new, gives_named message i.parameters i.bare name (Ok v) h k l)
 
 pub named_fault : (message : Message) (before : List RawItem) (i : RawItem) (name : List ℕ) (kind : BaseErrorKind)
     → (Any (AreSame i) before → ⊥) → i.bare ≡ string name → name ≢ codes "@signature-params"
     → UnlessMemory (λ kind. IsChecked (message name i.parameters) (Err kind)) kind
-    → UnlessMemory (Breaks message before i) kind
+    → UnlessMemory (λ kind. Gives message before i (Err kind)) kind
 named_fault message before i name kind new h k (inl memory) = inl memory
 named_fault message before i name kind new h k (inr l) =
     inr (inr (new, gives_named message i.parameters i.bare name (Err kind) h k l))

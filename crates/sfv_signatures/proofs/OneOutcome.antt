@@ -1,15 +1,16 @@
 -- An HTTP message has one outcome for each component.
-use Rattle.std.proofs.Common.{◌≡◌, ℕ, List, [], ◌∷◌, Bool, true, false, sym, ◌∙◌, ap, inl, inr}
-use Rattle.std.specs.Prelude.{Option, Some, None, Result, Ok, Err}
+use Rattle.std.proofs.Common.{◌≡◌, ℕ, List, Bool, true, false, sym, ◌∙◌, ap, inl, inr}
+use Rattle.std.specs.Prelude.{Option, Some, None, MatchOption, Result, Ok, Err, codes, slice_get}
 use Rattle.sfv.specs.Canonical.{canonical}
 use Rattle.sfv.specs.Types.{FieldKind, dictionary_field, Rfc9651}
 use Rattle.sfv.specs.Values.{RawParameters, RawField}
 use Rattle.sfv.proofs.Callers.{one_value}
 use Rattle.sfv_signatures.specs.declared.base_error.BaseErrorKind.{BaseErrorKind}
+use Rattle.sfv_signatures.specs.declared.base_error.BaseErrorKind.TheVariants as kinds
 use Rattle.sfv_signatures.specs.declared.http_message.HttpMessage.{HttpMessage}
 use Rattle.sfv_signatures.specs.SignatureBase.{HasOneOutcome}
-use Rattle.sfv_signatures.specs.HttpMessages.{Form, plain, bytes, member, strict, ParsedGives, LinesGive, member_of}
-use Rattle.sfv_signatures.specs.HttpMessages.{GivesIf, HttpGives, is_derived, type_of, form_of, lines_of}
+use Rattle.sfv_signatures.specs.HttpMessages.{has, string_param, is_derived, fault_of, member_of, plain_text, ParsedGives}
+use Rattle.sfv_signatures.specs.HttpMessages.{FieldGives, LinesGive, lines_of, type_in, ValueGives, HttpGives}
 
 parsed_one : (kind : FieldKind) (write : RawField kind → Result (List ℕ) BaseErrorKind) (t : List ℕ)
     (r s : Result (List ℕ) BaseErrorKind) → ParsedGives kind write t r → ParsedGives kind write t s → r ≡ s
@@ -19,19 +20,38 @@ parsed_one kind write t r s (inl h) (inr k) = absurd (k.0 (h.1.raw, h.1.accepted
 parsed_one kind write t r s (inr h) (inl k) = absurd (h.0 (k.1.raw, k.1.accepted))
 parsed_one kind write t r s (inr h) (inr k) = h.1 ∙ sym k.1
 
-lines_one : (type : Option FieldKind) (f : Result Form BaseErrorKind) (lines : List (List ℕ))
-    (r s : Result (List ℕ) BaseErrorKind) → LinesGive type f lines r → LinesGive type f lines s → r ≡ s
-lines_one type (Err kind) lines r s h k = h ∙ sym k
-lines_one type (Ok form) [] r s h k = h ∙ sym k
-lines_one type (Ok plain) (line ∷ lines) r s h k = h ∙ sym k
-lines_one type (Ok bytes) (line ∷ lines) r s h k = h ∙ sym k
-lines_one type (Ok (member key)) (line ∷ lines) r s h k = parsed_one dictionary_field (member_of key) _ r s h k
-lines_one None (Ok strict) (line ∷ lines) r s h k = h ∙ sym k
-lines_one (Some kind) (Ok strict) (line ∷ lines) r s h k = parsed_one kind (λ value. Ok (canonical kind value)) _ r s h k
+field_one : (bs : Bool) (key : Option (List ℕ)) (sf : Bool) (type : Option FieldKind) (lines : List (List ℕ))
+    (r s : Result (List ℕ) BaseErrorKind) → FieldGives bs key sf type lines r → FieldGives bs key sf type lines s → r ≡ s
+field_one true key sf type lines r s h k = h ∙ sym k
+field_one false (Some key) sf type lines r s h k = parsed_one dictionary_field (member_of key) (plain_text lines) r s h k
+field_one false None true (Some kind) lines r s h k =
+    parsed_one kind (λ value. Ok (canonical kind value)) (plain_text lines) r s h k
+field_one false None true None lines r s h k = h ∙ sym k
+field_one false None false type lines r s h k = h ∙ sym k
+
+lines_one : (ps : RawParameters) (type : Option FieldKind) (lines : List (List ℕ)) (r s : Result (List ℕ) BaseErrorKind)
+    → LinesGive ps type lines r → LinesGive ps type lines s → r ≡ s
+lines_one ps type lines r s h k = go (slice_get lines 0) h k
+  where
+    Field : Result (List ℕ) BaseErrorKind → Type 0
+    Field = FieldGives (has (codes "bs") ps) (string_param (codes "key") ps) (has (codes "sf") ps) type lines
+
+    go : (first : Option (List ℕ)) → MatchOption first (r ≡ Err kinds.Absent) (λ _. Field r)
+        → MatchOption first (s ≡ Err kinds.Absent) (λ _. Field s) → r ≡ s
+    go None h k = h ∙ sym k
+    go (Some line) h k =
+        field_one (has (codes "bs") ps) (string_param (codes "key") ps) (has (codes "sf") ps) type lines r s h k
+
+value_one : (derived : Bool) (m : HttpMessage) (name : List ℕ) (ps : RawParameters) (r s : Result (List ℕ) BaseErrorKind)
+    → ValueGives derived m name ps r → ValueGives derived m name ps s → r ≡ s
+value_one true m name ps r s h k = h ∙ sym k
+value_one false m name ps r s h k = lines_one ps (type_in m.types.now name) (lines_of m name ps) r s h k
 
 pub http_one : (m : HttpMessage) → HasOneOutcome (HttpGives m)
-http_one m name ps r s h k = go (is_derived name) h k
+http_one m name ps r s h k = go (fault_of name ps) h k
   where
-    go : (b : Bool) → GivesIf b m name ps r → GivesIf b m name ps s → r ≡ s
-    go true h k = h ∙ sym k
-    go false h k = lines_one (type_of m name) (form_of ps) (lines_of m name ps) r s h k
+    go : (fault : Option BaseErrorKind)
+        → MatchOption fault (ValueGives (is_derived name) m name ps r) (λ kind. r ≡ Err kind)
+        → MatchOption fault (ValueGives (is_derived name) m name ps s) (λ kind. s ≡ Err kind) → r ≡ s
+    go None h k = value_one (is_derived name) m name ps r s h k
+    go (Some kind) h k = h ∙ sym k

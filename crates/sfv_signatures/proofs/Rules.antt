@@ -1,19 +1,18 @@
 -- The rules of identifiers, over lists.
-use Rattle.std.proofs.Common.{◌≡◌, ℕ, List, [], ◌∷◌, ◌++◌, length, map, refl, sym, ◌∙◌, ap, subst, true, false, arith}
+use Rattle.std.proofs.Common.{◌≡◌, ℕ, zero, suc, List, [], ◌∷◌, ◌++◌, length, refl, sym, ◌∙◌, ap, subst, true, false, arith}
 use Rattle.std.proofs.Common.{inl, inr, append_assoc}
-use Rattle.std.specs.Prelude.{Bool, Result, Ok, Err, Any, flat_map, codes, bytes_eq, if◌then◌else◌, nat_lt}
-use Rattle.std.specs.List.{zip, list_any, list_all, AllByRecursion}
+use Rattle.std.specs.Prelude.{Bool, not, Some, Result, Ok, Err, if◌then◌else◌, nat_lt, slice_get, take}
+use Rattle.std.specs.List.{list_any, list_all, AllByRecursion}
 use Rattle.std.proofs.lemmas.List.{append-nil}
 use Rattle.std.proofs.lemmas.Bool.{and_from, or_parts}
 use Rattle.sfv.specs.Texts.{RunOf}
 use Rattle.sfv.specs.Values.{BareValue, integer, decimal, string, token, byte_sequence, boolean, date}
 use Rattle.sfv.specs.Values.{display_string, RawParameters, RawItem, RawInnerList}
-use Rattle.sfv.proofs.Callers.{run_weaker}
 use Rattle.sfv_signatures.specs.declared.base_error.BaseErrorKind.{BaseErrorKind}
 use Rattle.sfv_signatures.specs.declared.base_error.BaseErrorKind.TheVariants as kinds
-use Rattle.sfv_signatures.specs.SignatureBase.{Message, component_line, base_text, is_line_break, checked, GivesFor}
-use Rattle.sfv_signatures.specs.SignatureBase.{AreSame, HasValue, Breaks, HaveValues, IsBaseOf}
-use Rattle.sfv_signatures.specs.SignatureBase.{BreaksFirst, is_line_byte, AreComponents, HasOneOutcome, BaseOrRule}
+use Rattle.sfv_signatures.specs.SignatureBase.{Message, is_line_break, checked, GivesFor, Gives, HaveValues, IsBaseOf}
+use Rattle.sfv_signatures.specs.SignatureBase.{BreaksFirst, AreComponents, HasOneOutcome, BaseOrRule}
+use Rattle.sfv_signatures.proofs.Feeds.{is_line_byte}
 
 -- ---- one identifier
 
@@ -26,7 +25,7 @@ unbroken_run (c ∷ v) h = let p = or_parts (is_line_break c) (list_any is_line_
     and_from (is_line_byte c) (list_all is_line_byte v) (unbroken c p.0) (unbroken_run v p.1)
 
 ok_tests : (ascii b : Bool) (x y : BaseErrorKind) (w v : List ℕ)
-    → (if ascii then (if b then Err x else Ok w) else Err y) ≡ Ok v → (b ≡ false) × (w ≡ v)
+    → (if not ascii then Err y else if b then Err x else Ok w) ≡ Ok v → (b ≡ false) × (w ≡ v)
 ok_tests true true x y w v h = absurd (cc)
 ok_tests true false x y w v h = (refl, cc)
 ok_tests false b x y w v h = absurd (cc)
@@ -65,6 +64,19 @@ gives_one message one ps (boolean b) r s h k = h ∙ sym k
 gives_one message one ps (date z) r s h k = h ∙ sym k
 gives_one message one ps (display_string t) r s h k = h ∙ sym k
 
+-- an identifier has one outcome
+outcome_one : (message : Message) → HasOneOutcome message → (pre : List RawItem) (i : RawItem)
+    (r s : Result (List ℕ) BaseErrorKind) → Gives message pre i r → Gives message pre i s → r ≡ s
+outcome_one message one pre i r s (inl h) (inl k) = h.1 ∙ sym k.1
+outcome_one message one pre i r s (inl h) (inr k) = absurd (k.0 h.0)
+outcome_one message one pre i r s (inr h) (inl k) = absurd (h.0 k.0)
+outcome_one message one pre i r s (inr h) (inr k) = gives_one message one i.parameters i.bare r s h.1 k.1
+
+value_line : (message : Message) (pre : List RawItem) (i : RawItem) (v : List ℕ) → Gives message pre i (Ok v)
+    → RunOf is_line_byte v
+value_line message pre i v (inl h) = absurd (let e = h.1 in cc)
+value_line message pre i v (inr h) = gives_line message i.parameters i.bare v h.1
+
 -- ---- identifiers in order
 
 pub values_counted : (message : Message) (pre is : List RawItem) (vs : List (List ℕ)) → HaveValues message pre is vs
@@ -80,18 +92,18 @@ values_lines message pre [] [] h = tt
 values_lines message pre [] (v ∷ vs) h = absurd h
 values_lines message pre (i ∷ is) [] h = absurd h
 values_lines message pre (i ∷ is) (v ∷ vs) h =
-    (gives_line message i.parameters i.bare v h.0.1, values_lines message (pre ++ i ∷ []) is vs h.1)
+    (value_line message pre i v h.0, values_lines message (pre ++ i ∷ []) is vs h.1)
 
 pub values_snoc : (message : Message) (pre is : List RawItem) (vs : List (List ℕ)) (i : RawItem) (v : List ℕ)
-    → HaveValues message pre is vs → HasValue message (pre ++ is) i v
+    → HaveValues message pre is vs → Gives message (pre ++ is) i (Ok v)
     → HaveValues message pre (is ++ i ∷ []) (vs ++ v ∷ [])
-values_snoc message pre [] [] i v h k = (subst (λ b. HasValue message b i v) (append-nil pre) k, tt)
+values_snoc message pre [] [] i v h k = (subst (λ b. Gives message b i (Ok v)) (append-nil pre) k, tt)
 values_snoc message pre [] (w ∷ vs) i v h k = absurd h
 values_snoc message pre (j ∷ is) [] i v h k = absurd h
 values_snoc message pre (j ∷ is) (w ∷ vs) i v h k = (
   h.0,
   values_snoc message (pre ++ j ∷ []) is vs i v h.1
-      (subst (λ b. HasValue message b i v) (sym (append_assoc pre (j ∷ []) is)) k),
+      (subst (λ b. Gives message b i (Ok v)) (sym (append_assoc pre (j ∷ []) is)) k),
 )
 
 -- ---- the outcome
@@ -104,64 +116,58 @@ base_components message l t h = record {
   lines = values_lines message [] l.items h.values h.found;
 }
 
--- an identifier that breaks a rule has no value
-no_value : (message : Message) → HasOneOutcome message → (pre : List RawItem) (i : RawItem) (v : List ℕ) (kind : BaseErrorKind)
-    → HasValue message pre i v → Breaks message pre i kind → ⊥
-no_value message one pre i v kind h (inl k) = h.0 k.0
-no_value message one pre i v kind h (inr k) =
-    absurd (let e = gives_one message one i.parameters i.bare (Ok v) (Err kind) h.1 k.1 in cc)
+module _ (message : Message) (one : HasOneOutcome message) where
+  -- an identifier that breaks a rule has no value
+  no_value : (pre : List RawItem) (i : RawItem) (v : List ℕ) (kind : BaseErrorKind) → Gives message pre i (Ok v)
+      → Gives message pre i (Err kind) → ⊥
+  no_value pre i v kind h k = absurd (let e = outcome_one message one pre i (Ok v) (Err kind) h k in cc)
 
-one_rule : (message : Message) → HasOneOutcome message → (pre : List RawItem) (i : RawItem) (a b : BaseErrorKind) → Breaks message pre i a
-    → Breaks message pre i b → a ≡ b
-one_rule message one pre i a b (inl h) (inl k) = h.1 ∙ sym k.1
-one_rule message one pre i a b (inl h) (inr k) = absurd (k.0 h.0)
-one_rule message one pre i a b (inr h) (inl k) = absurd (h.0 k.0)
-one_rule message one pre i a b (inr h) (inr k) =
-    let e = gives_one message one i.parameters i.bare (Err a) (Err b) h.1 k.1 in cc
+  -- the first of a list, after `pre`
+  at_front : (pre : List RawItem) (x i : RawItem) (r : Result (List ℕ) BaseErrorKind) → Some x ≡ Some i
+      → Gives message (pre ++ []) i r → Gives message pre x r
+  at_front pre x i r e h =
+      let same : i ≡ x = cc in subst (λ j. Gives message pre j r) same
+      (subst (λ b. Gives message b i r) (append-nil pre) h)
 
-none_after : (message : Message) → HasOneOutcome message → (pre b : List RawItem) (x : RawItem) (a : List RawItem) (vs : List (List ℕ))
-    (kind : BaseErrorKind) → HaveValues message pre (b ++ x ∷ a) vs → Breaks message (pre ++ b) x kind → ⊥
-none_after message one pre [] x a [] kind h k = h
-none_after message one pre [] x a (v ∷ vs) kind h k =
-    no_value message one pre x v kind h.0 (subst (λ b. Breaks message b x kind) (append-nil pre) k)
-none_after message one pre (y ∷ b) x a [] kind h k = h
-none_after message one pre (y ∷ b) x a (v ∷ vs) kind h k = none_after message one (pre ++ y ∷ []) b x a vs kind h.1
-    (subst (λ b. Breaks message b x kind) (sym (append_assoc pre (y ∷ []) b)) k)
+  -- one of the others, after `pre` and the first
+  at_rest : (pre : List RawItem) (x : RawItem) (rest : List RawItem) (i : RawItem) (r : Result (List ℕ) BaseErrorKind)
+      → Gives message (pre ++ x ∷ rest) i r → Gives message ((pre ++ x ∷ []) ++ rest) i r
+  at_rest pre x rest i r h = subst (λ b. Gives message b i r) (sym (append_assoc pre (x ∷ []) rest)) h
 
--- the first identifiers before two broken ones are the same
-one_place : (message : Message) → HasOneOutcome message → (pre b c : List RawItem) (x y : RawItem) (a d : List RawItem) (vs ws : List (List ℕ))
-    (kind other : BaseErrorKind) → b ++ x ∷ a ≡ c ++ y ∷ d → HaveValues message pre b vs → HaveValues message pre c ws
-    → Breaks message (pre ++ b) x kind → Breaks message (pre ++ c) y other → (kind ≡ other) × (length b ≡ length c)
-one_place message one pre [] [] x y a d vs ws kind other e h k p q =
-    let same : x ≡ y = cc in (
-      one_rule message one (pre ++ []) x kind other p
-          (subst (λ i. Breaks message (pre ++ []) i other) (sym same) q),
-      refl,
-    )
-one_place message one pre [] (z ∷ c) x y a d vs [] kind other e h k p q = absurd k
-one_place message one pre [] (z ∷ c) x y a d vs (w ∷ ws) kind other e h k p q =
-    let same : x ≡ z = cc in absurd (no_value message one pre z w kind k.0
-    (subst (λ i. Breaks message pre i kind) same (subst (λ b. Breaks message b x kind) (append-nil pre) p)))
-one_place message one pre (z ∷ b) [] x y a d [] ws kind other e h k p q = absurd h
-one_place message one pre (z ∷ b) [] x y a d (v ∷ vs) ws kind other e h k p q =
-    let same : y ≡ z = cc in absurd (no_value message one pre z v other h.0
-    (subst (λ i. Breaks message pre i other) same (subst (λ b. Breaks message b y other) (append-nil pre) q)))
-one_place message one pre (z ∷ b) (u ∷ c) x y a d [] ws kind other e h k p q = absurd h
-one_place message one pre (z ∷ b) (u ∷ c) x y a d (v ∷ vs) [] kind other e h k p q = absurd k
-one_place message one pre (z ∷ b) (u ∷ c) x y a d (v ∷ vs) (w ∷ ws) kind other e h k p q =
-    let same : z ≡ u = cc in
-    let rest : b ++ x ∷ a ≡ c ++ y ∷ d = cc in
-    let r = one_place message one (pre ++ z ∷ []) b c x y a d vs ws kind other rest h.1
-    (subst (λ i. HaveValues message (pre ++ i ∷ []) c ws) (sym same) k.1)
-    (subst (λ b. Breaks message b x kind) (sym (append_assoc pre (z ∷ []) b)) p)
-    (subst (λ i. Breaks message ((pre ++ i ∷ []) ++ c) y other) (sym same)
-    (subst (λ b. Breaks message b y other) (sym (append_assoc pre (u ∷ []) c)) q)) in
-    (r.0, omega (arith, r.1))
+  none_at : (pre is : List RawItem) (vs : List (List ℕ)) (n : ℕ) (i : RawItem) (kind : BaseErrorKind)
+      → HaveValues message pre is vs → slice_get is n ≡ Some i → Gives message (pre ++ take n is) i (Err kind) → ⊥
+  none_at pre [] vs n i kind h e k = absurd (cc)
+  none_at pre (x ∷ is) [] n i kind h e k = h
+  none_at pre (x ∷ is) (v ∷ vs) zero i kind h e k = no_value pre x v kind h.0 (at_front pre x i (Err kind) e k)
+  none_at pre (x ∷ is) (v ∷ vs) (suc n) i kind h e k =
+      none_at (pre ++ x ∷ []) is vs n i kind h.1 e (at_rest pre x (take n is) i (Err kind) k)
+
+  -- the places of two broken rules, each after values, are the same, and so are the rules
+  one_place : (pre is : List RawItem) (a b : ℕ) (i j : RawItem) (vs ws : List (List ℕ)) (kind other : BaseErrorKind)
+      → slice_get is a ≡ Some i → slice_get is b ≡ Some j → HaveValues message pre (take a is) vs
+      → HaveValues message pre (take b is) ws → Gives message (pre ++ take a is) i (Err kind)
+      → Gives message (pre ++ take b is) j (Err other) → (kind ≡ other) × (a ≡ b)
+  one_place pre [] a b i j vs ws kind other d e h k p q = absurd (cc)
+  one_place pre (x ∷ is) zero zero i j vs ws kind other d e h k p q =
+      let same = outcome_one message one pre x (Err kind) (Err other) (at_front pre x i (Err kind) d p)
+      (at_front pre x j (Err other) e q) in (cc, refl)
+  one_place pre (x ∷ is) zero (suc b) i j vs [] kind other d e h k p q = absurd k
+  one_place pre (x ∷ is) zero (suc b) i j vs (w ∷ ws) kind other d e h k p q =
+      absurd (no_value pre x w kind k.0 (at_front pre x i (Err kind) d p))
+  one_place pre (x ∷ is) (suc a) zero i j [] ws kind other d e h k p q = absurd h
+  one_place pre (x ∷ is) (suc a) zero i j (v ∷ vs) ws kind other d e h k p q =
+      absurd (no_value pre x v other h.0 (at_front pre x j (Err other) e q))
+  one_place pre (x ∷ is) (suc a) (suc b) i j [] ws kind other d e h k p q = absurd h
+  one_place pre (x ∷ is) (suc a) (suc b) i j (v ∷ vs) [] kind other d e h k p q = absurd k
+  one_place pre (x ∷ is) (suc a) (suc b) i j (v ∷ vs) (w ∷ ws) kind other d e h k p q =
+      let r = one_place (pre ++ x ∷ []) is a b i j vs ws kind other d e h.1 k.1
+      (at_rest pre x (take a is) i (Err kind) p) (at_rest pre x (take b is) j (Err other) q) in
+      (r.0, omega (arith, r.1))
 
 pub base_or_rule_lem : (message : Message) → BaseOrRule message
-base_or_rule_lem message one l kind index h = (
-  λ t k. none_after message one [] h.before h.broken h.after k.values kind
-      (subst (λ is. HaveValues message [] is k.values) h.items k.found) h.rule,
-  λ other place k. let r = one_place message one [] k.before h.before k.broken h.broken k.after h.after k.values h.values other
-      kind (sym k.items ∙ h.items) k.found h.found k.rule h.rule in (r.0, sym k.here ∙ r.1 ∙ h.here),
-)
+base_or_rule_lem message one l kind index (i, at, rule, (values, found)) =
+    (λ t k. none_at message one [] l.items k.values index i kind k.found at rule, only)
+  where
+    only : (other : BaseErrorKind) (place : ℕ) → BreaksFirst message l other place → (other ≡ kind) × (place ≡ index)
+    only other place (j, here, broken, (ws, those)) =
+        one_place message one [] l.items place index j i ws values other kind here at those found broken rule

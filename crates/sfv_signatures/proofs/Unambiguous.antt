@@ -1,20 +1,21 @@
 -- The signature base is unambiguous.
-use Rattle.std.proofs.Common.{◌≡◌, ℕ, List, [], ◌∷◌, ◌++◌, length, map, refl, sym, ◌∙◌, ap, subst, true, arith}
-use Rattle.std.specs.Prelude.{codes}
+use Rattle.std.proofs.Common.{◌≡◌, ℕ, List, [], ◌∷◌, ◌++◌, length, map, refl, sym, ◌∙◌, subst, true, arith}
+use Rattle.std.specs.Prelude.{codes, bytes_eq}
 use Rattle.std.specs.List.{zip, AllByRecursion}
 use Rattle.std.proofs.lemmas.List.{append_cancel_left}
 use Rattle.std.proofs.lemmas.Bool.Decides.{nat_tests}
+use Rattle.std.proofs.lemmas.Slice.Eq.{bytes_eq-Decides}
 use Rattle.sfv.specs.Values.{RawItem, RawInnerList, inner_list, IsItem}
 use Rattle.sfv.specs.Classes.{is_string_byte}
 use Rattle.sfv.specs.Types.{list_field}
 use Rattle.sfv.specs.Canonical.{item_text, inner_list_text}
 use Rattle.sfv.proofs.Callers.{equal_texts_lem}
-use Rattle.sfv_signatures.specs.SignatureBase.{component_line, params_line, is_line_byte, AreComponents, OneBase}
-use Rattle.sfv_signatures.specs.SignatureBase.{Message, OneMessage, HaveValues}
+use Rattle.sfv_signatures.specs.SignatureBase.{component_line, params_line, AreComponents, OneBase}
+use Rattle.sfv_signatures.specs.SignatureBase.{Message, IsBaseOf, AgreeOn, OneMessage, HaveValues}
 use Rattle.sfv_signatures.proofs.Rules.{base_components}
 use Rattle.sfv.proofs.Callers.{run_append, run_weaker, item_printable, inner_list_printable}
 use Rattle.sfv.specs.Texts.{RunOf}
-use Rattle.sfv_signatures.proofs.Feeds.{Line, same_lines}
+use Rattle.sfv_signatures.proofs.Feeds.{is_line_byte, Line, same_lines}
 
 printable_line : (c : ℕ) → is_string_byte c ≡ true → is_line_byte c ≡ true
 printable_line c h = grind (arith, nat_tests)
@@ -77,3 +78,9 @@ one_message_lem a b l m t h k =
     let s = one_base_lem l m h.values k.values (base_components a l t h) (base_components b m t k) (sym h.text ∙ k.text) in
     let found : HaveValues b [] l.items k.values = subst (λ (n : RawInnerList). HaveValues b [] n.items k.values) (sym s.0) k.found in
     (s.0, (h.values, h.found, subst (λ v. HaveValues b [] l.items v) (sym s.1) found))
+
+-- the same for two texts that are compared, each seen as a text of a base
+pub same_base_agrees : (a b : Message) (l m : RawInnerList) (s u t v : List ℕ) → s ≡ t → u ≡ v → bytes_eq s u ≡ true
+    → IsBaseOf a l t → IsBaseOf b m v → (l ≡ m) × AgreeOn a b l
+same_base_agrees a b l m s u t v p q same h k =
+    one_message_lem a b l m t h (subst (IsBaseOf b m) (sym q ∙ sym ((bytes_eq-Decides s u).0 same) ∙ p) k)

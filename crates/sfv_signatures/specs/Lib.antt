@@ -1,6 +1,7 @@
 pub mod SignatureBase
 pub mod Components
 pub mod HttpMessages
-pub mod Forms
 pub mod ParseFaults
 pub mod SignatureFields
+pub mod Parts
+pub mod TwoBases

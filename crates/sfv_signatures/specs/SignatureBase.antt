@@ -1,6 +1,6 @@
 -- The signature base (RFC 9421, section 2.5).
-use Rattle.std.specs.Prelude.{◌≡◌, ◌≢◌, ℕ, List, [], ◌∷◌, ◌++◌, ◌⊎◌, ⊤, length, map, flat_map, Bool, not, ◌==◌, ◌||◌}
-use Rattle.std.specs.Prelude.{codes, Any, bytes_eq, if◌then◌else◌, nat_lt, Result, Ok, Err, Some}
+use Rattle.std.specs.Prelude.{◌≡◌, ◌≢◌, ℕ, List, [], ◌∷◌, ◌++◌, ◌⊎◌, ⊤, length, take, flat_map, Bool, not, ◌==◌, ◌||◌}
+use Rattle.std.specs.Prelude.{codes, Any, if◌then◌else◌, nat_lt, slice_get, Result, Ok, Err, Some}
 use Rattle.std.specs.List.{zip, list_any, list_all, AllByRecursion}
 use Rattle.sfv.specs.Ascii.{byte}
 use Rattle.sfv.specs.Texts.{RunOf}
@@ -41,9 +41,8 @@ is_line_break c = c == byte "\n" || c == byte "\r"
 -- the value may follow in a line: it is ASCII, without line feeds and carriage returns
 abbrev pub checked : Result (List ℕ) BaseErrorKind → Result (List ℕ) BaseErrorKind
 checked (Err kind) = Err kind
-checked (Ok value) =
-    if list_all (λ c. nat_lt c 128) value then (if list_any is_line_break value then Err kinds.LineBreak else Ok value)
-    else Err kinds.NotAscii
+checked (Ok value) = if not (list_all (λ c. nat_lt c 128) value) then Err kinds.NotAscii
+    else if list_any is_line_break value then Err kinds.LineBreak else Ok value
 
 -- r is the checked value, or the rule
 abbrev pub IsChecked : (Result (List ℕ) BaseErrorKind → Type 0) → Result (List ℕ) BaseErrorKind → Type 0
@@ -56,10 +55,6 @@ GivesFor message parameters (string name) r = ((name ≡ codes "@signature-param
     ⊎ ((name ≢ codes "@signature-params") × IsChecked (message name parameters) r)
 GivesFor message parameters other r = r ≡ Err kinds.NotAString
 
--- the same for an identifier with its parameters
-abbrev pub Gives : Message → RawItem → Result (List ℕ) BaseErrorKind → Type 0
-Gives message i r = GivesFor message i.parameters i.bare r
-
 -- each of these parameters is among the others, with the same value
 abbrev pub AreWithin : RawParameters → RawParameters → Type 0
 AreWithin parameters others = AllByRecursion (λ p. last_of p.0 others ≡ Some p.1) parameters
@@ -68,20 +63,17 @@ AreWithin parameters others = AllByRecursion (λ p. last_of p.0 others ≡ Some 
 abbrev pub AreSame : RawItem → RawItem → Type 0
 AreSame i j = (i.bare ≡ j.bare) × AreWithin i.parameters j.parameters × AreWithin j.parameters i.parameters
 
--- the identifier i, after the identifiers `before`, is new, and its component has this value
-abbrev pub HasValue : Message → List RawItem → RawItem → List ℕ → Type 0
-HasValue message before i value = (¬ Any (AreSame i) before) × Gives message i (Ok value)
+-- r is the value of the component that the identifier i names, or the rule that it breaks: it is none of the
+-- identifiers `before`
+abbrev pub Gives : Message → List RawItem → RawItem → Result (List ℕ) BaseErrorKind → Type 0
+Gives message before i r = (Any (AreSame i) before × (r ≡ Err kinds.Repeated))
+    ⊎ ((¬ Any (AreSame i) before) × GivesFor message i.parameters i.bare r)
 
--- the identifier i, after the identifiers `before`, breaks this rule: it is one of them, or it has no value
-abbrev pub Breaks : Message → List RawItem → RawItem → BaseErrorKind → Type 0
-Breaks message before i kind = (Any (AreSame i) before × (kind ≡ kinds.Repeated))
-    ⊎ ((¬ Any (AreSame i) before) × Gives message i (Err kind))
-
--- each identifier in order, after those before it, has its value
+-- each identifier in order, after those of `pre`, has its value
 abbrev pub HaveValues : Message → List RawItem → List RawItem → List (List ℕ) → Type 0
-HaveValues message before [] [] = ⊤
-HaveValues message before (i ∷ is) (v ∷ vs) = HasValue message before i v × HaveValues message (before ++ i ∷ []) is vs
-HaveValues message before is vs = ⊥
+HaveValues message pre [] [] = ⊤
+HaveValues message pre (i ∷ is) (v ∷ vs) = Gives message pre i (Ok v) × HaveValues message (pre ++ i ∷ []) is vs
+HaveValues message pre is vs = ⊥
 
 -- t is the base of the inner list and the message: the list is a value, and each identifier keeps the rules
 pub record IsBaseOf (message : Message) (l : RawInnerList) (t : List ℕ) : Type 0 where
@@ -90,28 +82,19 @@ pub record IsBaseOf (message : Message) (l : RawInnerList) (t : List ℕ) : Type
   pub found : HaveValues message [] l.items values
   pub text : t ≡ base_text l values
 
--- the first identifier that breaks a rule is at this index, and it breaks this rule
-pub record BreaksFirst (message : Message) (l : RawInnerList) (kind : BaseErrorKind) (index : ℕ) : Type 0 where
-  pub before : List RawItem
-  pub broken : RawItem
-  pub after : List RawItem
-  pub values : List (List ℕ)
-  pub items : l.items ≡ before ++ broken ∷ after
-  pub found : HaveValues message [] before values
-  pub rule : Breaks message before broken kind
-  pub here : length before ≡ index
+-- the identifier at the index breaks this rule, and those before it have values
+abbrev pub BreaksFirst : Message → RawInnerList → BaseErrorKind → ℕ → Type 0
+BreaksFirst message l kind index = (i : RawItem) × (slice_get l.items index ≡ Some i)
+    × Gives message (take index l.items) i (Err kind)
+    × ((values : List (List ℕ)) × HaveValues message [] (take index l.items) values)
 
 -- ---- laws
-
--- c is not a line feed
-abbrev pub is_line_byte : ℕ → Bool
-is_line_byte c = not (c == byte "\n")
 
 -- the inner list is a value, and there is one value for each identifier, without a line feed
 pub record AreComponents (l : RawInnerList) (values : List (List ℕ)) : Type 0 where
   pub list : IsValue list_field (inner_list l ∷ [])
   pub counted : length values ≡ length l.items
-  pub lines : AllByRecursion (RunOf is_line_byte) values
+  pub lines : AllByRecursion (RunOf (λ c. not (c == byte "\n"))) values
 
 -- the base is unambiguous: one text has one ordered inner list and one value of each component
 abbrev pub OneBase : Type 0

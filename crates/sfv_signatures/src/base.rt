@@ -1,15 +1,15 @@
 //! The signature base (RFC 9421, section 2.5).
 
-ghost use Rattle.std.specs.Prelude.{◌≡◌, ◌++◌, ◌∷◌, [], IfOk, IfErr, OnOk, MatchResult, Ok, Err, IsTrue, Any, map, string_bytes};
-ghost use Rattle.std.specs.Prelude.{codes};
+ghost use Rattle.std.specs.Prelude.{◌≡◌, ◌<◌, ◌++◌, ◌∷◌, [], IfOk, IfErr, OnOk, MatchResult, Ok, Err, length, map};
+ghost use Rattle.std.specs.Prelude.{string_bytes};
 ghost use Rattle.std.specs.List.{list_any};
-ghost use Rattle.sfv.specs.Canonical.{item_text};
+ghost use Rattle.sfv.specs.Canonical.{item_text, inner_list_text};
 ghost use Rattle.sfv.specs.Trees.{item_tree, inner_list_tree, pairs_tree};
-ghost use Rattle.sfv.specs.Types.{list_field};
+ghost use Rattle.sfv.specs.Types.{list_field, Rfc9651};
 ghost use Rattle.sfv.specs.Values.{inner_list};
-ghost use Rattle.sfv.specs.Statements.{IsValue};
+ghost use Rattle.sfv.specs.Statements.{IsValue, IsParsedAs};
 ghost use Rattle.sfv_signatures.specs.SignatureBase.{params_line, is_line_break, checked, IsBaseOf};
-ghost use Rattle.sfv_signatures.specs.Components.{AppendsChecked, AppendsLine, IsBaseError};
+ghost use Rattle.sfv_signatures.specs.Components.{AppendsChecked, AppendsLine, AppendsLineAt, IsBaseError};
 ghost use Rattle.sfv_signatures.specs.declared.base_error.BaseErrorKind.TheVariants as kinds;
 
 use crate::base_error::{BaseError, BaseErrorKind};
@@ -97,6 +97,38 @@ fn append_line<M: Components>(
     Ok(())
 }
 
+// Appends the line at an index. An error has this index.
+fn append_at<M: Components>(
+    alloc: Global,
+    list: &InnerList,
+    index: usize,
+    message: &M,
+    base: &mut String,
+) -> Result<(), BaseError>
+    requires { index < length list.now.items.items }
+    ensures line { AppendsLineAt (M.gives message.now) (inner_list_tree list.now) index
+        (string_bytes base.old) (string_bytes base.new) result }
+    ensures place { IfErr result (λ error. error.index ≡ index) }
+{
+    let before = &list.items.as_slice()[..index];
+    match append_line(alloc, message, before, &list.items[index], base) {
+        Ok(()) => Ok(()),
+        Err(kind) => Err(BaseError { kind, index }),
+    }
+}
+
+// Appends the canonical text of an inner list with its parameters. The text parses back to the list.
+fn append_list(list: &InnerList, base: &mut String) -> Result<(), BaseErrorKind>
+    ensures text { OnOk result (string_bytes base.new
+        ≡ string_bytes base.old ++ inner_list_text (inner_list_tree list.now)) }
+    ensures read_back { OnOk result (IsParsedAs Rfc9651 list_field (inner_list_text (inner_list_tree list.now))
+        (inner_list (inner_list_tree list.now) ∷ [])) }
+    ensures failed { IfErr result (λ kind. kind ≡ kinds.OutOfMemory) }
+{
+    append_inner_list(Version::Rfc9651, list, base)?;
+    Ok(())
+}
+
 // Appends the last line.
 fn append_params(list: &InnerList, base: &mut String) -> Result<(), BaseErrorKind>
     ensures text { OnOk result (string_bytes base.new
@@ -105,7 +137,7 @@ fn append_params(list: &InnerList, base: &mut String) -> Result<(), BaseErrorKin
     ensures failed { IfErr result (λ kind. kind ≡ kinds.OutOfMemory) }
 {
     base.push_str("\"@signature-params\": ")?;
-    append_inner_list(Version::Rfc9651, list, base)?;
+    append_list(list, base)?;
     Ok(())
 }
 
@@ -114,6 +146,8 @@ fn append_params(list: &InnerList, base: &mut String) -> Result<(), BaseErrorKin
 /// For each identifier in order, it has a line with the canonical text of the identifier and the value of the
 /// component. The last line is `"@signature-params": ` and the canonical text of the inner list. There is no line feed
 /// at the end. The text is ASCII.
+///
+/// It first allocates 128 bytes, and 128 for each identifier. A longer base allocates again.
 ///
 /// # Errors
 ///
@@ -128,18 +162,19 @@ pub fn signature_base<M: Components>(
     ensures base { IfOk result (λ text. IsBaseOf (M.gives message.now) (inner_list_tree list.now) (string_bytes text)) }
     ensures failed { IfErr result (IsBaseError (M.gives message.now) (inner_list_tree list.now)) }
 {
-    let mut base = String::new(alloc);
-    for (index, identifier) in list.items.iter().enumerate() {
-        let before = &list.items.as_slice()[..index];
-        if let Err(kind) = append_line(alloc, message, before, identifier, &mut base) {
-            return Err(BaseError { kind, index });
-        }
+    let len = list.items.len();
+    let room = len.saturating_add(1).saturating_mul(128);
+    let Ok(mut base) = String::with_capacity(alloc, room) else {
+        return Err(BaseError {
+            kind: BaseErrorKind::OutOfMemory,
+            index: 0,
+        });
+    };
+    for index in 0..len {
+        append_at(alloc, list, index, message, &mut base)?;
     }
     match append_params(list, &mut base) {
         Ok(()) => Ok(base),
-        Err(kind) => Err(BaseError {
-            kind,
-            index: list.items.len(),
-        }),
+        Err(kind) => Err(BaseError { kind, index: len }),
     }
 }

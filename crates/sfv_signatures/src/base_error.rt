@@ -1,11 +1,9 @@
 //! The errors of a signature base.
 
 ghost use Rattle.std.specs.Prelude.{◌≡◌};
-ghost use Rattle.sfv.specs.Errors.{index_of};
-ghost use Rattle.sfv_signatures.specs.ParseFaults.{parse_fault};
 ghost use Rattle.sfv_signatures.specs.declared.base_error.BaseErrorKind.TheVariants as kinds;
 
-use sfv::{Error, SerializeError};
+use sfv::SerializeError;
 use std::alloc::AllocError;
 
 /// The rule that a component identifier breaks (RFC 9421, sections 2, 2.5 and 7), or out of memory.
@@ -55,18 +53,6 @@ impl From<SerializeError> for BaseErrorKind {
     // RFC 9651 has every value, so the error is out of memory.
     fn from(_error: SerializeError) -> BaseErrorKind {
         BaseErrorKind::OutOfMemory
-    }
-}
-
-impl From<Error> for BaseErrorKind {
-    ghost from_gives = { λ error kind. kind ≡ parse_fault (index_of error) };
-
-    // A syntax error has an index.
-    fn from(error: Error) -> BaseErrorKind {
-        match error.index() {
-            Some(_) => BaseErrorKind::Unparsed,
-            None => BaseErrorKind::OutOfMemory,
-        }
     }
 }
 

@@ -1,31 +1,43 @@
 //! The values of fields (RFC 9421, section 2.1).
 
-ghost use Rattle.std.specs.Prelude.{◌≡◌, IfOk, IfErr, Ok, map, string_bytes, option_map, option_and_then};
+ghost use Rattle.std.specs.Prelude.{◌≡◌, Ok, codes, string_bytes};
 ghost use Rattle.std.specs.Char.{is_ascii_uppercase};
 ghost use Rattle.std.specs.List.{list_any};
 ghost use Rattle.sfv.specs.CheckedTexts.{text_of};
 ghost use Rattle.sfv.specs.Trees.{pairs_tree};
+ghost use Rattle.sfv.specs.Errors.{index_of};
 ghost use Rattle.sfv.specs.Canonical.{canonical};
 ghost use Rattle.sfv.specs.Types.{dictionary_field};
-ghost use Rattle.http_header.specs.HeaderMap.{get_all};
 ghost use Rattle.http_header.specs.Token.{lowercase};
-ghost use Rattle.sfv_signatures.specs.HttpMessages.{ParsedGives, FormGives, LinesGive, member_of, lines_from, form_of, plain_text};
-ghost use Rattle.sfv_signatures.specs.Forms.{form_value};
-ghost use Rattle.sfv_signatures.specs.Components.{AppendsValue};
+ghost use Rattle.sfv_headers.specs.Lines.{lines_in};
+ghost use Rattle.sfv_signatures.specs.HttpMessages.{ParsedGives, FieldGives, LinesGive, member_of, type_in, has, string_param};
+ghost use Rattle.sfv_signatures.specs.ParseFaults.{parse_fault};
+ghost use Rattle.sfv_signatures.specs.Components.{AppendsValue, lines_from};
 ghost use Rattle.sfv_signatures.specs.declared.base_error.BaseErrorKind.TheVariants as kinds;
 
 use crate::base_error::BaseErrorKind;
-use crate::lines::{append_byte_text, plain_text};
-use crate::parameters::{Form, form_of};
+use crate::lines::{append_byte_text, append_plain_text, plain_text};
+use crate::parameters::{has, string_param};
+use crate::rows::type_in;
 use http_header::HeaderMap;
 use sfv::{
     Dictionary, Error, FieldKind, FieldType, Item, KeyRef, List, Parameters, Parser, StringRef,
-    Version, append_member, find_entry,
+    Version, append_member, find_entry, key_ref,
 };
 use std::alloc::Global;
 
+// Returns the rule that a field does not parse, for a syntax error, and otherwise out of memory.
+fn parse_fault(error: Error) -> BaseErrorKind
+    ensures { result ≡ parse_fault (index_of error) }
+{
+    match error.index() {
+        Some(_) => BaseErrorKind::Unparsed,
+        None => BaseErrorKind::OutOfMemory,
+    }
+}
+
 // Appends the canonical text of a field.
-fn append_strict<T: FieldType>(
+fn append_canonical<T: FieldType>(
     alloc: Global,
     text: &[u8],
     base: &mut String,
@@ -33,9 +45,29 @@ fn append_strict<T: FieldType>(
     ensures { AppendsValue (ParsedGives T.kind (λ value. Ok (canonical T.kind value)) text.now)
         (string_bytes base.old) (string_bytes base.new) result }
 {
-    let field = Parser::new(text).parse::<T>(alloc)?;
+    let field = match Parser::new(text).parse::<T>(alloc) {
+        Ok(field) => field,
+        Err(error) => return Err(parse_fault(error)),
+    };
     field.append_to(Version::Rfc9651, base)?;
     Ok(())
+}
+
+// Appends the canonical text of a field of this type.
+fn append_strict(
+    alloc: Global,
+    kind: FieldKind,
+    text: &[u8],
+    base: &mut String,
+) -> Result<(), BaseErrorKind>
+    ensures { AppendsValue (ParsedGives kind (λ value. Ok (canonical kind value)) text.now)
+        (string_bytes base.old) (string_bytes base.new) result }
+{
+    match kind {
+        FieldKind::Item => append_canonical::<Item>(alloc, text, base),
+        FieldKind::List => append_canonical::<List>(alloc, text, base),
+        FieldKind::Dictionary => append_canonical::<Dictionary>(alloc, text, base),
+    }
 }
 
 // Appends the canonical text of the member of a dictionary.
@@ -48,7 +80,10 @@ fn append_dictionary_member(
     ensures { AppendsValue (ParsedGives dictionary_field (member_of (text_of key.entry)) text.now)
         (string_bytes base.old) (string_bytes base.new) result }
 {
-    let dictionary = Parser::new(text).parse::<Dictionary>(alloc)?;
+    let dictionary = match Parser::new(text).parse::<Dictionary>(alloc) {
+        Ok(dictionary) => dictionary,
+        Err(error) => return Err(parse_fault(error)),
+    };
     let Ok(key) = KeyRef::from_str(key.as_str()) else {
         return Err(BaseErrorKind::NoMember);
     };
@@ -59,55 +94,35 @@ fn append_dictionary_member(
     Ok(())
 }
 
-// Appends the lines of a field as they are.
-fn append_plain(
+// Appends the value of a field, which has a line, for these parameters.
+fn append_lines(
     alloc: Global,
+    types: &[(&str, FieldKind)],
     name: &str,
+    params: &Parameters,
     fields: &HeaderMap,
     base: &mut String,
 ) -> Result<(), BaseErrorKind>
-    ensures { AppendsValue (λ r. r ≡ Ok (plain_text (map (λ v. v.bytes) (get_all fields.now (lowercase name.now)))))
+    ensures { AppendsValue (FieldGives (has (codes "bs") (pairs_tree params.now.entries))
+        (string_param (codes "key") (pairs_tree params.now.entries)) (has (codes "sf") (pairs_tree params.now.entries))
+        (type_in types.now name.now) (lines_in fields.now (lowercase name.now)))
         (string_bytes base.old) (string_bytes base.new) result }
 {
-    let bytes = plain_text(alloc, name, fields)?;
-    let Ok(text) = str::from_utf8(bytes.as_slice()) else {
-        return Err(BaseErrorKind::NotAscii);
-    };
-    base.push_str(text)?;
-    Ok(())
-}
-
-// Appends the value of a field in a form.
-fn append_form(
-    alloc: Global,
-    form: Form<'_>,
-    kind: Option<FieldKind>,
-    name: &str,
-    fields: &HeaderMap,
-    base: &mut String,
-) -> Result<(), BaseErrorKind>
-    ensures { AppendsValue (FormGives kind (form_value form.entry)
-        (map (λ v. v.bytes) (get_all fields.now (lowercase name.now)))) (string_bytes base.old) (string_bytes base.new) result }
-{
-    match form {
-        Form::Plain => append_plain(alloc, name, fields, base),
-        Form::Bytes => append_byte_text(name, fields, base),
-        Form::Member(key) => {
-            let text = plain_text(alloc, name, fields)?;
-            append_dictionary_member(alloc, key, text.as_slice(), base)
-        }
-        Form::Strict => {
-            let Some(kind) = kind else {
-                return Err(BaseErrorKind::UnknownType);
-            };
-            let text = plain_text(alloc, name, fields)?;
-            match kind {
-                FieldKind::Item => append_strict::<Item>(alloc, text.as_slice(), base),
-                FieldKind::List => append_strict::<List>(alloc, text.as_slice(), base),
-                FieldKind::Dictionary => append_strict::<Dictionary>(alloc, text.as_slice(), base),
-            }
-        }
+    if has(params, key_ref("bs")) {
+        return append_byte_text(name, fields, base);
     }
+    if let Some(key) = string_param(params, key_ref("key")) {
+        let text = plain_text(alloc, name, fields)?;
+        return append_dictionary_member(alloc, key, text.as_slice(), base);
+    }
+    if !has(params, key_ref("sf")) {
+        return append_plain_text(name, fields, base);
+    }
+    let Some(kind) = type_in(types, name) else {
+        return Err(BaseErrorKind::UnknownType);
+    };
+    let text = plain_text(alloc, name, fields)?;
+    append_strict(alloc, kind, text.as_slice(), base)
 }
 
 // Returns `true` if the name has an upper-case letter.
@@ -125,16 +140,16 @@ fn has_upper_case(name: &str) -> bool
 /// Appends the value of a field of a section, for these parameters.
 pub(crate) fn append_field(
     alloc: Global,
-    kind: Option<FieldKind>,
+    types: &[(&str, FieldKind)],
     name: &str,
     params: &Parameters,
     section: Option<&HeaderMap>,
     base: &mut String,
 ) -> Result<(), BaseErrorKind>
-    ensures { AppendsValue (LinesGive kind (form_of (pairs_tree params.now.entries)) (lines_from name.now section.entry))
+    ensures { AppendsValue
+        (LinesGive (pairs_tree params.now.entries) (type_in types.now name.now) (lines_from name.now section.entry))
         (string_bytes base.old) (string_bytes base.new) result }
 {
-    let form = form_of(params)?;
     let Some(fields) = section else {
         return Err(BaseErrorKind::Absent);
     };
@@ -144,5 +159,5 @@ pub(crate) fn append_field(
     let Some(_) = fields.get(name) else {
         return Err(BaseErrorKind::Absent);
     };
-    append_form(alloc, form, kind, name, fields, base)
+    append_lines(alloc, types, name, params, fields, base)
 }

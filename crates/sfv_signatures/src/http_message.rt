@@ -1,16 +1,15 @@
 //! HTTP messages, as maps of their fields and texts of their derived components.
 
-ghost use Rattle.std.specs.Prelude.{◌≡◌, option_map, option_and_then, option_copied, bytes_eq, string_bytes};
-ghost use Rattle.std.specs.List.{find, list_any};
+ghost use Rattle.std.specs.Prelude.{◌≡◌, true, option_map, option_and_then, option_copied, string_bytes};
 ghost use Rattle.sfv.specs.Trees.{pairs_tree};
-ghost use Rattle.sfv_signatures.specs.HttpMessages.{HttpGives, part_of, section_of, type_of, text_in, derived_names};
-ghost use Rattle.sfv_signatures.specs.HttpMessages.{derived_in, derived_value, is_derived};
+ghost use Rattle.sfv_signatures.specs.HttpMessages.{HttpGives, ValueGives, part_of, section_of, derived_in};
 ghost use Rattle.sfv_signatures.specs.Components.{AppendsValue};
 
 use crate::base_error::BaseErrorKind;
 use crate::components::Components;
 use crate::fields::append_field;
-use crate::parameters::{first_derived_fault, has, string_param};
+use crate::parameters::{fault_of, has, is_derived, string_param};
+use crate::rows::text_in;
 use http_header::HeaderMap;
 use sfv::{FieldKind, Parameters, key_ref};
 use std::alloc::Global;
@@ -41,43 +40,6 @@ pub struct HttpMessage<'a> {
     pub types: &'a [(&'a str, FieldKind)],
 }
 
-// Returns the text of the first row with this name, or `None`.
-fn text_of<'a>(rows: &'a [(&'a str, &'a str)], name: &str) -> Option<&'a str>
-    ensures { option_map (λ text. text.now) result ≡ text_in rows.entry name.now }
-{
-    for (row, text) in rows {
-        if *row == name {
-            return Some(*text);
-        }
-    }
-    None
-}
-
-// Returns `true` if the name is that of a derived component.
-fn is_known(name: &str) -> bool
-    ensures { result ≡ list_any (bytes_eq name.now) derived_names }
-{
-    name == "@method"
-        || name == "@target-uri"
-        || name == "@authority"
-        || name == "@scheme"
-        || name == "@request-target"
-        || name == "@path"
-        || name == "@query"
-        || name == "@query-param"
-        || name == "@status"
-}
-
-// Returns `true` if the name begins with `@`.
-fn is_derived(name: &str) -> bool
-    ensures { result ≡ is_derived name.now }
-{
-    match name.as_bytes().first() {
-        Some(byte) => *byte == b'@',
-        None => false,
-    }
-}
-
 impl<'a> MessagePart<'a> {
     // Returns the fields, or with `tr` the trailers.
     fn section(&self, params: &Parameters) -> Option<&'a HeaderMap>
@@ -96,9 +58,9 @@ impl<'a> MessagePart<'a> {
     {
         if name == "@query-param" {
             let param = string_param(params, key_ref("name"))?;
-            text_of(self.query_params, param.as_str())
+            text_in(self.query_params, param.as_str())
         } else {
-            text_of(self.derived, name)
+            text_in(self.derived, name)
         }
     }
 }
@@ -126,18 +88,6 @@ impl<'a> HttpMessage<'a> {
         }
     }
 
-    // Returns the type of a field, or `None` if the program does not know it.
-    fn type_of(&self, name: &str) -> Option<FieldKind>
-        ensures { result ≡ type_of self.now name.now }
-    {
-        for (row, kind) in self.types {
-            if *row == name {
-                return Some(*kind);
-            }
-        }
-        None
-    }
-
     // Appends the value of a derived component.
     fn append_derived(
         &self,
@@ -145,15 +95,9 @@ impl<'a> HttpMessage<'a> {
         params: &Parameters,
         base: &mut String,
     ) -> Result<(), BaseErrorKind>
-        ensures { AppendsValue (λ r. r ≡ derived_value self.now name.now (pairs_tree params.now.entries))
+        ensures { AppendsValue (ValueGives true self.now name.now (pairs_tree params.now.entries))
             (string_bytes base.old) (string_bytes base.new) result }
     {
-        if !is_known(name) {
-            return Err(BaseErrorKind::UnknownComponent);
-        }
-        if let Some(kind) = first_derived_fault(name, params) {
-            return Err(kind);
-        }
         let Some(part) = self.part(params) else {
             return Err(BaseErrorKind::Absent);
         };
@@ -175,10 +119,12 @@ impl Components for HttpMessage<'_> {
         params: &Parameters,
         base: &mut String,
     ) -> Result<(), BaseErrorKind> {
+        if let Some(kind) = fault_of(name, params) {
+            return Err(kind);
+        }
         if is_derived(name) {
             return self.append_derived(name, params, base);
         }
-        let section = self.section(params);
-        append_field(alloc, self.type_of(name), name, params, section, base)
+        append_field(alloc, self.types, name, params, self.section(params), base)
     }
 }

@@ -10,6 +10,7 @@ mod identifier;
 pub mod laws;
 mod lines;
 mod parameters;
+mod rows;
 mod same_base;
 mod signature_fields;
 

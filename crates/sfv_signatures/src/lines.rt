@@ -1,12 +1,12 @@
 //! The lines of a field (RFC 9421, section 2.1).
 
-ghost use Rattle.std.specs.Prelude.{◌≡◌, ◌++◌, IfOk, OnOk, IfErr, codes, map, string_bytes};
+ghost use Rattle.std.specs.Prelude.{◌≡◌, ◌++◌, IfOk, OnOk, IfErr, Ok, IsUtf8, codes, string_bytes};
 ghost use Rattle.sfv.specs.Canonical.{bare_text};
 ghost use Rattle.sfv.specs.Values.{byte_sequence};
 ghost use Rattle.sfv.specs.Written.{separator_before};
-ghost use Rattle.sfv_signatures.specs.HttpMessages.{is_blank, without_start, without_end, trimmed, plain_text, byte_text};
-ghost use Rattle.sfv_signatures.specs.HttpMessages.{lines_in};
-ghost use Rattle.http_header.specs.HeaderMap.{get_all};
+ghost use Rattle.sfv_headers.specs.Lines.{lines_in};
+ghost use Rattle.sfv_signatures.specs.HttpMessages.{is_blank, without_start, without_end, plain_text, byte_text};
+ghost use Rattle.sfv_signatures.specs.Components.{UnlessMemory, AppendsValue};
 ghost use Rattle.http_header.specs.Token.{lowercase};
 ghost use Rattle.sfv_signatures.specs.declared.base_error.BaseErrorKind.TheVariants as kinds;
 
@@ -46,7 +46,7 @@ fn without_end(text: &[u8]) -> &[u8]
 
 // Returns the text without the spaces and tabs at its ends.
 fn trimmed(line: &[u8]) -> &[u8]
-    ensures { result.now ≡ trimmed line.now }
+    ensures { result.now ≡ without_end (without_start line.now) }
 {
     without_end(without_start(line))
 }
@@ -54,7 +54,7 @@ fn trimmed(line: &[u8]) -> &[u8]
 // Appends a line to a text, after a comma and a space unless it is the first.
 fn join_line(is_first: bool, line: &[u8], text: &mut Vec<u8>) -> Result<(), AllocError>
     ensures { OnOk result (text.new.items
-        ≡ text.old.items ++ (separator_before is_first (codes ", ") ++ trimmed line.now)) }
+        ≡ text.old.items ++ (separator_before is_first (codes ", ") ++ without_end (without_start line.now))) }
 {
     if !is_first {
         text.extend_from_slice(b", ")?;
@@ -68,8 +68,7 @@ pub(crate) fn plain_text(
     name: &str,
     fields: &HeaderMap,
 ) -> Result<Vec<u8>, AllocError>
-    ensures { IfOk result (λ text. text.items
-        ≡ plain_text (map (λ v. v.bytes) (get_all fields.now (lowercase name.now)))) }
+    ensures { IfOk result (λ text. text.items ≡ plain_text (lines_in fields.now (lowercase name.now))) }
 {
     let mut text = Vec::new(alloc);
     let mut is_first = true;
@@ -80,10 +79,45 @@ pub(crate) fn plain_text(
     Ok(text)
 }
 
+// Appends a line as it is, after a comma and a space unless it is the first. Its error is out of memory, or that the line
+// is no text.
+fn append_line(is_first: bool, line: &[u8], base: &mut String) -> Result<(), BaseErrorKind>
+    ensures text { OnOk result (string_bytes base.new ≡ string_bytes base.old
+        ++ (separator_before is_first (codes ", ") ++ without_end (without_start line.now))) }
+    ensures failed { IfErr result
+        (UnlessMemory (λ kind. (kind ≡ kinds.NotAscii) × (¬ IsUtf8 (without_end (without_start line.now))))) }
+{
+    let Ok(text) = str::from_utf8(trimmed(line)) else {
+        return Err(BaseErrorKind::NotAscii);
+    };
+    if !is_first {
+        base.push_str(", ")?;
+    }
+    base.push_str(text)?;
+    Ok(())
+}
+
+/// Appends the lines of a field as they are.
+pub(crate) fn append_plain_text(
+    name: &str,
+    fields: &HeaderMap,
+    base: &mut String,
+) -> Result<(), BaseErrorKind>
+    ensures { AppendsValue (λ r. r ≡ Ok (plain_text (lines_in fields.now (lowercase name.now))))
+        (string_bytes base.old) (string_bytes base.new) result }
+{
+    let mut is_first = true;
+    for value in fields.get_all(name) {
+        append_line(is_first, value.as_bytes(), base)?;
+        is_first = false;
+    }
+    Ok(())
+}
+
 // Appends a line as a byte sequence, after a comma and a space unless it is the first.
 fn append_bytes(is_first: bool, line: &[u8], base: &mut String) -> Result<(), BaseErrorKind>
     ensures text { OnOk result (string_bytes base.new ≡ string_bytes base.old
-        ++ (separator_before is_first (codes ", ") ++ bare_text (byte_sequence (trimmed line.now)))) }
+        ++ (separator_before is_first (codes ", ") ++ bare_text (byte_sequence (without_end (without_start line.now))))) }
     ensures failed { IfErr result (λ kind. kind ≡ kinds.OutOfMemory) }
 {
     if !is_first {
@@ -100,8 +134,8 @@ pub(crate) fn append_byte_text(
     fields: &HeaderMap,
     base: &mut String,
 ) -> Result<(), BaseErrorKind>
-    ensures text { OnOk result (string_bytes base.new ≡ string_bytes base.old
-        ++ byte_text (map (λ v. v.bytes) (get_all fields.now (lowercase name.now)))) }
+    ensures text { OnOk result (string_bytes base.new
+        ≡ string_bytes base.old ++ byte_text (lines_in fields.now (lowercase name.now))) }
     ensures failed { IfErr result (λ kind. kind ≡ kinds.OutOfMemory) }
 {
     let mut is_first = true;

@@ -1,100 +1,15 @@
-//! The parameters of component identifiers (RFC 9421, sections 2.1 to 2.4).
+//! Names and parameters of component identifiers (RFC 9421, sections 2.1 to 2.4).
 
-ghost use Rattle.std.specs.Prelude.{◌≡◌, option_map};
+ghost use Rattle.std.specs.Prelude.{◌≡◌, ◌||◌, option_map, slice_get, bytes_eq};
+ghost use Rattle.std.specs.List.{list_any, filter_map};
 ghost use Rattle.sfv.specs.BareItems.{bare_value};
 ghost use Rattle.sfv.specs.CheckedTexts.{text_of};
 ghost use Rattle.sfv.specs.Trees.{pairs_tree};
-ghost use Rattle.sfv_signatures.specs.HttpMessages.{flag_fault, string_fault, field_fault, derived_fault, first_fault};
-ghost use Rattle.sfv_signatures.specs.HttpMessages.{has, string_of, string_param, chosen_form, form_of};
-ghost use Rattle.sfv_signatures.specs.Forms.{form_value, HasForm};
+ghost use Rattle.sfv_signatures.specs.HttpMessages.{has, string_of, string_param, is_derived, derived_names, keys_of};
+ghost use Rattle.sfv_signatures.specs.HttpMessages.{has_type, param_fault, fault_of};
 
 use crate::base_error::BaseErrorKind;
 use sfv::{BareItem, Key, KeyRef, Parameters, StringRef, find_param, key_ref};
-
-/// How the value of a field is written.
-#[derive(Clone, Copy)]
-pub(crate) enum Form<'a> {
-    /// As it is.
-    Plain,
-    /// Each line as a byte sequence (`bs`).
-    Bytes,
-    /// The member of a dictionary (`key`).
-    Member(StringRef<'a>),
-    /// Canonically (`sf`).
-    Strict,
-}
-
-// Returns the rule that a flag with this value breaks.
-fn flag_fault(value: &BareItem) -> Option<BaseErrorKind>
-    ensures { result ≡ flag_fault (bare_value value.now) }
-{
-    match value.as_boolean() {
-        Some(true) => None,
-        _ => Some(BaseErrorKind::WrongType),
-    }
-}
-
-// Returns the rule that a parameter with this value breaks if it has to be a string.
-fn string_fault(value: &BareItem) -> Option<BaseErrorKind>
-    ensures { result ≡ string_fault (bare_value value.now) }
-{
-    match value.as_string() {
-        Some(_) => None,
-        None => Some(BaseErrorKind::WrongType),
-    }
-}
-
-// Returns the rule that a parameter of a field breaks.
-fn field_fault(key: &Key, value: &BareItem) -> Option<BaseErrorKind>
-    ensures { result ≡ field_fault (key.now, bare_value value.now) }
-{
-    let key = key.as_str();
-    if key == "sf" || key == "bs" || key == "tr" || key == "req" {
-        flag_fault(value)
-    } else if key == "key" {
-        string_fault(value)
-    } else {
-        Some(BaseErrorKind::UnknownParameter)
-    }
-}
-
-// Returns the rule that a parameter of a derived component breaks.
-fn derived_fault(name: &str, key: &Key, value: &BareItem) -> Option<BaseErrorKind>
-    ensures { result ≡ derived_fault name.now (key.now, bare_value value.now) }
-{
-    let key = key.as_str();
-    if key == "req" {
-        flag_fault(value)
-    } else if key == "name" && name == "@query-param" {
-        string_fault(value)
-    } else {
-        Some(BaseErrorKind::UnknownParameter)
-    }
-}
-
-// Returns the first rule that a parameter of a field breaks.
-fn first_field_fault(params: &Parameters) -> Option<BaseErrorKind>
-    ensures { result ≡ first_fault field_fault (pairs_tree params.now.entries) }
-{
-    for (key, value) in params.iter() {
-        if let Some(kind) = field_fault(key, value) {
-            return Some(kind);
-        }
-    }
-    None
-}
-
-/// Returns the first rule that a parameter of a derived component breaks.
-pub(crate) fn first_derived_fault(name: &str, params: &Parameters) -> Option<BaseErrorKind>
-    ensures { result ≡ first_fault (derived_fault name.now) (pairs_tree params.now.entries) }
-{
-    for (key, value) in params.iter() {
-        if let Some(kind) = derived_fault(name, key, value) {
-            return Some(kind);
-        }
-    }
-    None
-}
 
 /// Returns `true` if there is a parameter with this key.
 pub(crate) fn has(params: &Parameters, key: KeyRef<'_>) -> bool
@@ -113,30 +28,93 @@ pub(crate) fn string_param<'a>(params: &'a Parameters, key: KeyRef<'_>) -> Optio
     }
 }
 
-// Returns the form that parameters without faults ask for.
-fn chosen_form(params: &Parameters) -> Result<Form<'_>, BaseErrorKind>
-    ensures { HasForm (chosen_form (pairs_tree params.now.entries)) result }
+/// Returns `true` if the name begins with `@`.
+pub(crate) fn is_derived(name: &str) -> bool
+    ensures { result ≡ is_derived name.now }
 {
-    let strict = has(params, key_ref("sf"));
-    if has(params, key_ref("bs")) {
-        if strict || has(params, key_ref("key")) {
-            return Err(BaseErrorKind::Conflict);
-        }
-        return Ok(Form::Bytes);
-    }
-    match string_param(params, key_ref("key")) {
-        Some(key) => Ok(Form::Member(key)),
-        None if strict => Ok(Form::Strict),
-        None => Ok(Form::Plain),
+    match name.as_bytes().first() {
+        Some(byte) => *byte == b'@',
+        None => false,
     }
 }
 
-/// Returns the form that the parameters of a field ask for, or the first rule that they break.
-pub(crate) fn form_of(params: &Parameters) -> Result<Form<'_>, BaseErrorKind>
-    ensures { HasForm (form_of (pairs_tree params.now.entries)) result }
+// Returns `true` if the name is that of a derived component.
+fn is_known(name: &str) -> bool
+    ensures { result ≡ list_any (bytes_eq name.now) derived_names }
 {
-    match first_field_fault(params) {
-        Some(kind) => Err(kind),
-        None => chosen_form(params),
+    name == "@method"
+        || name == "@target-uri"
+        || name == "@authority"
+        || name == "@scheme"
+        || name == "@request-target"
+        || name == "@path"
+        || name == "@query"
+        || name == "@query-param"
+        || name == "@status"
+}
+
+// Returns `true` if a component with this name may have a parameter with this key.
+fn is_allowed(name: &str, key: &str) -> bool
+    ensures { result ≡ list_any (bytes_eq key.now) (keys_of name.now) }
+{
+    if key == "req" {
+        return true;
     }
+    if name == "@query-param" {
+        return key == "name";
+    }
+    !is_derived(name) && (key == "sf" || key == "key" || key == "bs" || key == "tr")
+}
+
+// Returns `true` if the value is a string, or else the flag `true`.
+fn has_type(is_string: bool, value: &BareItem) -> bool
+    ensures { result ≡ has_type is_string (bare_value value.now) }
+{
+    if is_string {
+        value.as_string().is_some()
+    } else {
+        value.as_boolean() == Some(true)
+    }
+}
+
+// Returns the rule that a parameter breaks.
+fn param_fault(name: &str, key: &Key, value: &BareItem) -> Option<BaseErrorKind>
+    ensures { result ≡ param_fault name.now (key.now, bare_value value.now) }
+{
+    let key = key.as_str();
+    if !is_allowed(name, key) {
+        return Some(BaseErrorKind::UnknownParameter);
+    }
+    if !has_type(key == "key" || key == "name", value) {
+        return Some(BaseErrorKind::WrongType);
+    }
+    None
+}
+
+// Returns the first rule that a parameter breaks.
+fn first_fault(name: &str, params: &Parameters) -> Option<BaseErrorKind>
+    ensures { result ≡ slice_get (filter_map (param_fault name.now) (pairs_tree params.now.entries)) 0 }
+{
+    for (key, value) in params.iter() {
+        if let Some(kind) = param_fault(name, key, value) {
+            return Some(kind);
+        }
+    }
+    None
+}
+
+/// Returns the rule that the name or the parameters of an identifier break, whatever the message.
+pub(crate) fn fault_of(name: &str, params: &Parameters) -> Option<BaseErrorKind>
+    ensures { result ≡ fault_of name.now (pairs_tree params.now.entries) }
+{
+    if is_derived(name) && !is_known(name) {
+        return Some(BaseErrorKind::UnknownComponent);
+    }
+    if let Some(kind) = first_fault(name, params) {
+        return Some(kind);
+    }
+    if has(params, key_ref("bs")) && (has(params, key_ref("sf")) || has(params, key_ref("key"))) {
+        return Some(BaseErrorKind::Conflict);
+    }
+    None
 }

@@ -1,8 +1,7 @@
 //! Two messages with the same signature base.
 
-ghost use Rattle.std.specs.Prelude.{◌≡◌, IfOk, IsTrue};
-ghost use Rattle.sfv.specs.Trees.{inner_list_tree};
-ghost use Rattle.sfv_signatures.specs.SignatureBase.{AgreeOn};
+ghost use Rattle.std.specs.Prelude.{IfOk, IfErr};
+ghost use Rattle.sfv_signatures.specs.TwoBases.{IsSameBase, AgreeIf, IsEitherError};
 
 use crate::base::signature_base;
 use crate::base_error::BaseError;
@@ -23,9 +22,9 @@ pub fn have_same_base<A: Components, B: Components>(
     other_list: &InnerList,
     other: &B,
 ) -> Result<bool, BaseError>
-    ensures lists { IfOk result (λ same. IsTrue same → inner_list_tree list.now ≡ inner_list_tree other_list.now) }
-    ensures values { IfOk result (λ same. IsTrue same
-        → AgreeOn (A.gives message.now) (B.gives other.now) (inner_list_tree list.now)) }
+    ensures same { IfOk result (IsSameBase (A.gives message.now) (B.gives other.now) list.now other_list.now) }
+    ensures agree { IfOk result (AgreeIf (A.gives message.now) (B.gives other.now) list.now other_list.now) }
+    ensures failed { IfErr result (IsEitherError (A.gives message.now) (B.gives other.now) list.now other_list.now) }
 {
     let base = signature_base(alloc, list, message)?;
     let other_base = signature_base(alloc, other_list, other)?;

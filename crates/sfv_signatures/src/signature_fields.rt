@@ -1,14 +1,14 @@
 //! The fields Signature-Input and Signature (RFC 9421, sections 4.1 and 4.2): dictionaries with the same labels.
 
-ghost use Rattle.std.specs.Prelude.{◌≡◌, ℕ, List, Some, IfOk, IfErr, MatchResult};
+ghost use Rattle.std.specs.Prelude.{◌≡◌, Some, IfOk, IfErr, MatchResult};
 ghost use Rattle.sfv.specs.CheckedTexts.{text_of};
 ghost use Rattle.sfv.specs.NumberValues.{integer_of};
 ghost use Rattle.sfv.specs.Ordered.{last_of};
 ghost use Rattle.sfv.specs.Trees.{dictionary_tree, inner_list_tree, pairs_tree};
 ghost use Rattle.sfv.specs.Values.{integer, string, inner_list};
-ghost use Rattle.sfv_signatures.specs.SignatureFields.{IsPart, IsOther, IsInputOf, IsInputError, IsSignature};
+ghost use Rattle.sfv_signatures.specs.SignatureFields.{is_integer, is_string, IsInputOf, IsInputError, IsSignature};
 ghost use Rattle.sfv_signatures.specs.SignatureFields.{IsSignatureError};
-ghost use Rattle.sfv_signatures.specs.declared.signature_fields.SignatureError.TheVariants as errors;
+ghost use Rattle.sfv_signatures.specs.Parts.{IsTypedPart, IsWrongType};
 
 use sfv::{
     Dictionary, InnerList, Integer, KeyRef, ListEntry, Parameters, StringRef, find_entry,
@@ -69,9 +69,8 @@ fn integer_param(
     name: SignatureParam,
 ) -> Result<Option<Integer>, SignatureError>
     ensures { MatchResult result
-        (IsPart integer integer_of (last_of (text_of key.entry) (pairs_tree params.now.entries)))
-        (λ error. (error ≡ errors.WrongType name)
-        × IsOther integer (last_of (text_of key.entry) (pairs_tree params.now.entries))) }
+        (IsTypedPart integer integer_of is_integer (last_of (text_of key.entry) (pairs_tree params.now.entries)))
+        (IsWrongType name is_integer (last_of (text_of key.entry) (pairs_tree params.now.entries))) }
 {
     let Some(value) = find_param(params, key) else {
         return Ok(None);
@@ -89,9 +88,8 @@ fn string_param<'a>(
     name: SignatureParam,
 ) -> Result<Option<StringRef<'a>>, SignatureError>
     ensures { MatchResult result
-        (IsPart string (λ s. text_of s) (last_of (text_of key.entry) (pairs_tree params.now.entries)))
-        (λ error. (error ≡ errors.WrongType name)
-        × IsOther string (last_of (text_of key.entry) (pairs_tree params.now.entries))) }
+        (IsTypedPart string (λ s. text_of s) is_string (last_of (text_of key.entry) (pairs_tree params.now.entries)))
+        (IsWrongType name is_string (last_of (text_of key.entry) (pairs_tree params.now.entries))) }
 {
     let Some(value) = find_param(params, key) else {
         return Ok(None);
@@ -121,8 +119,8 @@ fn list_of<'a>(inputs: &'a Dictionary, label: KeyRef<'_>) -> Result<&'a InnerLis
 ///
 /// # Errors
 ///
-/// Returns `UnknownLabel` if there is no such member, `WrongMember` if it is an item, and `WrongType` with one of the six
-/// parameters that has another type.
+/// Returns `UnknownLabel` if there is no such member, `WrongMember` if it is an item, and `WrongType` with the first of
+/// the six parameters that has another type, in the order of the fields of `SignatureInput`.
 pub fn signature_input<'a>(
     inputs: &'a Dictionary,
     label: KeyRef<'_>,
@@ -149,15 +147,13 @@ pub fn signature_input<'a>(
 ///
 /// Returns `UnknownLabel` if there is no such member, and `WrongMember` if it is not a byte sequence.
 pub fn signature_bytes<'a>(
-    signatures: &'a Dictionary,
+    field: &'a Dictionary,
     label: KeyRef<'_>,
 ) -> Result<&'a [u8], SignatureError>
-    ensures read { IfOk result (λ bytes.
-        IsSignature (last_of (text_of label.entry) (dictionary_tree signatures.now.entries)) bytes.now) }
-    ensures failed { IfErr result
-        (IsSignatureError (last_of (text_of label.entry) (dictionary_tree signatures.now.entries))) }
+    ensures read { IfOk result (IsSignature (last_of (text_of label.entry) (dictionary_tree field.now.entries))) }
+    ensures failed { IfErr result (IsSignatureError (last_of (text_of label.entry) (dictionary_tree field.now.entries))) }
 {
-    match find_entry(signatures, label) {
+    match find_entry(field, label) {
         Some(ListEntry::Item(item)) => match item.bare_item.as_byte_sequence() {
             Some(bytes) => Ok(bytes),
             None => Err(SignatureError::WrongMember),

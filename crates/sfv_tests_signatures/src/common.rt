@@ -17,11 +17,8 @@ pub fn fields(alloc: Global, lines: &[(&str, &str)]) -> Result<HeaderMap, Fail> 
 }
 
 /// Returns the inner list of this text.
-pub fn inner_list(alloc: Global, text: &str) -> Result<InnerList, Fail> {
-    let mut members = Parser::new(text.as_bytes())
-        .parse::<List>(alloc)
-        .ok()
-        .ok_or("list")?;
+pub fn inner_list(alloc: Global, text: &[u8]) -> Result<InnerList, Fail> {
+    let mut members = Parser::new(text).parse::<List>(alloc).ok().ok_or("list")?;
     match members.pop() {
         Some(ListEntry::InnerList(list)) => Ok(list),
         _ => Err(Fail::from("inner list")),
@@ -78,7 +75,8 @@ const TYPES: &[(&str, FieldKind)] = &[
 
 const REQUEST: &[(&str, &str)] = &[("@method", "GET")];
 
-fn part<'a>(
+/// Returns the part of a message.
+pub fn part<'a>(
     fields: &'a HeaderMap,
     trailers: Option<&'a HeaderMap>,
     derived: &'a [(&'a str, &'a str)],
@@ -92,7 +90,8 @@ fn part<'a>(
     }
 }
 
-fn base_over<'a>(
+/// Returns the base of an inner list and a message.
+pub fn base_over<'a>(
     alloc: Global,
     list: &InnerList,
     own: MessagePart<'a>,
@@ -114,6 +113,6 @@ pub fn base_of(alloc: Global, list: &str) -> Result<Result<String, BaseError>, F
     let asked = fields(alloc, REQUEST_LINES)?;
     let own = part(&own, Some(&trailers), DERIVED, QUERY);
     let request = part(&asked, None, REQUEST, &[]);
-    let list = inner_list(alloc, list)?;
+    let list = inner_list(alloc, list.as_bytes())?;
     Ok(base_over(alloc, &list, own, request, TYPES))
 }

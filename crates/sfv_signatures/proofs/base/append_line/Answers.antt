@@ -1,11 +1,11 @@
-use Rattle.std.proofs.Common.{◌≡◌, [], ◌∷◌, map, sym, ◌∙◌, ap, subst}
-use Rattle.std.specs.Prelude.{◌≢◌, Any, codes, string_bytes, bytes_eq}
+use Rattle.std.proofs.Common.{◌≡◌, map, sym, ◌∙◌, ap, subst}
+use Rattle.std.specs.Prelude.{◌≢◌, Any, codes, string_bytes, Err}
 use Rattle.std.proofs.lemmas.Bool.{false≢true}
 use Rattle.std.proofs.lemmas.Slice.Eq.{bytes_eq-Decides}
 use Rattle.sfv.specs.Values.{string}
 use Rattle.sfv.specs.Canonical.{item_text}
 use Rattle.sfv.specs.Trees.{item_tree}
-use Rattle.sfv_signatures.specs.SignatureBase.{AreSame, Breaks}
+use Rattle.sfv_signatures.specs.SignatureBase.{AreSame, Gives}
 use Rattle.sfv_signatures.specs.Components.{UnlessMemory}
 use Rattle.sfv_signatures.specs.declared.base_error.BaseErrorKind.{BaseErrorKind}
 use Rattle.sfv_signatures.proofs.Named.{line_parts, named_value, named_fault, on_error}
@@ -22,12 +22,12 @@ returns-in_err-append_checked g c =
     let named : i.bare ≡ string name = c.in-Some.ensures ∙ ap string (sym c.as_str-name.ensures.text) in
     let other : name ≢ codes "@signature-params" =
     λ same. false≢true (sym c.if-eq.false ∙ c.eq.ensures ∙ (bytes_eq-Decides name (codes "@signature-params")).1 same) in
-    let fault : UnlessMemory (Breaks message before i) c.in_err-append_checked.field-0.0 =
+    let fault : UnlessMemory (λ kind. Gives message before i (Err kind)) c.in_err-append_checked.field-0.0 =
     named_fault message before i name c.in_err-append_checked.field-0.0 new named other c.in_err-append_checked.ensures in
-    on_error c.from_residual-in_err-append_checked.result _ _ (UnlessMemory (Breaks message before i))
+    on_error c.from_residual-in_err-append_checked.result _ _ (UnlessMemory (λ kind. Gives message before i (Err kind)))
     c.from_residual-in_err-append_checked.ensures.1
     (λ (e : BaseErrorKind) h. let same : c.in_err-append_checked.field-0.0 ≡ e = cc (h) in
-    subst (UnlessMemory (Breaks message before i)) same fault)
+    subst (UnlessMemory (λ kind. Gives message before i (Err kind))) same fault)
 
 pub returns : goal.returns
 returns g c =

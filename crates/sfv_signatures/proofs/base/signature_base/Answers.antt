@@ -1,29 +1,23 @@
+use Rattle.std.proofs.Common.{◌≡◌, subst}
 use Rattle.std.specs.Prelude.{string_bytes}
-use Rattle.std.proofs.Common.{refl}
-use Rattle.sfv.specs.Trees.{item_tree, inner_list_tree}
-use Rattle.sfv_signatures.proofs.Lined.{step_more, step_fault, all_lines, lined_base}
+use Rattle.sfv.specs.Trees.{inner_list_tree}
+use Rattle.sfv_signatures.specs.declared.base_error.BaseError.{BaseError}
+use Rattle.sfv_signatures.specs.Components.{IsBaseError}
+use Rattle.sfv_signatures.proofs.Lined.{step_more, error_at}
+use Rattle.sfv_signatures.proofs.Named.{on_error}
 use Rattle.sfv_signatures.proofs.base.signature_base.Goals as goal
 
-pub returns-in-Err-clause-failed : goal.returns-in-Err-clause-failed
-returns-in-Err-clause-failed g c =
-    step_fault item_tree (g.M.Components.gives c.args.message.now) c.args.list.now.items.items
-    c.deref-identifier-items.result.now c.as_slice.result.now c.deref-identifier-items.ensures.value
-    c.as_slice.ensures.value c.loop-index.index c.identifier-item.result c.loop-index-test.true c.identifier-item.is
-    (string_bytes c.loop-index.base) c.loop-index.invariant (inner_list_tree c.args.list.now) c.in-Err.kind refl
-    c.in-Err.ensures
+pub returns-in_err-append_at-clause-failed : goal.returns-in_err-append_at-clause-failed
+returns-in_err-append_at-clause-failed g c =
+    let message = g.M.Components.gives c.args.message.now in
+    let l = inner_list_tree c.args.list.now in
+    let fault : IsBaseError message l c.in_err-append_at.field-0.0 =
+    error_at message l c.loop-index.index (string_bytes c.loop-index.base) c.in_err-append_at.field-0.0
+    c.loop-index.invariant c.in_err-append_at.ensures.line c.in_err-append_at.ensures.place in
+    on_error c.from_residual.result _ _ (IsBaseError message l) c.from_residual.ensures.1
+    (λ (e : BaseError) h. let same : c.in_err-append_at.field-0.0 ≡ e = cc (h) in subst (IsBaseError message l) same fault)
 
 pub loop-index-preserved : goal.loop-index-preserved
-loop-index-preserved g c = let k = c.in_default.ensures in
-    step_more item_tree (g.M.Components.gives c.args.message.now) c.args.list.now.items.items
-    c.deref-identifier-items.result.now c.as_slice.result.now c.deref-identifier-items.ensures.value
-    c.as_slice.ensures.value c.loop-index.index c.identifier-item.result c.loop-index-test.true c.identifier-item.is
-    (string_bytes c.loop-index.base) c.loop-index.invariant (string_bytes c.append_line.new.base) k.0 k.1 k.2
-
-pub returns-in-Ok-clause-base : goal.returns-in-Ok-clause-base
-returns-in-Ok-clause-base g c =
-    lined_base (g.M.Components.gives c.args.message.now) (inner_list_tree c.args.list.now) (string_bytes c.loop-index.base)
-    (string_bytes c.append_params.new.base)
-    (all_lines item_tree (g.M.Components.gives c.args.message.now) c.args.list.now.items.items
-    c.deref-identifier-items.result.now c.loop-index.index (string_bytes c.loop-index.base)
-    c.deref-identifier-items.ensures.value c.loop-index-test.false c.loop-index.invariant) c.in-Ok.ensures.value
-    c.in-Ok.ensures.text
+loop-index-preserved g c = step_more (g.M.Components.gives c.args.message.now) (inner_list_tree c.args.list.now)
+    c.loop-index.index (string_bytes c.loop-index.base) (string_bytes c.append_at.new.base) c.loop-index.invariant
+    c.in_ok-append_at.ensures.line

@@ -1,20 +1,18 @@
-use Rattle.std.specs.Prelude.{Ok}
-use Rattle.sfv.specs.Canonical.{canonical}
-use Rattle.sfv.specs.Types.{Rfc9651}
-use Rattle.sfv.specs.Parsers.{IsParseError}
-use Rattle.sfv_signatures.specs.declared.base_error.BaseErrorKind.{BaseErrorKind}
-use Rattle.sfv_signatures.specs.Components.{UnlessMemory}
-use Rattle.sfv_signatures.specs.SignatureBase.{IsChecked}
-use Rattle.sfv_signatures.specs.HttpMessages.{ParsedGives}
-use Rattle.sfv_signatures.proofs.FieldValues.{parse_failed}
-use Rattle.sfv_signatures.proofs.Named.{on_error}
+use Rattle.std.specs.Prelude.{string_bytes}
+use Rattle.sfv.specs.Types.{item_field, list_field, dictionary_field}
+use Rattle.sfv_signatures.proofs.Dispatch.{of_kind}
 use Rattle.sfv_signatures.proofs.fields.append_strict.Goals as goal
 
-pub returns-in_err-field : goal.returns-in_err-field
-returns-in_err-field g c =
-    let kind = g.T.FieldType.kind in
-    let rejected : IsParseError Rfc9651 kind c.args.text.now c.in_err-field.field-0.0 =
-    rw c.new.ensures at c.in_err-field.ensures.rejected in
-    on_error c.from_residual.result _ _ _ c.from_residual.ensures.1
-    (λ (e : BaseErrorKind) h. parse_failed kind (λ value. Ok (canonical kind value)) c.args.text.now
-    c.in_err-field.field-0.0 e h rejected)
+pub returns-in-Item : goal.returns-in-Item
+returns-in-Item c = of_kind c.args.kind item_field c.args.text.now (string_bytes c.args.base.now)
+    (string_bytes c.append_canonical.new.base) c.append_canonical.result c.in-Item.is c.append_canonical.ensures
+
+pub returns-in-List : goal.returns-in-List
+returns-in-List c = of_kind c.args.kind list_field c.args.text.now (string_bytes c.args.base.now)
+    (string_bytes c.append_canonical-in-List.new.base) c.append_canonical-in-List.result c.in-List.is
+    c.append_canonical-in-List.ensures
+
+pub returns-in-Dictionary : goal.returns-in-Dictionary
+returns-in-Dictionary c = of_kind c.args.kind dictionary_field c.args.text.now (string_bytes c.args.base.now)
+    (string_bytes c.append_canonical-in-Dictionary.new.base) c.append_canonical-in-Dictionary.result c.in-Dictionary.is
+    c.append_canonical-in-Dictionary.ensures

@@ -3,15 +3,16 @@ use Rattle.std.specs.Prelude.{codes, string_bytes}
 use Rattle.sfv.specs.Written.{with_separators}
 use Rattle.sfv.specs.Canonical.{bare_text}
 use Rattle.sfv.specs.Values.{byte_sequence}
-use Rattle.http_header.specs.HeaderMap.{get_all}
 use Rattle.http_header.specs.Token.{lowercase}
-use Rattle.sfv_signatures.specs.HttpMessages.{trimmed}
+use Rattle.sfv_headers.specs.Lines.{lines_in}
+use Rattle.sfv_signatures.specs.HttpMessages.{without_start, without_end}
 use Rattle.sfv_signatures.proofs.lines.append_byte_text.Given as goal
 
 abbrev pub invariant-loop-value : goal.invariant-loop-value
 invariant-loop-value l =
     (goal.iterator-loop-value).can_next l.value-iterator × (goal.iterator-loop-value).is_finite l.value-iterator
     × (string_bytes l.base ++ with_separators l.is_first (codes ", ")
-    (map (λ line. bare_text (byte_sequence (trimmed line))) (map (λ v. v.bytes) l.value-iterator))
+    (map (λ line. bare_text (byte_sequence (without_end (without_start line)))) (map (λ v. v.bytes) l.value-iterator))
     ≡ string_bytes l.fn.base ++ with_separators true (codes ", ")
-    (map (λ line. bare_text (byte_sequence (trimmed line))) (map (λ v. v.bytes) (get_all l.fields (lowercase l.name)))))
+    (map (λ line. bare_text (byte_sequence (without_end (without_start line))))
+    (lines_in l.fields (lowercase l.name))))

@@ -1,8 +1,0 @@
-use Rattle.std.proofs.Common.{◌≡◌, drop}
-use Rattle.std.specs.Prelude.{bytes_eq}
-use Rattle.std.specs.List.{find}
-use Rattle.sfv_signatures.proofs.http_message.HttpMessage.type_of.Given as goal
-
-abbrev pub invariant-loop-row : goal.invariant-loop-row
-invariant-loop-row l = find (λ row. bytes_eq row.0.now l.name) (drop l.row-index l.row-items)
-    ≡ find (λ row. bytes_eq row.0.now l.name) l.row-items

@@ -1,9 +1,0 @@
-use Rattle.std.proofs.Common.{◌≡◌}
-use Rattle.sfv.specs.Trees.{pairs_tree}
-use Rattle.sfv_signatures.specs.HttpMessages.{field_fault, first_fault}
-use Rattle.sfv_signatures.proofs.parameters.first_field_fault.Given as goal
-
-abbrev pub invariant-loop-key : goal.invariant-loop-key
-invariant-loop-key l =
-    (goal.iterator-loop-key).can_next l.key-iterator × (goal.iterator-loop-key).is_finite l.key-iterator
-    × (first_fault field_fault (pairs_tree l.key-iterator) ≡ first_fault field_fault (pairs_tree l.params.entries))

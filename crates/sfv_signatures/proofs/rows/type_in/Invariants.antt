@@ -1,0 +1,8 @@
+use Rattle.std.proofs.Common.{◌≡◌, drop}
+use Rattle.std.specs.Prelude.{bytes_eq}
+use Rattle.std.specs.List.{find}
+use Rattle.sfv_signatures.proofs.rows.type_in.Given as goal
+
+abbrev pub invariant-loop-row : goal.invariant-loop-row
+invariant-loop-row l = find (λ row. bytes_eq row.0.now l.name) (drop l.row-index l.types)
+    ≡ find (λ row. bytes_eq row.0.now l.name) l.types
