@@ -40,7 +40,7 @@ HasBrands version t brands = (value : List RawMember) × IsParsedAs version list
 abbrev pub HasBrand : Version → List ℕ → Type 0
 HasBrand version t = (brands : List BrandValue) × HasBrands version t brands × (brands ≢ [])
 
--- these are the brands; or memory ran out, and there is a brand
-abbrev pub AreUnless : (lacks : Bool) → List BrandValue → List BrandValue → Type 0
-AreUnless false found brands = found ≡ brands
-AreUnless true found brands = brands ≢ []
+-- all brands are found; or memory ran out at a brand
+abbrev pub AreSoFar : (is_cut : Bool) → List BrandValue → List BrandValue → Type 0
+AreSoFar false found brands = found ≡ brands
+AreSoFar true found brands = brands ≢ []

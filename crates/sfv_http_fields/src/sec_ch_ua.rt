@@ -3,7 +3,7 @@
 ghost use Rattle.std.specs.Prelude.{◌≡◌, IfOk, IfErr, filter_map, map, option_map, vec_items};
 ghost use Rattle.sfv_readers.specs.Field.{list_field, input_value, read_text, IsParseError, NeedsMarkUnless};
 ghost use Rattle.sfv_http_fields.specs.SecChUa.{string_in, brand_in, brand_of, brand_value, HasBrands, HasBrand};
-ghost use Rattle.sfv_http_fields.specs.SecChUa.{AreUnless};
+ghost use Rattle.sfv_http_fields.specs.SecChUa.{AreSoFar};
 
 use sfv::{
     BareItemFromInput, Error, GenericBareItem, KeyRef, OutOfMemory, StringFromInput, Version,
@@ -35,7 +35,7 @@ fn text_of(item: BareItemFromInput<'_>) -> Option<StringFromInput<'_>>
 struct BrandReader<'a> {
     brands: Vec<Brand<'a>>,
     // Memory ran out at a brand.
-    lacks: bool,
+    is_cut: bool,
 }
 
 #[tactic(auto, using(sfv_readers::proofs::Puts::last_of_put), unfolding(sfv_readers::specs::Field::last_of))]
@@ -46,7 +46,7 @@ impl<'de> ListReader<'de> for BrandReader<'de> {
 
     ghost keeps = { λ _ member head ps. option_map brand_value member ≡ brand_in head ps };
 
-    ghost reads = { λ _ s members. AreUnless s.lacks (map brand_value (vec_items s.brands)) (filter_map brand_of members) };
+    ghost reads = { λ _ s members. AreSoFar s.is_cut (map brand_value (vec_items s.brands)) (filter_map brand_of members) };
 
     ghost may_fail = { ⊥ };
 
@@ -78,7 +78,7 @@ impl<'de> ListReader<'de> for BrandReader<'de> {
     fn member(&mut self, member: Option<Brand<'de>>) -> Result<(), OutOfMemory> {
         if let Some(brand) = member {
             if self.brands.push(brand).is_err() {
-                self.lacks = true;
+                self.is_cut = true;
             }
         }
         Ok(())
@@ -98,10 +98,10 @@ pub fn brands<'a>(alloc: Global, input: &'a [u8], version: Version) -> Result<Ve
 {
     let none = BrandReader {
         brands: Vec::new(alloc),
-        lacks: false,
+        is_cut: false,
     };
     let read = read_list(alloc, input, version, none)?;
-    if read.lacks {
+    if read.is_cut {
         return Err(Error::from(OutOfMemory));
     }
     Ok(read.brands)

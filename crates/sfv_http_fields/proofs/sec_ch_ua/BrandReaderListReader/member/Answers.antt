@@ -8,9 +8,9 @@ returns-then-is_err-clause-read c = λ start m ms kept so_far.
 
 pub returns-else-is_err-clause-read : goal.returns-else-is_err-clause-read
 returns-else-is_err-clause-read c = λ start m ms kept so_far.
-    pushed c.args.member m ms kept c.args.self.now.lacks (vec_items c.args.self.now.brands) (vec_items c.push.new.self)
+    pushed c.args.member m ms kept c.args.self.now.is_cut (vec_items c.args.self.now.brands) (vec_items c.push.new.self)
     so_far c.in-Some.brand c.in-Some.is (rw c.if-is_err.ensures.negation at c.push.ensures.items)
 
 pub returns-in_default-clause-read : goal.returns-in_default-clause-read
 returns-in_default-clause-read c = λ start m ms kept so_far.
-    left_out c.args.member m ms kept c.args.self.now.lacks (vec_items c.args.self.now.brands) so_far c.in_default.is
+    left_out c.args.member m ms kept c.args.self.now.is_cut (vec_items c.args.self.now.brands) so_far c.in_default.is
