@@ -1,21 +1,18 @@
 -- The verification by a header map is the one by the text of the field.
-use Rattle.std.proofs.Common.{◌≡◌, ℕ, ◌<◌, List, Option, Some, Result, Ok, Err, length, refl, sym, ap, subst, ◌∙◌, inl, inr}
-use Rattle.std.specs.Prelude.{option_map, IfOk, IfErr}
-use Rattle.std.specs.Result.{IsErrAnd}
+use Rattle.std.proofs.Common.{◌≡◌, ℕ, ◌<◌, List, Option, Some, Result, Ok, Err, length, refl, sym, ap, subst, ◌∙◌}
+use Rattle.std.specs.Prelude.{option_map, IfOk}
 use Rattle.std.specs.Cow.{cow_slice_items}
 use Rattle.std.specs.declared.alloc.Global.{Global}
 use Rattle.std.specs.declared.borrow.CowSlice.{CowSlice}
 use Rattle.http_header.specs.HeaderMap.{Entries}
 use Rattle.http_header.specs.FieldValue.{FieldValue}
 use Rattle.http_header.specs.Token.{lowercase}
-use Rattle.sfv.specs.Types.{Error}
-use Rattle.sfv_readers.specs.Field.{ErrorNeedsMark}
 use Rattle.sfv_headers.specs.Lines.{lines_in, text_in}
 use Rattle.sfv_digests.specs.declared.DigestField.{DigestField}
 use Rattle.sfv_digests.specs.declared.DigestField.TheVariants as fields
 use Rattle.sfv_digests.specs.declared.Verification.{Verification}
 use Rattle.sfv_digests.specs.declared.Verification.TheVariants as results
-use Rattle.sfv_digests.specs.Verifying.{name_of, IsVerified, IsVerifiedIn, NeedsMarkIn}
+use Rattle.sfv_digests.specs.Verifying.{name_of, IsVerified, IsVerifiedIn}
 
 -- a name is in lower case
 same_name : (field : DigestField) → lowercase (name_of field) ≡ name_of field
@@ -38,17 +35,6 @@ verified_in content headers name text (Ok (results.Differs a)) some h = (text, s
 verified_in content headers name text (Ok results.NoKnownAlgorithm) some h = (text, some, h)
 verified_in content headers name text (Ok results.NoField) some h = absurd h.2
 verified_in content headers name text (Err e) some h = tt
-
--- memory runs out: while two lines are joined, or in the text
-pub joining_needs : {T : Type 0} (headers : Entries FieldValue) (name : List ℕ) (r : Result T Error) (R : Error → Type 0)
-    → IsErrAnd r R → 1 < length (lines_in headers name) → IfErr r (NeedsMarkIn headers name)
-joining_needs headers name (Ok x) R h more = tt
-joining_needs headers name (Err e) R h more = inl more
-
-pub text_needs : {T : Type 0} (headers : Entries FieldValue) (name text : List ℕ) (r : Result T Error)
-    → text_in headers name ≡ Some text → IfErr r (ErrorNeedsMark text) → IfErr r (NeedsMarkIn headers name)
-text_needs headers name text (Ok x) some h = tt
-text_needs headers name text (Err e) some h = inr (text, some, h)
 
 -- two lines of a field whose name is in lower case
 pub named_lines : (field : DigestField) (headers : Entries FieldValue) (name : List ℕ) → name ≡ name_of field

@@ -1,16 +1,14 @@
 -- Verification of the digests of a content (RFC 9530, sections 2 and 3).
-use Rattle.std.specs.Prelude.{◌≡◌, ◌≢◌, ◌<◌, ◌⊎◌, ⊤, ℕ, List, Option, Some, None, MatchOption, length, codes}
+use Rattle.std.specs.Prelude.{◌≡◌, ◌≢◌, ⊤, ℕ, List, Option, Some, None, MatchOption, codes}
 use Rattle.sha2.specs.Sha256.{sha256}
 use Rattle.sha2.specs.Sha512.{sha512}
 use Rattle.http_header.specs.HeaderMap.{Entries}
 use Rattle.http_header.specs.FieldValue.{FieldValue}
-use Rattle.sfv_readers.specs.Field.{Rfc9651, dictionary_field, IsReadBy, IsParseError, ErrorNeedsMark}
-use Rattle.sfv.specs.Types.{Error}
-use Rattle.sfv_headers.specs.Lines.{lines_in, text_in}
+use Rattle.sfv_readers.specs.Field.{Rfc9651, dictionary_field, IsReadBy}
+use Rattle.sfv_headers.specs.Lines.{text_in}
 use Rattle.sfv_headers.specs.Fields.{HasText}
 use Rattle.sfv_http_fields.specs.ContentDigests.{Members}
 use Rattle.sfv_http_fields.specs.LastDigests.{Held, held_of}
-use Rattle.sfv_http_fields.specs.declared.content_digest.reading.Algorithm.{Algorithm}
 use Rattle.sfv_http_fields.specs.declared.content_digest.reading.Algorithm.TheVariants.{Sha256, Sha512}
 use Rattle.sfv_digests.specs.declared.Verification.{Verification}
 use Rattle.sfv_digests.specs.declared.Verification.TheVariants.{Matches, Differs, NoKnownAlgorithm, NoField}
@@ -54,8 +52,3 @@ name_of ReprDigest = codes "repr-digest"
 abbrev pub IsVerifiedIn : List ℕ → Entries FieldValue → List ℕ → Verification → Type 0
 IsVerifiedIn content headers name NoField = text_in headers name ≡ None
 IsVerifiedIn content headers name found = HasText headers name (λ text. IsVerified content text found)
-
--- the error is out of memory only if the field has two lines, or a byte that may need memory
-abbrev pub NeedsMarkIn : Entries FieldValue → List ℕ → Error → Type 0
-NeedsMarkIn headers name error =
-    (1 < length (lines_in headers name)) ⊎ HasText headers name (λ text. ErrorNeedsMark text error)

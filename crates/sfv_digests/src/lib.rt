@@ -7,8 +7,8 @@ ghost use Rattle.std.specs.Prelude.{◌≡◌, IfOk, IfErr};
 ghost use Rattle.sfv_readers.specs.Field.{Rfc9651, dictionary_field, IsParseError, ErrorNeedsMark};
 ghost use Rattle.sfv_headers.specs.Fields.{IsReadError};
 ghost use Rattle.sfv_http_fields.specs.LastDigests.{held_value};
+ghost use Rattle.sfv_http_fields.specs.Needs.{NeedsMarkIn};
 ghost use Rattle.sfv_digests.specs.Verifying.{name_of, IsVerification, IsVerified, IsVerifiedIn};
-ghost use Rattle.sfv_digests.specs.Verifying.{NeedsMarkIn};
 
 use comparing::{Comparison, compare};
 use http_header::HeaderMap;

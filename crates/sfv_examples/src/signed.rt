@@ -2,15 +2,15 @@
 
 ghost use Rattle.std.specs.Prelude.{IfOk};
 ghost use Rattle.sfv_signatures.specs.HttpMessages.{HttpGives};
-ghost use Rattle.sfv_signatures.specs.TwoBases.{AgreeIf};
+ghost use Rattle.sfv_signatures.specs.TwoBases.{IsSameBase, AgreeIf};
 ghost use Rattle.sfv_examples.specs.Signed.{WithoutTheCheck};
 
 use sfv::InnerList;
 use sfv_signatures::{BaseError, HttpMessage, signature_base};
 use std::alloc::Global;
 
-/// Returns `true` if the message that was received has the base of the message that was sent. Then each component of the
-/// list has the same value in both messages.
+/// Returns `true` if and only if the message that was received has the base of the message that was sent. Then each
+/// component of the list has the same value in both messages.
 ///
 /// # Errors
 ///
@@ -21,6 +21,7 @@ pub fn is_unchanged(
     sent: &HttpMessage<'_>,
     received: &HttpMessage<'_>,
 ) -> Result<bool, BaseError>
+    ensures same { IfOk result (IsSameBase (HttpGives sent.now) (HttpGives received.now) list.now list.now) }
     ensures agree { IfOk result (AgreeIf (HttpGives sent.now) (HttpGives received.now) list.now list.now) }
 {
     let base = signature_base(alloc, list, sent)?;

@@ -1,10 +1,9 @@
 -- The lines that a head's spans cover are those of its fields.
-use Rattle.std.proofs.Common.{◌≡◌, ℕ, List, [], ◌∷◌, length, take, refl, ap, ◌∙◌, inl, inr, arith}
-use Rattle.std.specs.Prelude.{map, filter, codes, All}
+use Rattle.std.proofs.Common.{◌≡◌, ℕ, List, [], ◌∷◌, take, refl, ap, ◌∙◌, inl, inr}
+use Rattle.std.specs.Prelude.{map, filter, codes}
 use Rattle.std.proofs.lemmas.Bool.{cases_Bool}
-use Rattle.std.proofs.lemmas.List.Elements.{All-weaker}
 use Rattle.httparse.specs.Grammar.{Field, field_value}
-use Rattle.httparse.specs.Spans.{IsHeaderWithin, header_bytes, name_and_value, IsSectionWithin, IsRequestOf}
+use Rattle.httparse.specs.Spans.{header_bytes, name_and_value, IsRequestOf}
 use Rattle.httparse.specs.declared.spans.HeaderSpan.{HeaderSpan}
 use Rattle.httparse.specs.declared.spans.RequestSpans.{RequestSpans}
 use Rattle.sfv.specs.Texts.{joined}

@@ -1,4 +1,5 @@
 pub mod Digests
+pub mod Needs
 mod PriorityTexts
 mod PriorityExamples
 mod LastProxies

@@ -1,6 +1,6 @@
 -- Rows of a table: the first with a name, and a test that no two have the same name.
-use Rattle.std.proofs.Common.{◌≡◌, ℕ, ◌+◌, ◌<◌, List, [], ◌∷◌, Bool, true, false, length, get_or, refl, sym, ◌∙◌, inl, inr}
-use Rattle.std.specs.Prelude.{◌&&◌, not, map, drop, Some, Option}
+use Rattle.std.proofs.Common.{◌≡◌, ℕ, ◌+◌, ◌<◌, List, [], ◌∷◌, Bool, true, false, length, get_or, refl, inl, inr}
+use Rattle.std.specs.Prelude.{◌&&◌, not, map, drop, Some}
 use Rattle.std.specs.List.{IsDistinct, AllByRecursion, list_any}
 use Rattle.std.specs.Map.{lookup}
 use Rattle.std.specs.Str.{str_eq_ignore_ascii_case}

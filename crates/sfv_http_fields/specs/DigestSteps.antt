@@ -1,7 +1,7 @@
 -- The results of the private functions of the Content-Digest field.
 use Rattle.std.specs.Prelude.{◌≡◌, ◌⊎◌, ℕ, List, Option, Some, None, option_map, bytes_eq, Result, MatchResult}
 use Rattle.sfv.specs.Maps.{insert_entry}
-use Rattle.sfv_http_fields.specs.ContentDigests.{Members, Digests, sha_256_key, sha_512_key, last_bytes, digest_bytes}
+use Rattle.sfv_http_fields.specs.ContentDigests.{Members, Digests, sha_256_key, sha_512_key}
 use Rattle.sfv_http_fields.specs.ContentDigests.{digests_in, bytes_member}
 use Rattle.sfv_http_fields.specs.declared.content_digest.ContentDigest.{ContentDigest}
 use Rattle.sfv_http_fields.specs.declared.content_digest.DigestError.{DigestError}

@@ -11,5 +11,6 @@ pub mod Kept
 pub mod Writing
 pub mod Requests
 pub mod Lines
+pub mod Needs
 pub mod Registry
 pub mod SecChUa

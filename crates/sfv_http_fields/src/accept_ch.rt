@@ -7,6 +7,7 @@ ghost use Rattle.std.specs.List.{list_any};
 ghost use Rattle.sfv_readers.specs.Field.{list_field, IsParseError, ErrorNeedsMark};
 ghost use Rattle.sfv_headers.specs.Fields.{IsReadError};
 ghost use Rattle.sfv_http_fields.specs.AcceptCh.{is_hint, is_hint_head, IsAcceptance, IsAcceptanceIn};
+ghost use Rattle.sfv_http_fields.specs.Needs.{NeedsMarkIn};
 
 use http_header::HeaderMap;
 use sfv::{BareItemFromInput, Error, GenericBareItem, KeyRef, OutOfMemory, Version};
@@ -73,7 +74,8 @@ pub fn accepts(alloc: Global, input: &[u8], version: Version, hint: &str) -> Res
 ///
 /// # Errors
 ///
-/// Returns the error of `Parser::parse` if the text of `field_text` is not a list, or if memory runs out.
+/// Returns the error of `Parser::parse` if the text of `field_text` is not a list, or if memory runs out. Memory runs out
+/// only if the field has two lines, or contains a backslash, a percent sign or a colon.
 pub fn accepts_in(
     alloc: Global,
     headers: &HeaderMap,
@@ -82,6 +84,7 @@ pub fn accepts_in(
 ) -> Result<bool, Error>
     ensures read { IfOk result (IsAcceptanceIn version headers.now hint.now) }
     ensures rejected { IfErr result (IsReadError version list_field headers.now (codes "accept-ch")) }
+    ensures memory { IfErr result (NeedsMarkIn headers.now (codes "accept-ch")) }
 {
     match field_text(alloc, headers, "accept-ch")? {
         Some(text) => accepts(alloc, text.as_slice(), version, hint),

@@ -6,6 +6,8 @@ use Rattle.sfv.specs.Canonical.{canonical}
 use Rattle.sfv.specs.Types.{FieldKind, dictionary_field}
 use Rattle.sfv.specs.Values.{RawParameters}
 use Rattle.std.specs.Borrow.{Bor}
+use Rattle.std.specs.declared.alloc.Global.{Global}
+use Rattle.std.specs.declared.string.String.{String}
 use Rattle.std.specs.Char.{is_ascii_uppercase}
 use Rattle.std.specs.List.{list_any}
 use Rattle.http_header.specs.HeaderMap.{Entries}
@@ -25,7 +27,8 @@ Gives : Type 1
 Gives = Result (List ℕ) BaseErrorKind → Type 0
 
 -- a field of one type
-pub of_kind : {T : Type 0} (kind k : FieldKind) (t old new : List ℕ) (r : Result T BaseErrorKind) → kind ≡ k
+pub of_kind : {T : Type 0} (kind k : FieldKind) (t : List ℕ) (old new : String Global) (r : Result T BaseErrorKind)
+    → kind ≡ k
     → AppendsValue (ParsedGives k (λ value. Ok (canonical k value)) t) old new r
     → AppendsValue (ParsedGives kind (λ value. Ok (canonical kind value)) t) old new r
 of_kind kind k t old new r h x =
@@ -33,7 +36,7 @@ of_kind kind k t old new r h x =
 
 -- ---- the value by its form
 
-module _ {T : Type 0} (old new : List ℕ) (r : Result T BaseErrorKind) where
+module _ {T : Type 0} (old new : String Global) (r : Result T BaseErrorKind) where
   pub with_bs : (bs : Bool) (key : Option (List ℕ)) (sf : Bool) (type : Option FieldKind) (lines : List (List ℕ))
       → bs ≡ true → AppendsValue (λ r. r ≡ Ok (byte_text lines)) old new r
       → AppendsValue (FieldGives bs key sf type lines) old new r
@@ -99,7 +102,7 @@ module _ (ps : RawParameters) (type : Option FieldKind) (lines : List (List ℕ)
     refl,
   )
 
-  pub lines_given : {T : Type 0} (old new : List ℕ) (r : Result T BaseErrorKind) (all : List (List ℕ)) (line : List ℕ)
+  pub lines_given : {T : Type 0} (old new : String Global) (r : Result T BaseErrorKind) (all : List (List ℕ)) (line : List ℕ)
       → lines ≡ all → slice_get all 0 ≡ Some line
       → AppendsValue (FieldGives (has (codes "bs") ps) (string_param (codes "key") ps) (has (codes "sf") ps) type all) old
       new r → AppendsValue (LinesGive ps type lines) old new r
@@ -138,7 +141,7 @@ module _ (m : HttpMessage) (name : List ℕ) (ps : RawParameters) where
     refl,
   )
 
-  module _ {T : Type 0} (old new : List ℕ) (r : Result T BaseErrorKind) (sound : None ≡ fault_of name ps) where
+  module _ {T : Type 0} (old new : String Global) (r : Result T BaseErrorKind) (sound : None ≡ fault_of name ps) where
     pub http_derived : is_derived name ≡ true → AppendsValue (ValueGives true m name ps) old new r
         → AppendsValue (HttpGives m name ps) old new r
     http_derived h x =

@@ -1,6 +1,8 @@
 -- What a call that writes a value or a line appends.
 use Rattle.std.specs.Prelude.{◌≡◌, ◌⊎◌, ℕ, List, [], ◌++◌, codes, if◌then◌else◌, Option, Some, Result, Ok, Err, MatchResult}
-use Rattle.std.specs.Prelude.{slice_get, take}
+use Rattle.std.specs.Prelude.{slice_get, take, string_bytes}
+use Rattle.std.specs.declared.alloc.Global.{Global}
+use Rattle.std.specs.declared.string.String.{String}
 use Rattle.std.specs.Borrow.{Bor}
 use Rattle.std.specs.Char.{is_ascii_uppercase}
 use Rattle.std.specs.List.{list_any}
@@ -21,12 +23,13 @@ UnlessMemory P kind = (kind ≡ kinds.OutOfMemory) ⊎ P kind
 
 -- On success, the value is appended. An error is out of memory, or the rule in place of the value, or the rule that the
 -- value breaks. `Gives r`: r is the value, or the rule in its place.
-abbrev pub AppendsValue : {T : Type 0} → (Result (List ℕ) BaseErrorKind → Type 0) → List ℕ → List ℕ
+abbrev pub AppendsValue : {T : Type 0} → (Result (List ℕ) BaseErrorKind → Type 0) → String Global → String Global
     → Result T BaseErrorKind → Type 0
-AppendsValue Gives old new result = MatchResult result (λ _. (v : List ℕ) × Gives (Ok v) × (new ≡ old ++ v))
+AppendsValue Gives old new result = MatchResult result
+    (λ _. (v : List ℕ) × Gives (Ok v) × (string_bytes new ≡ string_bytes old ++ v))
     (UnlessMemory (λ kind. IsChecked Gives (Err kind)))
 
--- the same for the checked value
+-- the same for the checked value, over the bytes
 abbrev pub AppendsChecked : {T : Type 0} → (Result (List ℕ) BaseErrorKind → Type 0) → List ℕ → List ℕ
     → Result T BaseErrorKind → Type 0
 AppendsChecked Gives old new result =

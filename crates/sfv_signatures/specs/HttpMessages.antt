@@ -40,8 +40,7 @@ string_param key ps = option_and_then string_of (last_of key ps)
 
 -- the name of a derived component begins with `@`, and any other name is that of a field
 abbrev pub is_derived : List ℕ → Bool
-is_derived [] = false
-is_derived (c ∷ name) = c == byte "@"
+is_derived name = option_map_or (λ c. c == byte "@") (slice_get name 0) false
 
 -- the derived components (section 2.2)
 abbrev pub derived_names : List (List ℕ)
@@ -150,5 +149,4 @@ ValueGives false m name ps r = LinesGive ps (type_in m.types.now name) (lines_of
 
 -- the message: r is the value of the component, or the rule that its identifier breaks
 abbrev pub HttpGives : HttpMessage → List ℕ → RawParameters → Result (List ℕ) BaseErrorKind → Type 0
-HttpGives m name ps r =
-    MatchOption (fault_of name ps) (ValueGives (is_derived name) m name ps r) (λ kind. r ≡ Err kind)
+HttpGives m name ps r = MatchOption (fault_of name ps) (ValueGives (is_derived name) m name ps r) (λ k. r ≡ Err k)

@@ -1,6 +1,6 @@
 //! The components of a message, as a program supplies them.
 
-ghost use Rattle.std.specs.Prelude.{ℕ, List, Result, string_bytes};
+ghost use Rattle.std.specs.Prelude.{ℕ, List, Result};
 ghost use Rattle.sfv.specs.Trees.{pairs_tree};
 ghost use Rattle.sfv.specs.Values.{RawParameters};
 ghost use Rattle.sfv_signatures.specs.Components.{AppendsValue};
@@ -31,5 +31,5 @@ pub trait Components {
         base: &mut String,
     ) -> Result<(), BaseErrorKind>
         ensures value { AppendsValue (gives self.now name.now (pairs_tree params.now.entries))
-            (string_bytes base.old) (string_bytes base.new) result };
+            base.old base.new result };
 }

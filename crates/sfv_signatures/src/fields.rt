@@ -1,6 +1,6 @@
 //! The values of fields (RFC 9421, section 2.1).
 
-ghost use Rattle.std.specs.Prelude.{◌≡◌, Ok, codes, string_bytes};
+ghost use Rattle.std.specs.Prelude.{◌≡◌, Ok, codes};
 ghost use Rattle.std.specs.Char.{is_ascii_uppercase};
 ghost use Rattle.std.specs.List.{list_any};
 ghost use Rattle.sfv.specs.CheckedTexts.{text_of};
@@ -43,7 +43,7 @@ fn append_canonical<T: FieldType>(
     base: &mut String,
 ) -> Result<(), BaseErrorKind>
     ensures { AppendsValue (ParsedGives T.kind (λ value. Ok (canonical T.kind value)) text.now)
-        (string_bytes base.old) (string_bytes base.new) result }
+        base.old base.new result }
 {
     let field = match Parser::new(text).parse::<T>(alloc) {
         Ok(field) => field,
@@ -61,7 +61,7 @@ fn append_strict(
     base: &mut String,
 ) -> Result<(), BaseErrorKind>
     ensures { AppendsValue (ParsedGives kind (λ value. Ok (canonical kind value)) text.now)
-        (string_bytes base.old) (string_bytes base.new) result }
+        base.old base.new result }
 {
     match kind {
         FieldKind::Item => append_canonical::<Item>(alloc, text, base),
@@ -78,7 +78,7 @@ fn append_dictionary_member(
     base: &mut String,
 ) -> Result<(), BaseErrorKind>
     ensures { AppendsValue (ParsedGives dictionary_field (member_of (text_of key.entry)) text.now)
-        (string_bytes base.old) (string_bytes base.new) result }
+        base.old base.new result }
 {
     let dictionary = match Parser::new(text).parse::<Dictionary>(alloc) {
         Ok(dictionary) => dictionary,
@@ -106,7 +106,7 @@ fn append_lines(
     ensures { AppendsValue (FieldGives (has (codes "bs") (pairs_tree params.now.entries))
         (string_param (codes "key") (pairs_tree params.now.entries)) (has (codes "sf") (pairs_tree params.now.entries))
         (type_in types.now name.now) (lines_in fields.now (lowercase name.now)))
-        (string_bytes base.old) (string_bytes base.new) result }
+        base.old base.new result }
 {
     if has(params, key_ref("bs")) {
         return append_byte_text(name, fields, base);
@@ -148,7 +148,7 @@ pub(crate) fn append_field(
 ) -> Result<(), BaseErrorKind>
     ensures { AppendsValue
         (LinesGive (pairs_tree params.now.entries) (type_in types.now name.now) (lines_from name.now section.entry))
-        (string_bytes base.old) (string_bytes base.new) result }
+        base.old base.new result }
 {
     let Some(fields) = section else {
         return Err(BaseErrorKind::Absent);

@@ -1,6 +1,6 @@
 //! HTTP messages, as maps of their fields and texts of their derived components.
 
-ghost use Rattle.std.specs.Prelude.{◌≡◌, true, option_map, option_and_then, option_copied, string_bytes};
+ghost use Rattle.std.specs.Prelude.{◌≡◌, true, option_map, option_and_then, option_copied};
 ghost use Rattle.sfv.specs.Trees.{pairs_tree};
 ghost use Rattle.sfv_signatures.specs.HttpMessages.{HttpGives, ValueGives, part_of, section_of, derived_in};
 ghost use Rattle.sfv_signatures.specs.Components.{AppendsValue};
@@ -96,7 +96,7 @@ impl<'a> HttpMessage<'a> {
         base: &mut String,
     ) -> Result<(), BaseErrorKind>
         ensures { AppendsValue (ValueGives true self.now name.now (pairs_tree params.now.entries))
-            (string_bytes base.old) (string_bytes base.new) result }
+            base.old base.new result }
     {
         let Some(part) = self.part(params) else {
             return Err(BaseErrorKind::Absent);

@@ -104,7 +104,7 @@ pub(crate) fn append_plain_text(
     base: &mut String,
 ) -> Result<(), BaseErrorKind>
     ensures { AppendsValue (λ r. r ≡ Ok (plain_text (lines_in fields.now (lowercase name.now))))
-        (string_bytes base.old) (string_bytes base.new) result }
+        base.old base.new result }
 {
     let mut is_first = true;
     for value in fields.get_all(name) {

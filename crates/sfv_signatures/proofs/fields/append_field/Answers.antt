@@ -1,5 +1,4 @@
 use Rattle.std.proofs.Common.{sym, ◌∙◌, ap}
-use Rattle.std.specs.Prelude.{string_bytes}
 use Rattle.http_header.specs.HeaderMap.{get_all}
 use Rattle.http_header.specs.Token.{lowercase}
 use Rattle.sfv.specs.Trees.{pairs_tree}
@@ -29,7 +28,7 @@ returns-in_default-get c = lines_absent (pairs_tree c.args.params.now.entries)
 
 pub returns : goal.returns
 returns c = lines_given (pairs_tree c.args.params.now.entries) (type_in c.args.types.now c.args.name.now)
-    (lines_from c.args.name.now c.args.section) (string_bytes c.args.base.now) (string_bytes c.append_lines.new.base)
+    (lines_from c.args.name.now c.args.section) c.args.base.now c.append_lines.new.base
     c.append_lines.result (lines_in c.in-Some.fields.now (lowercase c.args.name.now)) c.in-Some-get.field-0.now.bytes
     (ap (lines_from c.args.name.now) c.in-Some.is
     ∙ lower_lines c.args.name.now c.in-Some.fields (sym c.has_upper_case.ensures ∙ c.if-has_upper_case.false))

@@ -1,5 +1,5 @@
 use Rattle.std.proofs.Common.{◌≡◌, true, false, sym, ◌∙◌}
-use Rattle.std.specs.Prelude.{Some, None, codes, string_bytes}
+use Rattle.std.specs.Prelude.{Some, None, codes}
 use Rattle.http_header.specs.Token.{lowercase}
 use Rattle.sfv.specs.CheckedTexts.{text_of}
 use Rattle.sfv.specs.Trees.{pairs_tree}
@@ -15,7 +15,7 @@ returns-in-Some c =
     rw c.key_ref.ensures at (sym c.has.ensures ∙ c.if-has.false) in
     let some : string_param (codes "key") (pairs_tree c.args.params.now.entries) ≡ Some (text_of c.in-Some.key) =
     rw c.key_ref-2.ensures at (sym c.in-Some.ensures) in
-    with_key (string_bytes c.args.base.now) (string_bytes c.append_dictionary_member.new.base)
+    with_key c.args.base.now c.append_dictionary_member.new.base
     c.append_dictionary_member.result (has (codes "bs") ps) (string_param (codes "key") ps) (has (codes "sf") ps)
     (type_in c.args.types.now c.args.name.now) (lines_in c.args.fields.now (lowercase c.args.name.now))
     (text_of c.in-Some.key) c.as_slice.result.now bs some (c.as_slice.ensures.value ∙ c.in_ok-text.ensures)
@@ -43,7 +43,7 @@ returns c =
     rw c.key_ref-2.ensures at (sym c.in_default.ensures) in
     let sf : has (codes "sf") (pairs_tree c.args.params.now.entries) ≡ true =
     rw c.key_ref-3.ensures at (sym c.has-2.ensures ∙ c.if-not-has.false) in
-    with_sf (string_bytes c.args.base.now) (string_bytes c.append_strict.new.base) c.append_strict.result
+    with_sf c.args.base.now c.append_strict.new.base c.append_strict.result
     (has (codes "bs") ps) (string_param (codes "key") ps) (has (codes "sf") ps)
     (type_in c.args.types.now c.args.name.now) (lines_in c.args.fields.now (lowercase c.args.name.now))
     c.in-Some-type_in.kind c.as_slice-2.result.now bs none sf (sym c.in-Some-type_in.ensures)

@@ -1,13 +1,16 @@
 use Rattle.std.specs.Prelude.{vec_items}
-use Rattle.sfv_http_fields.proofs.BrandLists.{pushed, left_out}
+use Rattle.sfv_http_fields.proofs.BrandLists.{pushed, not_pushed, left_out}
 use Rattle.sfv_http_fields.proofs.sec_ch_ua.BrandReaderListReader.member.Goals as goal
 
-pub returns-in_ok-push-in-Some-clause-read : goal.returns-in_ok-push-in-Some-clause-read
-returns-in_ok-push-in-Some-clause-read c = λ start m ms kept so_far.
-    pushed (vec_items c.args.self.now.brands) (vec_items c.push.new.self) c.args.member m ms kept so_far
-    c.in-Some.brand c.in-Some.is c.in_ok-push-in-Some.ensures.items
+pub returns-then-is_err-clause-read : goal.returns-then-is_err-clause-read
+returns-then-is_err-clause-read c = λ start m ms kept so_far.
+    not_pushed c.args.member m ms kept c.in-Some.brand c.in-Some.is
 
-pub returns-in-None-clause-read : goal.returns-in-None-clause-read
-returns-in-None-clause-read c = λ start m ms kept so_far.
-    left_out (vec_items c.args.self.now.brands) (vec_items c.args.self.now.brands) c.args.member m ms kept so_far
-    c.in-None.is
+pub returns-else-is_err-clause-read : goal.returns-else-is_err-clause-read
+returns-else-is_err-clause-read c = λ start m ms kept so_far.
+    pushed c.args.member m ms kept c.args.self.now.is_cut (vec_items c.args.self.now.brands) (vec_items c.push.new.self)
+    so_far c.in-Some.brand c.in-Some.is (rw c.if-is_err.ensures.negation at c.push.ensures.items)
+
+pub returns-in_default-clause-read : goal.returns-in_default-clause-read
+returns-in_default-clause-read c = λ start m ms kept so_far.
+    left_out c.args.member m ms kept c.args.self.now.is_cut (vec_items c.args.self.now.brands) so_far c.in_default.is
