@@ -6,7 +6,7 @@ use Rattle.sfv_lint_head.specs.declared.paint.Tone.TheVariants as tones
 use Rattle.sfv_lint_report.specs.declared.report.Field.{Field}
 use Rattle.sfv_lint_report.specs.declared.report.Report.{Report}
 use Rattle.sfv_lint_head.specs.Paint.{painted}
-use Rattle.sfv_lint_report.specs.Prints.{field_text, summary_text, other_text}
+use Rattle.sfv_lint_report.specs.Prints.{field_text, summary_text, others_text}
 use Rattle.sfv_lint_report.specs.Reports.{has_error}
 use Rattle.sfv_lint_notes.specs.declared.notes.Note.{Note}
 use Rattle.sfv_lint_notes.specs.Notes.{note_text}
@@ -50,7 +50,7 @@ pub record AppendsBlocks (colors : Colors) (tree : Bool) (fields : List Field) (
 
 -- the names of the other field lines, with `--all`
 abbrev pub named_others : Bool → Report → List ℕ
-named_others all report = if all then flat_map (λ name. other_text name.items) report.others.items else []
+named_others all report = if all then others_text report.others.items else []
 
 -- what is printed on a head: its fields, with `--all` the names of the other field lines, and the counts
 pub record IsPrinted (colors : Colors) (tree all : Bool) (report : Report) (text : List ℕ) : Type 0 where

@@ -1,5 +1,7 @@
 -- The output of a run.
 use Rattle.std.specs.Prelude.{◌≡◌, ℕ, List, [], ◌∷◌, ◌++◌, Bool, true, false, Some, None, string_bytes, codes}
+use Rattle.std.specs.Prelude.{Result, IfOk}
+use Rattle.std.specs.Borrow.{Bor}
 use Rattle.std.specs.List.{list_any}
 use Rattle.sfv.specs.Types.{FieldKind}
 use Rattle.sfv_http_fields.specs.Registry.{registered_type}
@@ -10,6 +12,7 @@ use Rattle.sfv_lint_report.specs.declared.report.Report.{Report}
 use Rattle.sfv_lint_report.specs.Reports.{has_error, IsReport, IsValueReport}
 use Rattle.sfv_lint_output.specs.Lines.{IsBlock, IsPrinted}
 use Rattle.sfv_lint_output.specs.declared.run.Output.{Output}
+use Rattle.sfv_lint_output.specs.declared.run.Failure.{Failure}
 
 -- the options have no `--type` and no `--field`
 abbrev pub IsOfHead : Options → Type 0
@@ -53,7 +56,17 @@ pub record IsValueOutput (options : Options) (colors : Colors) (name : List ℕ)
   pub lines : options.json ≡ false → IsPrintedValue colors options.tree field (string_bytes output.text)
   pub failed : IsFailed options.strict (field ∷ []) output.failed
 
+-- with `--type`, the output for a value of that type
+abbrev pub HasValueOutput : Options → Colors → List ℕ → Result Output Failure → Type 0
+HasValueOutput options colors input result = (kind : FieldKind) → options.kind ≡ Some kind
+    → IfOk result (IsValueOutput options colors (codes "value") kind input)
+
 -- the output for a value of a field, which the registry has
 abbrev pub IsFieldOutput : Options → Colors → List ℕ → List ℕ → Output → Type 0
 IsFieldOutput options colors name input output =
     (kind : FieldKind) × (registered_type name ≡ Some kind) × IsValueOutput options colors name kind input output
+
+-- with `--field` and without `--type`, the output for a value of that field
+abbrev pub HasFieldOutput : Options → Colors → List ℕ → Result Output Failure → Type 0
+HasFieldOutput options colors input result = (name : Bor (List ℕ)) → options.kind ≡ None → options.field ≡ Some name
+    → IfOk result (IsFieldOutput options colors name.now input)

@@ -1,14 +1,12 @@
 //! A run of the program `sfv_lint`.
 
 ghost use Rattle.std.specs.Prelude.{◌≡◌, ◌++◌, [], ◌∷◌, IfOk, IfErr, OnOk, Some, None, false, string_bytes, codes, ℕ, List};
-ghost use Rattle.std.specs.Borrow.{Bor};
-ghost use Rattle.sfv.specs.Types.{FieldKind};
 ghost use Rattle.sfv_http_fields.specs.Registry.{registered_type};
 ghost use Rattle.sfv_lint_head.specs.Heads.{HasNoHead};
 ghost use Rattle.sfv_lint_head.specs.declared.head.HeadFault.TheVariants as head_faults;
 ghost use Rattle.sfv_lint_output.specs.Lines.{IsPrinted};
-ghost use Rattle.sfv_lint_output.specs.Runs.{IsFailed, IsHeadOutput, IsValueOutput, IsFieldOutput, IsPrintedValue};
-ghost use Rattle.sfv_lint_output.specs.Runs.{IsOfHead, AppendsAdvice, hint_text};
+ghost use Rattle.sfv_lint_output.specs.Runs.{IsFailed, IsHeadOutput, IsValueOutput, IsPrintedValue};
+ghost use Rattle.sfv_lint_output.specs.Runs.{HasValueOutput, HasFieldOutput, IsOfHead, AppendsAdvice, hint_text};
 ghost use Rattle.sfv_lint_output.specs.declared.run.Failure.TheVariants as failures;
 
 use crate::document::document;
@@ -275,10 +273,8 @@ pub fn run(
     input: &[u8],
 ) -> Result<Output, Failure>
     ensures head { IsOfHead options.now → IfOk result (IsHeadOutput options.now colors input.now) }
-    ensures value { (kind : FieldKind) → options.now.kind ≡ Some kind
-        → IfOk result (IsValueOutput options.now colors (codes "value") kind input.now) }
-    ensures field { (name : Bor (List ℕ)) → options.now.kind ≡ None → options.now.field ≡ Some name
-        → IfOk result (IsFieldOutput options.now colors name.now input.now) }
+    ensures value { HasValueOutput options.now colors input.now result }
+    ensures field { HasFieldOutput options.now colors input.now result }
     ensures no_head { IfErr result (λ failure. failure ≡ failures.NoHead → HasNoHead input.now) }
 {
     if let Some(kind) = options.kind {

@@ -3,6 +3,7 @@ use Rattle.std.specs.Prelude.{ℕ, ◌==◌, List, [], ◌++◌, length, if◌th
 use Rattle.std.specs.Prelude.{Option, Some, None, Result, Ok, Err, string_bytes, decimal}
 use Rattle.std.specs.declared.alloc.Global.{Global}
 use Rattle.std.specs.declared.string.String.{String}
+use Rattle.std.specs.declared.vec.Vec.{Vec}
 use Rattle.sfv.specs.Types.{Error}
 use Rattle.sfv.specs.Errors.{kind_of, index_of}
 use Rattle.sfv.specs.Messages.{message_of}
@@ -45,3 +46,7 @@ summary_text report =
 -- the line of another field line
 abbrev pub other_text : List ℕ → List ℕ
 other_text name = shown name ++ codes ": not checked\n"
+
+-- the lines of other field lines
+abbrev pub others_text : List (Vec ℕ Global) → List ℕ
+others_text names = flat_map (λ name. other_text name.items) names

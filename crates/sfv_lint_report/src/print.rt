@@ -3,7 +3,7 @@
 ghost use Rattle.std.specs.Prelude.{◌≡◌, ◌++◌, [], OnOk, Err, Ok, map, flat_map, length, filter, option_copied, string_bytes};
 ghost use Rattle.sfv_lint_report.specs.Reports.{has_error};
 ghost use Rattle.sfv_lint_report.specs.Prints.{canonical_text, outcome_text, field_text};
-ghost use Rattle.sfv_lint_report.specs.Prints.{count_text, summary_text, other_text};
+ghost use Rattle.sfv_lint_report.specs.Prints.{count_text, summary_text, other_text, others_text};
 
 use crate::check::Accepted;
 use crate::report::{Field, Report};
@@ -140,8 +140,7 @@ fn append_other(out: &mut String, name: &[u8]) -> Result<(), AllocError>
 ///
 /// Returns `AllocError` if memory runs out. A part may then be appended.
 pub fn append_others(out: &mut String, names: &[Vec<u8>]) -> Result<(), AllocError>
-    ensures { OnOk result (string_bytes out.new ≡ string_bytes out.old
-        ++ flat_map (λ name. other_text name.items) names.now) }
+    ensures { OnOk result (string_bytes out.new ≡ string_bytes out.old ++ others_text names.now) }
 {
     for name in names {
         append_other(out, name.as_slice())?;
