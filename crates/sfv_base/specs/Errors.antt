@@ -21,6 +21,6 @@ index_of e = e.index
 abbrev pub out_of_memory : Error
 out_of_memory = error_of kinds.OutOfMemory None
 
--- the printed text of an error: that of its kind, and the index if there is one
+-- the printed text of an error: the text of its kind, and the index if there is one
 abbrev pub error_text : Error → List ℕ
 error_text e = message_of e.kind ++ elim e.index [ None ↦ [] | Some i ↦ codes " at index " ++ decimal_digits i ]

@@ -1,4 +1,4 @@
--- When reading a field of a header map runs out of memory: while two lines are joined, or in the text.
+-- When a call that parses a field of a header map runs out of memory: while two lines are joined, or in the text.
 use Rattle.std.proofs.Common.{◌≡◌, ℕ, ◌<◌, List, Some, Result, Ok, Err, length, inl, inr}
 use Rattle.std.specs.Prelude.{IfErr}
 use Rattle.std.specs.Result.{IsErrAnd}

@@ -1,4 +1,4 @@
--- When reading a field of a header map may run out of memory.
+-- When a call that parses a field of a header map may run out of memory.
 use Rattle.std.specs.Prelude.{◌<◌, ◌⊎◌, List, ℕ, length}
 use Rattle.http_header.specs.HeaderMap.{Entries}
 use Rattle.http_header.specs.FieldValue.{FieldValue}

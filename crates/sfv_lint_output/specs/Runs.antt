@@ -30,7 +30,7 @@ pub record IsHeadOutput (options : Options) (colors : Colors) (input : List ℕ)
   pub lines : options.json ≡ false → IsPrinted colors options.tree options.all report (string_bytes output.text)
   pub failed : IsFailed options.strict report.fields.items output.failed
 
--- what is printed on a value: its report, and advice if it has an error
+-- the lines on a value: its report, and advice if it has an error
 pub record IsPrintedValue (colors : Colors) (tree : Bool) (field : Field) (text : List ℕ) : Type 0 where
   pub block : List ℕ
   pub advice : List ℕ

@@ -25,7 +25,7 @@ use Rattle.sfv_serializer.specs.Texts.{Text}
 abbrev pub params_sink : {X : Type 0} → ParameterSerializer X → MutBor X
 params_sink s = s.sink
 
--- on success, the result borrows what was lent; after an error, this holds of the old and the new state of that
+-- on success, the result borrows the argument; after an error, `says` holds of the old and the new state of the argument
 abbrev pub AfterErr : {R E : Type 0} (row : RattleType) → (R → MutBor row.Denot) → (row.Denot → row.Denot → Type 0)
     → MutBor row.Denot → Result R E → Fml
 AfterErr row sink says lent result = RestsIfErr row lent (λ r. (sink r).ghost_name) result (says lent.now)

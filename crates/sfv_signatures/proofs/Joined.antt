@@ -88,7 +88,7 @@ part_checked old new is_first x left all so_far other = go (list_all (λ c. nat_
         absurd (other (IsUtf8-from_ascii x (ascii_from x (ascii_part sep x (ascii_part (sep ++ x) rest p.1).0).1)))
     go false e = rw e refl
 
--- the error of a line, as that of the value
+-- the error of a line, as the error of the value
 pub plain_fault : (old new : List ℕ) (is_first : Bool) (x : List ℕ) (left all : List (List ℕ)) (kind e : BaseErrorKind)
     → IsSoFar old new is_first (x ∷ left) all → UnlessMemory (λ kind. (kind ≡ kinds.NotAscii) × (IsUtf8 x → ⊥)) kind
     → kind ≡ e → UnlessMemory (λ k. IsChecked (λ r. r ≡ Ok (joined (codes ", ") all)) (Err k)) e

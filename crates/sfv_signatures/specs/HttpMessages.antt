@@ -38,7 +38,7 @@ string_of value = None
 abbrev pub string_param : List ℕ → RawParameters → Option (List ℕ)
 string_param key ps = option_and_then string_of (last_of key ps)
 
--- the name of a derived component begins with `@`, and any other name is that of a field
+-- the name of a derived component begins with `@`, and any other name is the name of a field
 abbrev pub is_derived : List ℕ → Bool
 is_derived name = option_map_or (λ c. c == byte "@") (slice_get name 0) false
 

@@ -69,7 +69,7 @@ abbrev pub Gives : Message → List RawItem → RawItem → Result (List ℕ) Ba
 Gives message before i r = (Any (AreSame i) before × (r ≡ Err kinds.Repeated))
     ⊎ ((¬ Any (AreSame i) before) × GivesFor message i.parameters i.bare r)
 
--- each identifier in order, after those of `pre`, has its value
+-- each identifier in order, after the identifiers `pre`, has its value
 abbrev pub HaveValues : Message → List RawItem → List RawItem → List (List ℕ) → Type 0
 HaveValues message pre [] [] = ⊤
 HaveValues message pre (i ∷ is) (v ∷ vs) = Gives message pre i (Ok v) × HaveValues message (pre ++ i ∷ []) is vs

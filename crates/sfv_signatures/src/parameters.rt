@@ -38,7 +38,7 @@ pub(crate) fn is_derived(name: &str) -> bool
     }
 }
 
-// Returns `true` if the name is that of a derived component.
+// Returns `true` if a derived component has this name.
 fn is_known(name: &str) -> bool
     ensures { result ≡ list_any (bytes_eq name.now) derived_names }
 {
@@ -66,7 +66,7 @@ fn is_allowed(name: &str, key: &str) -> bool
     !is_derived(name) && (key == "sf" || key == "key" || key == "bs" || key == "tr")
 }
 
-// Returns `true` if the value is a string, or else the flag `true`.
+// Returns `true` if the value is a string, or, for a flag, the boolean true.
 fn has_type(is_string: bool, value: &BareItem) -> bool
     ensures { result ≡ has_type is_string (bare_value value.now) }
 {

@@ -1,4 +1,4 @@
-//! Random messages: their bases are those of a second implementation, and no two have the same base unless they agree.
+//! Random messages: a second implementation gives the same bases, and no two have the same base unless they agree.
 
 use crate::common::{base_over, inner_list, part};
 use crate::sample::{

@@ -152,7 +152,7 @@ fn has_key(params: &[usize], key: &str) -> bool {
     false
 }
 
-// Three of four identifiers are those of fields and known components, and most have no parameter.
+// Three of four identifiers name fields and known components, and most have no parameter.
 fn random_identifier(alloc: Global, random: &mut Random) -> Result<Identifier, AllocError> {
     let mut params = Vec::new(alloc);
     let is_odd = random.below(16) == 0;

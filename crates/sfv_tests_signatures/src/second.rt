@@ -258,7 +258,7 @@ fn push_member(members: &[Member], key: &str, out: &mut Vec<u8>) -> Result<(), S
     Err(Stop::Rule(BaseErrorKind::NoMember))
 }
 
-// The value of the field `dict` by `sf` or `key`, and that of another field, which is no dictionary.
+// The value of the field `dict` by `sf` or `key`, and the value of another field, which is no dictionary.
 fn push_parsed(
     alloc: Global,
     lines: &[Line],

@@ -14,6 +14,6 @@ library_seed = record { initial = folding.initial }
 abbrev pub seed_of : ℕ → HashSeed
 seed_of number = record { initial = fold folding.write folding.initial (fed.u64 number) }
 
--- the seed is that of the eight bytes that a source wrote, as a little-endian number
+-- the seed of the eight bytes that a source wrote, as a little-endian number
 abbrev pub IsSeedFrom : (List ℕ → Type 0) → HashSeed → Type 0
 IsSeedFrom writes seed = (bytes : List ℕ) × writes bytes × (seed ≡ seed_of (from_le_bytes w64 bytes))
