@@ -3,7 +3,7 @@
 use crate::reading::{Answer, is_answer, read, read_into_dictionary, read_into_list, write_for};
 use crate::{copies, scripts, visiting, writing};
 use sfv::{Dictionary, Error, ErrorKind, FieldKind, Item, List, Version};
-use sfv_leaks::Repeated;
+use sfv_random::leaks::Repeated;
 use std::alloc::Global;
 
 /// A call, or a few calls that prepare one.

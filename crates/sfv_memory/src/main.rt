@@ -20,7 +20,7 @@ mod writing;
 
 use crate::calls::{CALLS, perform};
 use sfv::{Error, OutOfMemory};
-use sfv_leaks::keeps_memory;
+use sfv_random::leaks::keeps_memory;
 use std::alloc::Global;
 use std::io;
 use std::io::Read;

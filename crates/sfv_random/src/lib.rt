@@ -1,8 +1,10 @@
-//! Numbers, fields and texts that a seed determines (the generator SplitMix64), and keys that collide under a hash seed.
+//! Numbers, fields and texts that a seed determines (the generator SplitMix64), keys that collide under a hash seed, and
+//! whether a call loses memory.
 #![tactic(auto)]
 
 pub mod fields;
 pub mod keys;
+pub mod leaks;
 pub mod texts;
 
 /// A source of numbers.

@@ -12,7 +12,7 @@ use sfv::{
     Parser, TokenRef, integer, key_ref, token_ref,
 };
 use sfv_examples::expecting::{expect, string, token};
-use sfv_leaks::{Repeated, keeps_memory};
+use sfv_random::leaks::{Repeated, keeps_memory};
 use std::alloc::Global;
 use std::convert::Infallible;
 use std::fmt::Display;

@@ -2,8 +2,8 @@
 
 use crate::common::is_tight;
 use sfv::{Dictionary, Parser, Version};
-use sfv_answers::answer::answer_priority;
-use sfv_answers::priority::{Priority, priority_from_dictionary, read_priority, write_priority};
+use sfv_tool_lib::answer::answer_priority;
+use sfv_tool_lib::priority::{Priority, priority_from_dictionary, read_priority, write_priority};
 use std::alloc::Global;
 
 /// Returns `true` if the input is a dictionary with this priority.

@@ -7,8 +7,6 @@ use sfv::{
     BareItem, BareItemFromInput, Dictionary, Error, ErrorKind, FieldKind, HashSeed, Integer, Item,
     List, OutOfMemory, ParseError, Parser, Version, key_ref,
 };
-use sfv_answers::answer::{ToolFault, answer, answer_priority};
-use sfv_answers::priority::read_priority;
 use sfv_examples::expecting::{dictionary, expect, item, list, string, token};
 use sfv_examples::foo::read_foo;
 use sfv_examples::reading::{
@@ -23,8 +21,10 @@ use sfv_first_field::mobile_hint::{HintError, is_mobile};
 use sfv_http_fields::cache_status::last_hit;
 use sfv_http_fields::content_digest::{DigestError, read};
 use sfv_http_fields::proxy_status::reading::last_proxy;
-use sfv_leaks::{Repeated, keeps_memory_of};
 use sfv_random::Random;
+use sfv_random::leaks::{Repeated, keeps_memory_of};
+use sfv_tool_lib::answer::{ToolFault, answer, answer_priority};
+use sfv_tool_lib::priority::read_priority;
 use std::alloc::Global;
 use std::test::Fail;
 

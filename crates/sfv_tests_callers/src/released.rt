@@ -9,7 +9,7 @@ use crate::uses::{are_repeated, hold, is_written, two};
 use sfv::{Dictionary, ErrorKind, Parser, StringFromInput, key_ref, string_ref, token_ref};
 use sfv_examples::lookups::{remove_member, replace_member};
 use sfv_http_fields::proxy_status::reading::Name;
-use sfv_leaks::{Repeated, keeps_memory};
+use sfv_random::leaks::{Repeated, keeps_memory};
 use std::alloc::Global;
 use std::test::Fail;
 

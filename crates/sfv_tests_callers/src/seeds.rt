@@ -3,8 +3,8 @@
 
 use crate::common::of_size;
 use sfv::random_seed;
-use sfv_answers::run::{run, run_with_random_seed};
 use sfv_random::keys::{colliding_keys, joined};
+use sfv_tool_lib::run::{run, run_with_random_seed};
 use std::io;
 use std::random::RandomSource;
 use std::rt::Clock;

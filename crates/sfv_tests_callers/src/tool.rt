@@ -2,9 +2,9 @@
 
 use crate::common::{ladder, of_size};
 use sfv::{FieldKind, HashSeed, Version, random_seed};
-use sfv_answers::answer::{answer, answer_priority};
-use sfv_answers::run::{report, run, run_with_random_seed};
 use sfv_random::Random;
+use sfv_tool_lib::answer::{answer, answer_priority};
+use sfv_tool_lib::run::{report, run, run_with_random_seed};
 use std::alloc::Global;
 use std::cell::Cell;
 use std::hash::{BuildHasher, Hasher};

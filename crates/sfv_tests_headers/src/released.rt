@@ -3,7 +3,7 @@
 use crate::digests::matches;
 use crate::sec_ch_ua::has_brands;
 use crate::values::{Kind, has_text, is_written};
-use sfv_leaks::{Repeated, keeps_memory};
+use sfv_random::leaks::{Repeated, keeps_memory};
 use std::alloc::Global;
 use std::test::Fail;
 

@@ -2,7 +2,7 @@
 //! members without their default value.
 #![tactic(auto)]
 
-use sfv_answers::run::{report, run_with_random_seed};
+use sfv_tool_lib::run::{report, run_with_random_seed};
 use std::alloc::AllocGlobal;
 use std::env::Env;
 use std::io::{ErrorKind, Write};

@@ -5,8 +5,8 @@ use crate::tests::common::{
 };
 use crate::{sfv_c_canonical, sfv_c_check, sfv_c_spans, sfv_c_write_spans};
 use sfv::{Dictionary, FieldType, Item, List, Parser, Version};
-use sfv_leaks::{Repeated, keeps_memory};
 use sfv_random::Random;
+use sfv_random::leaks::{Repeated, keeps_memory};
 use std::alloc::{AllocError, Global};
 use std::test::Fail;
 

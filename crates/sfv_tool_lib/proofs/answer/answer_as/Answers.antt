@@ -1,7 +1,7 @@
 use Rattle.std.proofs.Common.{inl, sym, subst}
 use Rattle.sfv.specs.Statements.{IsSerializedAs}
-use Rattle.sfv_answers.proofs.Lines.{serialized_line, answered, write_fails}
-use Rattle.sfv_answers.proofs.answer.answer_as.Goals as goal
+use Rattle.sfv_tool_lib.proofs.Lines.{serialized_line, answered, write_fails}
+use Rattle.sfv_tool_lib.proofs.answer.answer_as.Goals as goal
 
 pub returns-in_err-text-clause-failed : goal.returns-in_err-text-clause-failed
 returns-in_err-text-clause-failed g c =

@@ -9,9 +9,9 @@ use Rattle.sfv.specs.Types.{FieldKind, item_field, list_field, dictionary_field,
 use Rattle.sfv.specs.Canonical.{canonical}
 use Rattle.sfv.specs.Statements.{IsParsedAs, IsSerializedAs}
 use Rattle.sfv.specs.Versions.{IsSerializeError}
-use Rattle.sfv_answers.specs.declared.answer.ToolFault.{ToolFault}
-use Rattle.sfv_answers.specs.declared.answer.ToolFault.TheVariants as faults
-use Rattle.sfv_answers.specs.Answers.{text_or_empty, without_newline, IsAnswer, IsToolFault, IsPriorityFault}
+use Rattle.sfv_tool_lib.specs.declared.answer.ToolFault.{ToolFault}
+use Rattle.sfv_tool_lib.specs.declared.answer.ToolFault.TheVariants as faults
+use Rattle.sfv_tool_lib.specs.Answers.{text_or_empty, without_newline, IsAnswer, IsToolFault, IsPriorityFault}
 use Rattle.sfv.specs.Types.serialize_errors as errors
 use Rattle.sfv_http_fields.specs.Priority.{PriorityValue, IsPriorityOf}
 

@@ -5,11 +5,11 @@ ghost use Rattle.std.specs.Prelude.{IsTrue, map, codes, string_bytes};
 ghost use Rattle.std.specs.Io.KnownBytes.{Appends};
 ghost use Rattle.std.specs.IoError.{error_kind};
 ghost use Rattle.std.specs.declared.io.ErrorKind.TheVariants as kinds;
-ghost use Rattle.sfv_answers.specs.declared.run.Failure.TheVariants as failures;
-ghost use Rattle.sfv_answers.specs.Runs.{Names, NamesNothing, Requests, IsAnswered, IsFailed, IsUnread, IsReadFailure, IsOfCommand};
-ghost use Rattle.sfv_answers.specs.Runs.{IsAnswerFor, IsFaultOf, NamesPriority, NamesNoField, NamesNoPriority};
-ghost use Rattle.sfv_answers.specs.Runs.{field_word, version_word, priority_word, NamesFieldType};
-ghost use Rattle.sfv_answers.specs.Runs.{failure_text, failure_status, IsBuiltFor};
+ghost use Rattle.sfv_tool_lib.specs.declared.run.Failure.TheVariants as failures;
+ghost use Rattle.sfv_tool_lib.specs.Runs.{Names, NamesNothing, Requests, IsAnswered, IsFailed, IsUnread, IsReadFailure, IsOfCommand};
+ghost use Rattle.sfv_tool_lib.specs.Runs.{IsAnswerFor, IsFaultOf, NamesPriority, NamesNoField, NamesNoPriority};
+ghost use Rattle.sfv_tool_lib.specs.Runs.{field_word, version_word, priority_word, NamesFieldType};
+ghost use Rattle.sfv_tool_lib.specs.Runs.{failure_text, failure_status, IsBuiltFor};
 
 use crate::answer::{ToolFault, answer, answer_priority};
 use sfv::{FieldKind, HashSeed, Version, random_seed};

@@ -4,15 +4,15 @@ use Rattle.std.specs.Io.KnownBytes.{Keeps, Appends}
 use Rattle.sfv.specs.Types.{Version, item_field, list_field, dictionary_field}
 use Rattle.sfv.specs.Types.versions as version
 use Rattle.sfv.specs.Types.{FieldKind}
-use Rattle.sfv_answers.specs.declared.run.Request.{Request}
-use Rattle.sfv_answers.specs.declared.run.Request.TheVariants as request
+use Rattle.sfv_tool_lib.specs.declared.run.Request.{Request}
+use Rattle.sfv_tool_lib.specs.declared.run.Request.TheVariants as request
 use Rattle.sfv.specs.Parsers.{IsBuiltUnder}
 use Rattle.sfv.specs.Types.{HashSeed}
-use Rattle.sfv_answers.specs.declared.answer.ToolFault.{ToolFault}
-use Rattle.sfv_answers.specs.declared.run.Failure.{Failure}
-use Rattle.sfv_answers.specs.declared.run.Failure.TheVariants as failures
-use Rattle.sfv_answers.specs.Answers.{IsAnswerTo, IsFaultFor, IsPriorityAnswer, IsPriorityFault}
-use Rattle.sfv_answers.specs.Answers.{without_newline, tool_fault_text}
+use Rattle.sfv_tool_lib.specs.declared.answer.ToolFault.{ToolFault}
+use Rattle.sfv_tool_lib.specs.declared.run.Failure.{Failure}
+use Rattle.sfv_tool_lib.specs.declared.run.Failure.TheVariants as failures
+use Rattle.sfv_tool_lib.specs.Answers.{IsAnswerTo, IsFaultFor, IsPriorityAnswer, IsPriorityFault}
+use Rattle.sfv_tool_lib.specs.Answers.{without_newline, tool_fault_text}
 
 -- the argument for a field type
 abbrev pub field_word : FieldKind → List ℕ

@@ -1,8 +1,8 @@
 use Rattle.std.proofs.Common.{◌≡◌, ℕ, List, ◌++◌, ap, ◌∙◌}
 use Rattle.std.specs.Prelude.{codes, string_bytes}
 use Rattle.sfv_http_fields.specs.Priority.{priority_text, value_of}
-use Rattle.sfv_answers.proofs.Lines.{priority_unwritten}
-use Rattle.sfv_answers.proofs.answer.answer_priority.Goals as goal
+use Rattle.sfv_tool_lib.proofs.Lines.{priority_unwritten}
+use Rattle.sfv_tool_lib.proofs.answer.answer_priority.Goals as goal
 
 pub returns-clause-accepted : goal.returns-clause-accepted
 returns-clause-accepted c =

@@ -1,7 +1,6 @@
 //! Whether a call loses memory.
 //!
 //! A call is made often, and the memory of the process is compared. Linux has its size in `/proc/self/statm`.
-#![tactic(auto)]
 
 use std::alloc::Global;
 use std::{fs, io};

@@ -12,8 +12,8 @@ use Rattle.sfv.specs.Parsers.{IsParseError}
 use Rattle.sfv.specs.Versions.{IsSerializeError, serialize_error_text}
 use Rattle.sfv.specs.Types.serialize_errors as serialize_errors
 use Rattle.sfv_http_fields.specs.Priority.{PriorityValue, priority_text, IsPriorityOf, ErrorNeedsMark}
-use Rattle.sfv_answers.specs.declared.answer.ToolFault.{ToolFault}
-use Rattle.sfv_answers.specs.declared.answer.ToolFault.TheVariants as faults
+use Rattle.sfv_tool_lib.specs.declared.answer.ToolFault.{ToolFault}
+use Rattle.sfv_tool_lib.specs.declared.answer.ToolFault.TheVariants as faults
 
 -- the input without one final newline, if there is one
 abbrev pub without_newline : List ℕ → List ℕ

@@ -1,12 +1,12 @@
 //! The results of the program `sfv_tool` for an input.
 
 ghost use Rattle.std.specs.Prelude.{◌≡◌, ◌++◌, Some, IfOk, IfErr, OnOk, codes, string_bytes};
-ghost use Rattle.sfv_answers.specs.Answers.{without_newline, text_or_empty, tool_fault_text, IsAnswer, IsToolFault};
-ghost use Rattle.sfv_answers.specs.Answers.{IsAnswerTo, IsFaultFor, IsPriorityAnswer, IsPriorityFault};
+ghost use Rattle.sfv_tool_lib.specs.Answers.{without_newline, text_or_empty, tool_fault_text, IsAnswer, IsToolFault};
+ghost use Rattle.sfv_tool_lib.specs.Answers.{IsAnswerTo, IsFaultFor, IsPriorityAnswer, IsPriorityFault};
 ghost use Rattle.sfv.specs.Parsers.{IsParseError, IsBuiltUnder};
 ghost use Rattle.sfv.specs.Statements.{IsParsedAs};
 ghost use Rattle.sfv.specs.Types.serialize_errors as serialize_errors;
-ghost use Rattle.sfv_answers.specs.declared.answer.ToolFault.TheVariants as faults;
+ghost use Rattle.sfv_tool_lib.specs.declared.answer.ToolFault.TheVariants as faults;
 
 use sfv::{
     Dictionary, Error, FieldKind, FieldType, HashSeed, Item, List, OutOfMemory, Parser,
