@@ -9,7 +9,6 @@ pub mod Expected
 pub mod LastRead
 pub mod Fields
 pub mod Lines
-mod FirstByteFaults
 mod Emptiness
 pub mod Elements
 pub mod Needed

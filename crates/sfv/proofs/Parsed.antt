@@ -44,7 +44,7 @@ located_at version kind t f index e here le =
     subst (IsFaultAt version kind t f.kind) same (fault_is_at version kind t f e)
 
 -- an error by its kind and its index
-unnamed : (e : Error) → e.index ≡ None → e.kind ≡ OutOfMemory → e ≡ out_of_memory
+pub unnamed : (e : Error) → e.index ≡ None → e.kind ≡ OutOfMemory → e ≡ out_of_memory
 unnamed e i k = ap (λ (o : Option ℕ). error_of e.kind o) i ∙ ap (λ (kind : ErrorKind). error_of kind None) k
 
 pub located_fault : {A : Type 0} (answer : Result A Fault) (k : ErrorKind) (r : List ℕ) → located_whole answer

@@ -20,10 +20,7 @@ ghost use Rattle.sfv_writer.specs.Written.{AppendsOrKeeps, LacksRoom};
 ghost use Rattle.sfv.specs.Parsers.{input_of, version_of, IsParseError};
 ghost use Rattle.sfv.specs.Memory.{NeedsMemory};
 
-use crate::parser::{
-    Parser, expect_dictionary_start, expect_item_start, expect_list_start, parse_item,
-    parse_members,
-};
+use crate::parser::{Parser, parse_item, parse_members};
 use sfv_base::error::{Error, OutOfMemory};
 use sfv_spec::version::Version;
 use sfv_tree::parsed::{Dictionary, Item, List};
@@ -139,7 +136,6 @@ impl FieldType for Item {
     ghost into_written = { λ result text same. ap (option_map string_bytes) same };
 
     fn parse(alloc: Global, parser: Parser<'_>) -> Result<Item, Error> {
-        expect_item_start(parser, alloc)?;
         parse_item(parser, alloc)
     }
 
@@ -173,7 +169,6 @@ impl FieldType for List {
     ghost into_written = { λ result text same. ap (option_map string_bytes) same };
 
     fn parse(alloc: Global, parser: Parser<'_>) -> Result<List, Error> {
-        expect_list_start(parser, alloc)?;
         parse_members::<List>(parser, alloc)
     }
 
@@ -211,7 +206,6 @@ impl FieldType for Dictionary {
     ghost into_written = { λ result text same. ap (option_map string_bytes) same };
 
     fn parse(alloc: Global, parser: Parser<'_>) -> Result<Dictionary, Error> {
-        expect_dictionary_start(parser, alloc)?;
         parse_members::<Dictionary>(parser, alloc)
     }
 

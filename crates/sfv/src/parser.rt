@@ -23,7 +23,6 @@ mod cursor;
 mod digits;
 mod display_string;
 mod field;
-mod first_byte;
 mod item;
 mod key;
 mod member;
@@ -35,7 +34,6 @@ mod tree;
 mod visit;
 
 use field::{parse_item_field, parse_members_field};
-pub(crate) use first_byte::{expect_dictionary_start, expect_item_start, expect_list_start};
 use member::{Entry, KeyedEntry};
 pub(crate) use tree::{parse_item, parse_members};
 

@@ -1,140 +1,111 @@
--- Errors of functions that build trees, as those of a visitor that takes every event, and that fails where memory may
--- run out.
-use Rattle.std.proofs.Common.{◌≡◌, ℕ, List, [], ◌∷◌, ◌++◌, Option, Some, None, Ok, Err, map, refl, ap, inl, inr, subst}
-use Rattle.std.proofs.Common.{sym, arith}
-use Rattle.std.specs.Prelude.{⊤, IsTrue, MatchOption, flat_map}
-use Rattle.std.specs.List.{FoldsTo, Contains}
-use Rattle.std.proofs.lemmas.List.Elements.{Contains-append_left, Contains-append_right, Contains-append_cases}
-use Rattle.std.proofs.lemmas.List.Elements.{Contains-push, Contains-push_cases, Contains-get_or}
+-- Errors of functions that build trees: out of memory, or the fault of a reader.
+use Rattle.std.proofs.Common.{◌≡◌, ℕ, ◌≤◌, List, [], ◌∷◌, length, Option, Some, None, Ok, Err, drop, refl, subst}
+use Rattle.std.proofs.Common.{inl, inr}
+use Rattle.std.specs.Prelude.{⊤, ◌⊎◌, MatchOption}
+use Rattle.std.specs.List.{FoldsTo}
 use Rattle.std.specs.declared.alloc.Global.{Global}
-use Rattle.std.specs.declared.vec.Vec.{Vec}
-use Rattle.std.specs.declared.borrow.CowStr.{CowStr}
+use Rattle.sfv_spec.proofs.Marks.{backslash, percent_sign, colon}
+use Rattle.sfv_spec.specs.declared.error_kind.ErrorKind.{ErrorKind}
+use Rattle.sfv_spec.specs.declared.field_kind.FieldKind.{FieldKind}
+use Rattle.sfv_spec.specs.declared.field_kind.FieldKind.TheVariants.{Item as item_field}
 use Rattle.sfv_spec.specs.declared.version.Version.{Version}
-use Rattle.sfv_spec.specs.Values.{RawParameters, RawItem, RawMember, item, inner_list}
-use Rattle.sfv_spec.specs.Events.{TreeEvent, keyed_entry, begins_item, begins_inner_list, bare_item, parameter}
-use Rattle.sfv_spec.specs.Events.{parameters_end, inner_list_end, parameters_events, item_events, inner_item_events}
-use Rattle.sfv_spec.specs.Events.{member_events, keyed_events}
+use Rattle.sfv_spec.specs.Events.{TreeEvent}
 use Rattle.sfv_base.specs.declared.error.Error.{Error}
-use Rattle.sfv_base.specs.Errors.{index_of}
-use Rattle.sfv_base.specs.declared.error.ParseError.{ParseError}
-use Rattle.sfv_base.specs.declared.error.ParseError.TheVariants.{Syntax, Visitor}
-use Rattle.sfv_base.specs.declared.error.OutOfMemory.{OutOfMemory}
-use Rattle.sfv_values.specs.TokenText.{TokenRef}
-use Rattle.sfv_values.specs.declared.bare.GenericBareItem.{GenericBareItem}
-use Rattle.sfv_values.specs.declared.bare.GenericBareItem.TheVariants as bare
-use Rattle.sfv_values.specs.declared.bare.StringFromInput.{StringFromInput}
-use Rattle.sfv_values.specs.BareItems.{is_borrowed, is_text, input_value}
-use Rattle.sfv_model.specs.Reader.{Answer, Reader, visited}
+use Rattle.sfv_base.specs.Errors.{out_of_memory}
+use Rattle.sfv_model.specs.Reader.{Answer, Fault, Reader, led_answer, led}
+use Rattle.sfv_model.specs.Fields.{read_field}
+use Rattle.sfv.specs.declared.parser.Parser.{Parser}
 use Rattle.sfv.specs.declared.parser.cursor.Cursor.{Cursor}
-use Rattle.sfv.specs.parser.Cursor.{kept, input, version, rest, IsErrorOf}
-use Rattle.sfv.specs.parser.Trees.{FailsAs, TakesMemory}
-use Rattle.sfv.specs.parser.Visits.{VisitsAnswer, TookAll, IsOfVisitor}
+use Rattle.sfv.specs.Memory.{HoldsMark, IsRefusal, NeedsMemory}
+use Rattle.sfv.specs.Parsers.{IsParseError}
+use Rattle.sfv.specs.parser.Cursor.{kept, kept_input, kept_version, input, version, rest, MayNeedMemory, located}
+use Rattle.sfv.specs.parser.Cursor.{located_whole, IsFaultOf, IsErrorOf}
+use Rattle.sfv.specs.parser.Trees.{FailsAs}
+use Rattle.sfv.proofs.Parsed.{parse_error, unnamed}
 
+-- the loops of trees are those of a visitor that receives every event, and never fails
 abbrev pub Any : Unit {0} → TreeEvent → Unit {0} → Type 0
 Any s e t = ⊤
 
-abbrev pub NoMemory : Unit {0} → TreeEvent → OutOfMemory → Type 0
-NoMemory s e fault = TakesMemory e
+abbrev pub Never : Unit {0} → TreeEvent → Unit {0} → Type 0
+Never s e fault = ⊥
 
--- every run of events is taken
 pub any_run : (es : List TreeEvent) → FoldsTo Any tt es tt
 any_run [] = refl
 any_run (e ∷ es) = (tt, tt, any_run es)
 
-took_any : {A : Type 0} (parts : A → List TreeEvent) (e : Error) (answer : Answer A) → TookAll Any parts e answer tt tt
-took_any {A} parts e answer = on (index_of e)
+-- where `a` fails, `b` fails with the same kind at the same place
+abbrev pub FailsWith : {A B : Type 0} → Answer A → Answer B → Type 0
+FailsWith a b = (k : ErrorKind) (q : List ℕ) → located a ≡ Err (k, q) → located b ≡ Err (k, q)
+
+abbrev place : Fault → ErrorKind × List ℕ
+place f = (f.kind, f.rest)
+
+pub fault_of : {A : Type 0} (a : Answer A) (k : ErrorKind) (q : List ℕ) → located a ≡ Err (k, q)
+    → (f : Fault) × (a ≡ Err f) × (place f ≡ (k, q))
+fault_of (Ok x) k q h = absurd cc
+fault_of (Err f) k q h =
+    let there : ErrorKind × List ℕ = (k, q) in
+    let same : place f ≡ there = cc in
+    (f, refl, same)
+
+pub led_fails : {A : Type 0} (es : List TreeEvent) (f : Reader A) (t : List ℕ) → FailsWith (f t) (led es f t)
+unfolding led
+led_fails {A} es f t = on (f t)
   where
-    on : (o : Option ℕ) → MatchOption o ⊤ (λ index. FoldsTo Any tt (visited parts answer) tt)
-    on None = tt
-    on (Some i) = any_run (visited parts answer)
+    on : (a : Answer A) → FailsWith a (led_answer es a)
+    on (Ok x) k q h = absurd cc
+    on (Err f) k q h = h
 
-split_at : (es : List TreeEvent) (e : TreeEvent) → Contains es e
-    → (front : List TreeEvent) × (back : List TreeEvent) × (es ≡ front ++ e ∷ back)
-split_at [] e h = absurd (let lt = h.1 in omega arith)
-split_at (d ∷ es) e h = elim (Contains-append_cases (d ∷ []) es e h) [
-  | inl one ↦ elim (Contains-push_cases [] d e one) [
-    | inl none ↦ absurd (let lt = none.1 in omega arith)
-    | inr same ↦ ([], es, ap (λ (d : TreeEvent). d ∷ es) same)
-  ]
-  | inr more ↦ let s = split_at es e more in (d ∷ s.0, s.1, ap (λ (es : List TreeEvent). d ∷ es) s.2)
-]
+pub fault_with : {A B : Type 0} (t : List ℕ) (e : Error) (a : Answer A) (b : Answer B) → FailsWith a b
+    → IsFaultOf t e a → IsFaultOf t e b
+fault_with t e a b carry = on e.index
+  where
+    on : (o : Option ℕ) → MatchOption o ⊥ (λ index. (located a ≡ Err (e.kind, drop index t)) × (index ≤ length t))
+        → MatchOption o ⊥ (λ index. (located b ≡ Err (e.kind, drop index t)) × (index ≤ length t))
+    on None h = h
+    on (Some i) h = (carry _ _ h.0, h.1)
 
--- An error says nothing of the cursor after it, so any stands there.
-pub as_answer : {Y : Type 0} {parts : Y → List TreeEvent} {before : Cursor} {error : ParseError OutOfMemory}
-    {f : Version → Reader Y} → FailsAs parts before error f
-    → VisitsAnswer Any NoMemory parts (kept before) before tt tt (Err error) (f (version before) (rest before))
-as_answer {parts = parts} {before = before} {error = Syntax e} {f = f} h =
-    (h.syntax e refl, took_any parts e (f (version before) (rest before)))
-as_answer {parts = parts} {before = before} {error = Visitor fault} {f = f} h =
-    let m = h.memory fault refl in
-    let s = split_at (visited parts (f (version before) (rest before))) m.0 m.1 in
-    record {
-      before = s.0;
-      e = m.0;
-      after = s.1;
-      s = tt;
-      all = s.2;
-      taken = any_run s.0;
-      failed = m.2;
-    }
+-- a part fails, and the whole with it
+pub fails_in : {A B : Type 0} (f : Version → Reader A) (g : Version → Reader B) (whole part : Cursor) (e : Error)
+    → kept part ≡ kept whole → FailsWith (f (version whole) (rest part)) (g (version whole) (rest whole))
+    → FailsAs part e f → FailsAs whole e g
+fails_in f g whole part e same carry (inl out) = inl out
+fails_in f g whole part e same carry (inr fault) = inr (fault_with (input whole) e (f (version whole) (rest part))
+    (g (version whole) (rest whole)) carry
+    (subst (λ (k : Parser × Global). IsFaultOf (kept_input k) e (f (kept_version k) (rest part))) same fault))
 
-pub as_fault : {Y : Type 0} {parts : Y → List TreeEvent} {before : Cursor} {error : ParseError OutOfMemory}
-    {f : Version → Reader Y}
-    → VisitsAnswer Any NoMemory parts (kept before) before tt tt (Err error) (f (version before) (rest before))
-    → FailsAs parts before error f
-as_fault {before = before} {error = Syntax e} {f = f} h = record {
-  syntax = λ d same. let same : e ≡ d = cc in
-      subst (λ e. IsErrorOf (input before) e (f (version before) (rest before))) same h.0;
-  memory = λ m same. absurd cc;
-}
-as_fault {error = Visitor fault} h = record {
-  syntax = λ e same. absurd cc;
-  memory = λ m same. (
-    h.e,
-    subst (λ (es : List TreeEvent). Contains es h.e) (sym h.all)
-        (Contains-append_right h.before (h.e ∷ h.after) h.e (Contains-get_or (h.e ∷ h.after) 0 h.e (omega arith))),
-    h.failed,
-  );
-}
+-- ---- errors of functions that may run out of memory only after a mark
 
--- memory ran out after a value was read that has this event
-pub fails_after : {Y : Type 0} (parts : Y → List TreeEvent) (before : Cursor) (error : ParseError OutOfMemory)
-    (f : Version → Reader Y) (raw : Y) (q : List ℕ) (e : TreeEvent) → f (version before) (rest before) ≡ Ok (raw, q)
-    → Contains (parts raw) e → TakesMemory e → IsOfVisitor (λ _. ⊤) error → FailsAs parts before error f
-fails_after parts before (Syntax s) f raw q e read has takes failed = absurd failed
-fails_after {Y = Y} parts before (Visitor m) f raw q e read has takes failed = record {
-  syntax = λ s same. absurd cc;
-  memory = λ m same. (e, subst (λ (a : Answer Y). Contains (visited parts a) e) (sym read) has, takes);
-}
+pub refused : {A : Type 0} (t : List ℕ) (e : Error) (a : Answer A) → IsErrorOf t e a
+    → (e ≡ out_of_memory) ⊎ IsFaultOf t e a
+refused t e a = on e.index refl
+  where
+    on : (o : Option ℕ) → e.index ≡ o → MatchOption o (IsRefusal t e)
+        (λ index. (located a ≡ Err (e.kind, drop index t)) × (index ≤ length t)) → (e ≡ out_of_memory)
+        ⊎ MatchOption o ⊥ (λ index. (located a ≡ Err (e.kind, drop index t)) × (index ≤ length t))
+    on None i h = inl (unnamed e i h.0)
+    on (Some index) i h = inr h
 
--- ---- events at which a map or a list grows
+marked : (t : List ℕ) → HoldsMark t → MayNeedMemory item_field t
+marked t (inl h) = (backslash, h, refl)
+marked t (inr (inl h)) = (percent_sign, h, refl)
+marked t (inr (inr h)) = (colon, h, refl)
 
-parameters_ends : (ps : RawParameters) → Contains (parameters_events ps) parameters_end
-parameters_ends ps = Contains-push (map (λ p. parameter p.0 p.1) ps) parameters_end
+pub refused_needs : {A : Type 0} (t : List ℕ) (e : Error) (a : Answer A) → IsErrorOf t e a → NeedsMemory item_field t e
+refused_needs t e a h out = marked t (subst (λ (e : Error). IsErrorOf t e a) out h).1
 
-pub item_ends : (i : RawItem) → Contains (item_events i) parameters_end
-item_ends i = Contains-append_right (bare_item i.bare ∷ []) (parameters_events i.parameters) parameters_end
-    (parameters_ends i.parameters)
+-- ---- the error of a field
 
-pub member_ends : (m : RawMember) → Contains (member_events m) parameters_end
-member_ends (item i) = Contains-append_right (begins_item ∷ []) (item_events i) parameters_end (item_ends i)
-member_ends (inner_list l) = Contains-append_right (begins_inner_list ∷ flat_map inner_item_events l.items)
-    (inner_list_end ∷ parameters_events l.parameters) parameters_end
-    (Contains-append_right (inner_list_end ∷ []) (parameters_events l.parameters) parameters_end
-    (parameters_ends l.parameters))
-
-pub keyed_begins : (key : List ℕ) (m : RawMember) → Contains (keyed_events (key, m)) (keyed_entry key)
-keyed_begins key m = Contains-append_left (keyed_entry key ∷ []) (member_events m) (keyed_entry key)
-    (Contains-push [] (keyed_entry key))
-
--- only texts are borrowed
-pub borrowed_text : (item : GenericBareItem StringFromInput (Vec ℕ Global) TokenRef (CowStr Global))
-    → IsTrue (is_borrowed item) → IsTrue (is_text (input_value item))
-borrowed_text (bare.Decimal z) h = h
-borrowed_text (bare.Integer z) h = h
-borrowed_text (bare.String s) h = refl
-borrowed_text (bare.ByteSequence b) h = h
-borrowed_text (bare.Boolean b) h = h
-borrowed_text (bare.Token t) h = refl
-borrowed_text (bare.Date d) h = h
-borrowed_text (bare.DisplayString d) h = refl
+-- a part of the field fails, and the field with it
+pub field_fails : {A : Type 0} (version : Version) (kind : FieldKind) (t : List ℕ) (e : Error) (a : Answer A)
+    → ((k : ErrorKind) (q : List ℕ) → located a ≡ Err (k, q) → located_whole (read_field version kind t) ≡ Err (k, q))
+    → (e ≡ out_of_memory) ⊎ IsFaultOf t e a → IsParseError version kind t e
+field_fails version kind t e a carry (inl out) = inl out
+field_fails version kind t e a carry (inr fault) = parse_error version kind t e (on e.index fault)
+  where
+    on : (o : Option ℕ) → MatchOption o ⊥ (λ index. (located a ≡ Err (e.kind, drop index t)) × (index ≤ length t))
+        → MatchOption o (IsRefusal t e) (λ index. (located_whole (read_field version kind t)
+        ≡ Err (e.kind, drop index t)) × (index ≤ length t))
+    on None h = absurd h
+    on (Some n) h = (carry _ _ h.0, h.1)

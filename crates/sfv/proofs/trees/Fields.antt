@@ -1,6 +1,7 @@
 -- Whole lists and dictionaries that are built.
 use Rattle.std.proofs.Common.{◌≡◌, ℕ, Bool, true, false, List, [], ◌∷◌, ◌++◌, Ok, Err, refl, sym, ap, ◌∙◌, inl, inr}
-use Rattle.std.specs.Prelude.{⊤, Result, flat_map, is_some, cond, not}
+use Rattle.std.proofs.Common.{subst}
+use Rattle.std.specs.Prelude.{◌⊎◌, Result, OnOk, IfOk, IfErr, is_some, cond, not}
 use Rattle.std.specs.declared.alloc.Global.{Global}
 use Rattle.std.proofs.lemmas.Bool.{cases_Bool}
 use Rattle.std.proofs.lemmas.List.{map-append}
@@ -9,32 +10,32 @@ use Rattle.sfv_spec.specs.Values.{RawMember, RawField}
 use Rattle.sfv_spec.proofs.Marks.{is_space}
 use Rattle.sfv_spec.specs.declared.field_kind.FieldKind.TheVariants.{List as list_field, Dictionary as dictionary_field}
 use Rattle.sfv_spec.specs.declared.version.Version.{Version}
-use Rattle.sfv_spec.specs.Events.{TreeEvent, entry, member_events, entry_events}
+use Rattle.sfv_spec.specs.Events.{entry, entry_events, keyed_events, events}
 use Rattle.sfv_spec.specs.Ordered.{collapse, ordered_member}
 use Rattle.sfv_spec.specs.Statements.{IsParsedAs}
 use Rattle.sfv_spec.proofs.Collapse.{collapse-push}
 use Rattle.sfv_base.specs.declared.error.Error.{Error}
-use Rattle.sfv_base.specs.declared.error.ParseError.{ParseError}
-use Rattle.sfv_base.specs.declared.error.ParseError.TheVariants.{Syntax}
-use Rattle.sfv_base.specs.declared.error.OutOfMemory.{OutOfMemory}
-use Rattle.sfv_model.specs.Reader.{Answer, Reader, and_then, first, give, span}
-use Rattle.sfv_model.specs.Members.{member_at, entry_at}
-use Rattle.sfv_model.specs.Fields.{members_at, whole_field_at}
+use Rattle.sfv_base.specs.Errors.{out_of_memory}
+use Rattle.sfv_model.specs.Reader.{Answer, and_then, first, give, span}
+use Rattle.sfv_model.specs.Members.{member_at, entry_at, keyed_at}
+use Rattle.sfv_model.specs.Fields.{members_at, whole_field_at, read_field}
 use Rattle.sfv.specs.declared.parser.Parser.{Parser}
 use Rattle.sfv.specs.declared.parser.cursor.Cursor.{Cursor}
-use Rattle.sfv.specs.parser.Cursor.{kept, kept_input, kept_version, rest, MayNeedMemory}
-use Rattle.sfv.specs.parser.Members.{MemberValue, member_parts, one_member_at, field_of}
+use Rattle.sfv.specs.parser.Cursor.{kept, kept_input, kept_version, input, version, rest, MayNeedMemory, IsFaultOf}
+use Rattle.sfv.specs.parser.Members.{MemberValue, member_parts, one_member_at, some_members_at, field_of}
 use Rattle.sfv.specs.parser.Trees.{Builds, FailsAs, ordered_pairs, ordered_members, with_member}
-use Rattle.sfv.proofs.trees.Errors.{Any, NoMemory, as_answer}
+use Rattle.sfv.proofs.trees.Errors.{Any, Never, fails_in, field_fails}
+use Rattle.sfv.proofs.visits.Loops.{IsFirst, members_loop}
 use Rattle.sfv.specs.Parsers.{IsParseError}
 use Rattle.sfv.proofs.Memory.{first_in}
-use Rattle.sfv.proofs.Parsed.{parsed, parse_error}
+use Rattle.sfv.proofs.Parsed.{parsed}
 use Rattle.sfv.proofs.built.Items.{insert_entry-entered}
 use Rattle.sfv.proofs.built.Dictionaries.{collapse-over}
 use Rattle.sfv.proofs.trees.Parts.{led_builds}
-use Rattle.sfv.proofs.reads.Errors.{kept_reads}
-use Rattle.sfv.proofs.visits.Parts.{start_visits}
-use Rattle.sfv.proofs.visits.Fields.{whole_read, members_fail}
+use Rattle.sfv.proofs.reads.Delimiters.{members_none, members_first, first_of, at_end}
+use Rattle.sfv.proofs.reads.Errors.{fault_bind, kept_reads}
+use Rattle.sfv.proofs.visits.Fields.{whole_read}
+use Rattle.sfv.proofs.visits.Whole.{ending_located}
 
 -- ---- one more member
 
@@ -47,6 +48,11 @@ member_added true front m =
     ∙ collapse-push (ordered_pairs front) m.0 (ordered_member m.1)
     ∙ sym (insert_entry-entered (collapse (ordered_pairs front)) m.0 (ordered_member m.1))
 
+pub first_member : (keyed : Bool) (start : Cursor) → IsFirst Any Never (members_loop keyed) start
+    (some_members_at keyed (version start) (rest start)) start
+unfolding first_of
+first_member keyed start = (refl, refl)
+
 -- the dictionary without members
 pub no_pairs : [] ≡ ordered_members true []
 unfolding collapse
@@ -54,11 +60,11 @@ no_pairs = refl
 
 -- a list member, with its first event
 pub entry_builds : {X Z : Type 0} (view : X → Z) (collapsed : RawMember → Z) (before after : Cursor)
-    (r : Result X (ParseError OutOfMemory)) → Builds view collapsed member_events before after r member_at
-    → Builds view collapsed entry_events before after r entry_at
+    (r : Result X Error) → Builds view collapsed before after r member_at
+    → Builds view collapsed before after r entry_at
 unfolding entry_at
 entry_builds view collapsed before after r h =
-    led_builds view collapsed entry member_events member_at before after r h
+    led_builds view collapsed entry member_at before after r h
 
 -- ---- the whole
 
@@ -73,11 +79,16 @@ members_parsed true version t q ms value read end built =
     parsed version dictionary_field t ms value (whole_read version dictionary_field t q ms read end)
     (built ∙ collapse-over ordered_member ms)
 
-abbrev Answers : Unit {0} → Unit {0} → Type 0
-Answers s out = ⊤
-
-abbrev Ends : Unit {0} → OutOfMemory → Type 0
-Ends s fault = ⊤
+-- a fault of members is the field's
+members_rejected : (keyed : Bool) (version : Version) (t : List ℕ) (e : Error)
+    → (e ≡ out_of_memory) ⊎ IsFaultOf t e (members_at (member_parts keyed) (one_member_at keyed version) t)
+    → IsParseError version (field_of keyed) t e
+unfolding read_field whole_field_at
+members_rejected false version t e h = field_fails version list_field t e (members_at entry_events (entry_at version) t)
+    (λ k q f. ending_located (events list_field) (members_at entry_events (entry_at version) t) k q f) h
+members_rejected true version t e h =
+    field_fails version dictionary_field t e (members_at keyed_events (keyed_at version) t)
+    (λ k q f. ending_located (events dictionary_field) (members_at keyed_events (keyed_at version) t) k q f) h
 
 -- a byte after the spaces is another one
 more_after : (t s q : List ℕ) → span is_space t ≡ Ok (s, q) → is_some (first q) ≡ true → MayNeedMemory list_field t
@@ -117,26 +128,49 @@ pub members_need : (keyed : Bool) (t s q : List ℕ) → span is_space t ≡ Ok 
 members_need true t s q e some = more_after t s q e some
 members_need false t s q e some = more_after t s q e some
 
--- ---- from the start of the input
+-- ---- from the start of the input, after its spaces
 
-module _ (keyed : Bool) (start after : Cursor) (k : Parser × Global) (same : kept start ≡ k)
-    (whole : rest start ≡ kept_input k) where
-  abbrev reader : Version → Reader (List (MemberValue keyed))
-  reader version = members_at (member_parts keyed) (one_member_at keyed version)
+module _ (keyed : Bool) (start before : Cursor) (k : Parser × Global) (s : List ℕ) (same : kept before ≡ k)
+    (whole : rest start ≡ kept_input k) (spaces_first : span is_space (rest start) ≡ Ok (s, rest before)) where
+  skipped : span is_space (kept_input k) ≡ Ok (s, rest before)
+  skipped = subst (λ (t : List ℕ). span is_space t ≡ Ok (s, rest before)) whole spaces_first
 
-  abbrev parts : List (MemberValue keyed) → List TreeEvent
-  parts raw = flat_map (member_parts keyed) raw
+  -- nothing follows
+  pub none_read : (value : RawField (field_of keyed)) → is_some (first (rest before)) ≡ false
+      → value ≡ ordered_members keyed [] → IsParsedAs (kept_version k) (field_of keyed) (kept_input k) value
+  none_read value none empty = members_parsed keyed (kept_version k) (kept_input k) (rest before) [] value
+      (members_none (member_parts keyed) (one_member_at keyed (kept_version k)) (kept_input k) s (rest before) skipped
+      none) (at_end (rest before) none) empty
 
-  -- the value that was built is the text's
-  pub members_read : (value : RawField (field_of keyed)) → rest after ≡ []
-      → Builds (λ (u : Unit {0}). value) (ordered_members keyed) parts start after (Ok tt) reader
-      → IsParsedAs (kept_version k) (field_of keyed) (kept_input k) value
-  members_read value end h = members_parsed keyed (kept_version k) (kept_input k) (rest after) h.0 value
-      (ap (reader (kept_version k)) (sym whole) ∙ kept_reads reader (rest start) (kept start) k same ∙ h.1) end h.2
+  module _ (some : is_some (first (rest before)) ≡ true) where
+    all_at : members_at (member_parts keyed) (one_member_at keyed (kept_version k)) (kept_input k)
+        ≡ some_members_at keyed (kept_version k) (rest before)
+    unfolding first_of
+    all_at = members_first (member_parts keyed) (one_member_at keyed (kept_version k)) (kept_input k) s (rest before)
+        skipped some
 
-  -- the error is the text's
-  pub members_fault : (e : Error) → FailsAs parts start (Syntax e) reader
-      → IsParseError (kept_version k) (field_of keyed) (kept_input k) e
-  members_fault e h = parse_error (kept_version k) (field_of keyed) (kept_input k) e
-      (members_fail Any NoMemory Answers Ends keyed (kept_version k) k tt tt after (Syntax e)
-      (start_visits Any NoMemory parts reader start after tt tt k (Err (Syntax e)) same whole (as_answer h))).0
+    some_fail : (e : Error) → FailsAs before e (some_members_at keyed)
+        → IsParseError (kept_version k) (field_of keyed) (kept_input k) e
+    some_fail e h = members_rejected keyed (kept_version k) (kept_input k) e (rw all_at
+        (subst (λ (k : Parser × Global). (e ≡ out_of_memory)
+        ⊎ IsFaultOf (kept_input k) e (some_members_at keyed (kept_version k) (rest before))) same h))
+
+    -- no member begins here
+    pub first_rejected : (e : Error) → IsFaultOf (input before) e (one_member_at keyed (version before) (rest before))
+        → IsParseError (kept_version k) (field_of keyed) (kept_input k) e
+    first_rejected e fault = some_fail e (fails_in (one_member_at keyed) (some_members_at keyed) before before e refl
+        (fault_bind (one_member_at keyed (version before)) _ (rest before)) (inr fault))
+
+    module _ {X : Type 0} (view : X → RawField (field_of keyed)) (after : Cursor) where
+      pub members_read : (r : Result X Error) → OnOk r (rest after ≡ [])
+          → Builds view (ordered_members keyed) before after r (some_members_at keyed)
+          → IfOk r (λ x. IsParsedAs (kept_version k) (field_of keyed) (kept_input k) (view x))
+      members_read (Ok x) end h = members_parsed keyed (kept_version k) (kept_input k) (rest after) h.0 (view x)
+          (all_at ∙ kept_reads (some_members_at keyed) (rest before) (kept before) k same ∙ h.1) end h.2
+      members_read (Err e) end h = tt
+
+      pub members_fault : (r : Result X Error)
+          → Builds view (ordered_members keyed) before after r (some_members_at keyed)
+          → IfErr r (IsParseError (kept_version k) (field_of keyed) (kept_input k))
+      members_fault (Ok x) h = tt
+      members_fault (Err e) h = some_fail e h

@@ -1,33 +1,28 @@
 -- Whole items that are built.
-use Rattle.std.proofs.Common.{◌≡◌, ℕ, true, false, List, Some, Ok, refl, subst, ◌∙◌, inl, inr}
-use Rattle.std.specs.Prelude.{is_some}
+use Rattle.std.proofs.Common.{◌≡◌, ℕ, true, false, List, Some, Ok, refl, subst, ◌∙◌, inr}
+use Rattle.std.specs.Prelude.{◌⊎◌, is_some}
 use Rattle.std.specs.declared.alloc.Global.{Global}
-use Rattle.sfv_spec.proofs.Marks.{backslash, percent_sign, colon, is_space}
+use Rattle.sfv_spec.proofs.Marks.{is_space}
 use Rattle.sfv_spec.specs.Values.{RawItem}
-use Rattle.sfv_spec.specs.Events.{item_events}
 use Rattle.sfv_spec.specs.Ordered.{ordered_item}
 use Rattle.sfv_spec.specs.Statements.{IsParsedAs}
 use Rattle.sfv_spec.specs.declared.field_kind.FieldKind.TheVariants.{Item as item_field}
 use Rattle.sfv_spec.specs.declared.error_kind.ErrorKind.TheVariants.{TrailingCharactersAfterParsedValue}
 use Rattle.sfv_base.specs.declared.error.Error.{Error}
-use Rattle.sfv_base.specs.declared.error.ParseError.TheVariants.{Syntax}
-use Rattle.sfv_base.specs.Errors.{error_of}
+use Rattle.sfv_base.specs.Errors.{error_of, out_of_memory}
 use Rattle.sfv_model.specs.Reader.{first, span}
+use Rattle.sfv_model.specs.Bare.{bare_at}
 use Rattle.sfv_model.specs.Items.{item_at}
 use Rattle.sfv.specs.declared.parser.Parser.{Parser}
 use Rattle.sfv.specs.declared.parser.cursor.Cursor.{Cursor}
-use Rattle.sfv.specs.parser.Cursor.{kept, kept_input, kept_version, version, rest, IsErrorOf, MayNeedMemory}
+use Rattle.sfv.specs.parser.Cursor.{kept, kept_input, kept_version, input, version, rest, IsFaultOf}
 use Rattle.sfv.specs.parser.Trees.{FailsAs}
-use Rattle.sfv.specs.Memory.{HoldsMark, NeedsMemory}
 use Rattle.sfv.specs.Parsers.{IsParseError}
 use Rattle.sfv.proofs.Parsed.{parsed, parse_error}
-use Rattle.sfv.proofs.reads.Errors.{kept_reads, ErrorOf-same}
-use Rattle.sfv.proofs.visits.Whole.{field_error, field_trailing_error, field_done}
-
-marked : (t : List ℕ) → HoldsMark t → MayNeedMemory item_field t
-marked t (inl h) = (backslash, h, refl)
-marked t (inr (inl h)) = (percent_sign, h, refl)
-marked t (inr (inr h)) = (colon, h, refl)
+use Rattle.sfv.proofs.reads.Errors.{kept_reads}
+use Rattle.sfv.proofs.trees.Errors.{fails_in, field_fails}
+use Rattle.sfv.proofs.trees.Parts.{bare_fails}
+use Rattle.sfv.proofs.visits.Whole.{field_faulty, field_trailing_error, field_done}
 
 -- from the start of the input, after its spaces
 module _ (start before : Cursor) (k : Parser × Global) (s : List ℕ) (same : kept before ≡ k)
@@ -35,20 +30,19 @@ module _ (start before : Cursor) (k : Parser × Global) (s : List ℕ) (same : k
   skipped : span is_space (kept_input k) ≡ Ok (s, rest before)
   skipped = subst (λ (t : List ℕ). span is_space t ≡ Ok (s, rest before)) whole spaces_first
 
-  pub item_rejected : (e : Error) → FailsAs item_events before (Syntax e) item_at
+  pub item_rejected : (e : Error) → FailsAs before e item_at
       → IsParseError (kept_version k) item_field (kept_input k) e
-  item_rejected e h = parse_error (kept_version k) item_field (kept_input k) e
-      (field_error (kept_version k) (kept_input k) s (rest before) (kept_input k) e skipped
-      (ErrorOf-same (kept before) k e item_at (rest before) (item_at (kept_version k) (rest before)) same refl
-      (h.syntax e refl)))
+  item_rejected e h = field_fails (kept_version k) item_field (kept_input k) e
+      (item_at (kept_version k) (rest before))
+      (λ kind q. field_faulty (kept_version k) (kept_input k) s (rest before) kind q skipped)
+      (subst (λ (k : Parser × Global). (e ≡ out_of_memory)
+      ⊎ IsFaultOf (kept_input k) e (item_at (kept_version k) (rest before))) same h)
 
-  pub item_syntax_memory : (e : Error) → FailsAs item_events before (Syntax e) item_at
-      → NeedsMemory item_field (kept_input k) e
-  item_syntax_memory e h out =
-      let i = ErrorOf-same (kept before) k e item_at (rest before) (item_at (kept_version k) (rest before)) same refl
-      (h.syntax e refl) in
-      marked (kept_input k)
-      (subst (λ (e : Error). IsErrorOf (kept_input k) e (item_at (kept_version k) (rest before))) out i).1
+  -- no item begins here
+  pub start_rejected : (e : Error) → IsFaultOf (input before) e (bare_at (version before) (rest before))
+      → IsParseError (kept_version k) item_field (kept_input k) e
+  start_rejected e fault = item_rejected e (fails_in bare_at item_at before before e refl
+      (bare_fails (version before) (rest before)) (inr fault))
 
   module _ (between after : Cursor) (raw : RawItem) (spaces : List ℕ)
       (read : item_at (version before) (rest before) ≡ Ok (raw, rest between))

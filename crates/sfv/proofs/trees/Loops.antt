@@ -1,18 +1,24 @@
 -- Parts that are built one by one, each after a delimiter: the items of inner lists, and members.
-use Rattle.std.proofs.Common.{◌≡◌, true, false, List, [], ◌∷◌, ◌++◌, map, Ok, sym, ap, subst, ◌∙◌}
+use Rattle.std.proofs.Common.{◌≡◌, ℕ, true, false, List, [], ◌∷◌, ◌++◌, map, Ok, Err, sym, ap, subst, ◌∙◌, inr}
 use Rattle.std.proofs.lemmas.List.{map-append}
 use Rattle.sfv_spec.specs.Values.{RawItem}
+use Rattle.sfv_spec.specs.declared.error_kind.ErrorKind.{ErrorKind}
+use Rattle.sfv_spec.specs.declared.version.Version.{Version}
+use Rattle.sfv_base.specs.declared.error.Error.{Error}
 use Rattle.sfv_spec.specs.Ordered.{ordered_item}
 use Rattle.std.specs.declared.alloc.Global.{Global}
 use Rattle.sfv_tree.specs.declared.hash_seed.HashSeed.{HashSeed}
-use Rattle.sfv_model.specs.Reader.{Answer}
+use Rattle.sfv_model.specs.Reader.{Answer, Reader}
 use Rattle.sfv.specs.declared.parser.Parser.{Parser}
 use Rattle.sfv.specs.declared.parser.cursor.Cursor.{Cursor}
-use Rattle.sfv.specs.parser.Cursor.{kept, version, rest}
-use Rattle.sfv.proofs.trees.Errors.{Any, NoMemory, any_run}
+use Rattle.sfv.specs.parser.Cursor.{kept, version, input, rest, located, IsFaultOf}
+use Rattle.sfv.specs.parser.Trees.{FailsAs}
+use Rattle.sfv.proofs.reads.Delimiters.{first_of}
+use Rattle.sfv.proofs.trees.Errors.{Any, Never, FailsWith, any_run, fault_of, fails_in}
+use Rattle.sfv.proofs.reads.Errors.{fault_bind}
 use Rattle.sfv.specs.parser.Visits.{Visits}
 use Rattle.sfv.proofs.visits.Loops.{Loop, VisitedSoFar, Wants, IsFirst, begun, begun_at, more as visited_more, more_at}
-use Rattle.sfv.proofs.visits.Loops.{ended}
+use Rattle.sfv.proofs.visits.Loops.{ended, faulty, next_one}
 
 -- What was read of a whole since the start, and what was built from it: `all` of what was read.
 pub record BuiltSoFar {A W : Type 0} (l : Loop A) (all : List A → W) (start : Cursor) (total : Answer (List A))
@@ -39,18 +45,18 @@ module _ {A W : Type 0} (l : Loop A) (more : W → A → W) (middle after : Curs
       × (kept after ≡ kept middle)
 
   -- the same, visited
-  unfoldable pub as_one : BuildsOne → Visits Any NoMemory l.parts middle after tt tt (Ok tt) l.one
+  unfoldable pub as_one : BuildsOne → Visits Any Never l.parts middle after tt tt (Ok tt) l.one
   as_one one = (one.0, one.1, any_run (l.parts one.0), one.3)
 
 module _ {A W : Type 0} (l : Loop A) (all : List A → W) (more : W → A → W)
     (step : (front : List A) (v : A) → all (front ++ v ∷ []) ≡ more (all front) v) (start : Cursor)
     (total : Answer (List A)) where
   -- after the first
-  pub built_first : (middle after : Cursor) (before built : W) → IsFirst Any NoMemory l start total middle
+  pub built_first : (middle after : Cursor) (before built : W) → IsFirst Any Never l start total middle
       → before ≡ all [] → BuildsOne l more middle after before built → BuiltSoFar l all start total after built
   unfolding begun begun_at as_one
   built_first middle after before built first none one = record {
-    visited = begun Any NoMemory l start total middle after tt tt first (as_one l more middle after before built one);
+    visited = begun Any Never l start total middle after tt tt first (as_one l more middle after before built one);
     is_built = one.2 ∙ ap (λ w. more w one.0) none ∙ sym (step [] one.0);
   }
 
@@ -59,7 +65,7 @@ module _ {A W : Type 0} (l : Loop A) (all : List A → W) (more : W → A → W)
       → Wants l true now middle → BuildsOne l more middle after before built → BuiltSoFar l all start total after built
   unfolding visited_more more_at as_one
   built_more now middle after before built h wanted one = record {
-    visited = visited_more Any NoMemory l start total now middle after tt tt tt h.visited wanted
+    visited = visited_more Any Never l start total now middle after tt tt tt h.visited wanted
         (as_one l more middle after before built one);
     is_built = one.2 ∙ ap (λ w. more w one.0) h.is_built ∙ sym (step h.visited.read.front one.0);
   }
@@ -69,8 +75,38 @@ module _ {A W : Type 0} (l : Loop A) (all : List A → W) (more : W → A → W)
       → (raw : List A) × (total ≡ Ok (raw, rest after)) × (built ≡ all raw) × (kept after ≡ kept start)
   unfolding ended
   built_all now after built h wanted =
-      let whole = ended Any NoMemory l start total now after tt tt h.visited wanted in
+      let whole = ended Any Never l start total now after tt tt h.visited wanted in
       (whole.0, whole.1, h.is_built, whole.3)
+
+-- an error ends the loop
+module _ {A : Type 0} (l : Loop A) (g : Version → Reader (List A)) (start : Cursor) where
+  abbrev total : Answer (List A)
+  total = g (version start) (rest start)
+
+  pub first_fails : (middle : Cursor) (e : Error) → IsFirst Any Never l start total middle → FailsAs middle e l.one
+      → FailsAs start e g
+  unfolding first_of
+  first_fails middle e first h = fails_in l.one g start middle e first.1
+      (λ k q f. ap located first.0 ∙ fault_bind (l.one (version start)) _ (rest middle) k q f) h
+
+  next_fails : (now : Cursor) → VisitedSoFar Any l start total now tt tt
+      → FailsWith (l.next (version start) (rest now)) total
+  next_fails now h k q fault =
+      let f = fault_of (l.next (version start) (rest now)) k q fault in
+      ap located (faulty l (version start) h.read.front (rest now) total f.0 h.read.so_far f.1)
+      ∙ ap (λ (p : ErrorKind × List ℕ). Err p) f.2
+
+  pub delimiter_fails : (now : Cursor) (e : Error) → VisitedSoFar Any l start total now tt tt
+      → IsFaultOf (input now) e (l.delimiter (rest now)) → FailsAs start e g
+  delimiter_fails now e h fault = fails_in (λ _. l.delimiter) g start now e h.same
+      (λ k q f. next_fails now h k q (ap located (l.is_next (version start) (rest now))
+      ∙ fault_bind l.delimiter _ (rest now) k q f)) (inr fault)
+
+  pub one_fails : (now middle : Cursor) (e : Error) → VisitedSoFar Any l start total now tt tt → Wants l true now middle
+      → FailsAs middle e l.one → FailsAs start e g
+  one_fails now middle e h wanted one = fails_in l.one g start middle e (wanted.1 ∙ h.same)
+      (λ k q f. next_fails now h k q (ap located (next_one l (version start) (rest now) (rest middle) wanted.0)
+      ∙ fault_bind (l.one (version start)) _ (rest middle) k q f)) one
 
 -- ---- the items of an inner list
 

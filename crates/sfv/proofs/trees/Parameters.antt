@@ -1,5 +1,5 @@
 -- The loop over parameters that are inserted into a map.
-use Rattle.std.proofs.Common.{◌≡◌, ℕ, List, [], Some, Ok, sym, ap, ◌∙◌}
+use Rattle.std.proofs.Common.{◌≡◌, ℕ, List, [], Some, Ok, Err, sym, ap, ◌∙◌}
 use Rattle.std.specs.Prelude.{bytes_eq}
 use Rattle.indexmap.specs.IndexMap.{insert_entry}
 use Rattle.sfv_spec.specs.Values.{BareValue, RawParameters}
@@ -7,8 +7,12 @@ use Rattle.sfv_spec.specs.declared.version.Version.{Version}
 use Rattle.sfv_spec.specs.Ordered.{collapse}
 use Rattle.sfv_spec.proofs.Collapse.{collapse-push}
 use Rattle.sfv_tree.specs.Trees.{OwnedBareItem, pairs_tree}
-use Rattle.sfv_model.specs.Items.{parameter_at}
-use Rattle.sfv.proofs.trees.Errors.{Any}
+use Rattle.sfv_spec.specs.declared.error_kind.ErrorKind.{ErrorKind}
+use Rattle.sfv_model.specs.Items.{parameter_event, parameter_at, parameters_at}
+use Rattle.sfv_model.proofs.sound.Items.{Consumes-parameter}
+use Rattle.sfv_model.proofs.sound.Many.{is_faulty}
+use Rattle.sfv.specs.parser.Cursor.{located}
+use Rattle.sfv.proofs.trees.Errors.{Any, FailsWith, fault_of}
 use Rattle.sfv.proofs.built.Items.{insert_entry-entered}
 use Rattle.sfv.proofs.visits.Parameters.{VisitedParameters, visited_none, visited_more}
 
@@ -36,3 +40,13 @@ collected_more version start now r k v before after h read inserted = record {
   built = inserted ∙ ap (λ (ps : RawParameters). insert_entry bytes_eq ps k v) h.built
       ∙ insert_entry-entered (collapse h.visited.raw) k v ∙ sym (collapse-push h.visited.raw k v);
 }
+
+-- a parameter fails, and the loop with it
+pub collected_fails : (version : Version) (start now : List ℕ) (entries : List (List ℕ × OwnedBareItem))
+    → CollectedParameters version start now entries
+    → FailsWith (parameter_at version now) (parameters_at version start)
+unfolding parameters_at
+collected_fails version start now entries h k q fault =
+    let f = fault_of (parameter_at version now) k q fault in
+    ap located (is_faulty parameter_event (parameter_at version) (Consumes-parameter version) h.visited.raw now f.0
+    (parameters_at version start) f.1 h.visited.so_far) ∙ ap (λ (p : ErrorKind × List ℕ). Err p) f.2

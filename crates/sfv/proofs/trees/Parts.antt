@@ -1,34 +1,31 @@
 -- Items, inner lists and members that are built, by their parts.
 use Rattle.std.proofs.Common.{◌≡◌, ℕ, true, false, List, [], ◌∷◌, ◌++◌, map, None, Ok, Err, refl, sym, ap, ap₂, subst}
 use Rattle.std.proofs.Common.{◌∙◌}
-use Rattle.std.specs.Prelude.{All, Result, IfOk, IfErr, IsTrue, bytes_eq}
+use Rattle.std.specs.Prelude.{All, Result, bytes_eq}
 use Rattle.std.proofs.lemmas.List.{map-append}
 use Rattle.indexmap.specs.IndexMap.{insert_entry}
 use Rattle.sfv_spec.proofs.Marks.{equals_sign, left_parenthesis, true_with}
 use Rattle.sfv_spec.specs.Values.{BareValue, boolean, RawParameters, RawItem, RawMember, item, inner_list}
+use Rattle.sfv_spec.specs.Classes.{is_token_start}
+use Rattle.sfv_spec.specs.declared.error_kind.ErrorKind.TheVariants.{ExpectedStartOfBareItem}
 use Rattle.sfv_spec.specs.declared.version.Version.{Version}
-use Rattle.sfv_spec.specs.Events.{TreeEvent, begins_item, begins_inner_list, bare_item, member_events, keyed_entry}
-use Rattle.sfv_spec.specs.Events.{parameters_events, item_events}
+use Rattle.sfv_spec.specs.Events.{TreeEvent, entry, begins_item, begins_inner_list, bare_item, keyed_entry}
 use Rattle.sfv_spec.specs.Ordered.{collapse, ordered_item, ordered_member}
-use Rattle.sfv_base.specs.declared.error.ParseError.{ParseError}
-use Rattle.sfv_base.specs.declared.error.OutOfMemory.{OutOfMemory}
-use Rattle.sfv_model.specs.Reader.{Reader, led, give, ◌>>=◌, byte}
+use Rattle.sfv_base.specs.declared.error.Error.{Error}
+use Rattle.sfv_model.specs.Reader.{Apart, Reader, led, give, ◌>>=◌, byte}
 use Rattle.sfv_model.specs.Items.{key_at, parameter_event, parameter_at, parameters_at, item_at, item_of}
 use Rattle.sfv_model.specs.Bare.{bare_at}
 use Rattle.sfv_model.specs.Members.{inner_items_at, inner_at, inner_of, closed_events, member_at, member_value_at}
-use Rattle.sfv_model.specs.Members.{keyed_at}
+use Rattle.sfv_model.specs.Members.{entry_at, keyed_at}
 use Rattle.sfv_model.proofs.complete.Combinators.{bind_complete, led_complete}
 use Rattle.sfv_model.proofs.sound.Many.{starts, is_done}
 use Rattle.sfv_model.proofs.sound.Items.{Consumes-parameter}
 use Rattle.sfv.specs.declared.parser.cursor.Cursor.{Cursor}
-use Rattle.sfv.specs.parser.Cursor.{kept, version, rest, Reads, TakesIf}
-use Rattle.sfv.specs.parser.Trees.{Builds, FailsAs, EntriesHaveSeed}
-use Rattle.sfv.specs.parser.Visits.{IsOfVisitor}
-use Rattle.sfv.proofs.trees.Errors.{Any, NoMemory, as_answer, as_fault, borrowed_text}
-use Rattle.sfv.proofs.reads.Steps.{branch_true, item_some}
+use Rattle.sfv.specs.parser.Cursor.{kept, version, rest, located, TakesIf}
+use Rattle.sfv.specs.parser.Trees.{Builds, EntriesHaveSeed}
+use Rattle.sfv.proofs.trees.Errors.{Any, Never, FailsWith, led_fails, fails_in}
+use Rattle.sfv.proofs.reads.Steps.{branch_true, branch_false, item_some, NoOpener, bare_token, token_none}
 use Rattle.sfv.proofs.visits.InnerLists.{member_list, member_item}
-use Rattle.sfv_values.specs.BareItems.{bare_value, input_value, is_borrowed}
-use Rattle.sfv_tree.specs.ProvidedVisitors.{ReadBareItem}
 use Rattle.sfv_tree.specs.Trees.{OwnedBareItem, pairs_tree, item_tree, member_tree, list_tree, dictionary_tree}
 use Rattle.sfv_tree.specs.Seeds.{ItemHasSeed, MemberHasSeed, ListHasSeed}
 use Rattle.sfv_tree.specs.declared.hash_seed.HashSeed.{HashSeed}
@@ -36,10 +33,8 @@ use Rattle.sfv_tree.proofs.Entered.{dictionary_tree-insert}
 use Rattle.sfv_tree.proofs.Seeded.{all_push, all_entered}
 use Rattle.sfv_tree.specs.declared.parsed.Item.{Item}
 use Rattle.sfv_tree.specs.declared.parsed.ListEntry.{ListEntry}
-use Rattle.sfv.proofs.reads.Errors.{kept_reads}
-use Rattle.sfv.proofs.visits.Keyed.{true_is, value_visits}
-use Rattle.sfv.proofs.visits.Parameters.{of_visitor, bare_failed, item_visits}
-use Rattle.sfv.proofs.visits.Parts.{led_visits, kept_visits}
+use Rattle.sfv.proofs.reads.Errors.{fault_bind, kept_reads}
+use Rattle.sfv.proofs.visits.Keyed.{true_is}
 
 -- no parameters
 pub no_parameters : (version : Version) (t : List ℕ) → parameter_at version t ≡ Ok (None, t)
@@ -49,15 +44,13 @@ no_parameters version t e = is_done parameter_event (parameter_at version) (Cons
     (parameters_at version t) e (starts parameter_event (parameters_at version t))
 
 -- an event and then a part
-pub led_builds : {X Y Z : Type 0} (view : X → Z) (collapsed : Y → Z) (e : TreeEvent) (parts : Y → List TreeEvent)
-    (f : Version → Reader Y) (before after : Cursor) (r : Result X (ParseError OutOfMemory))
-    → Builds view collapsed parts before after r f
-    → Builds view collapsed (λ v. e ∷ parts v) before after r (λ version. led (e ∷ []) (f version))
-led_builds view collapsed e parts f before after (Ok x) h =
+pub led_builds : {X Y Z : Type 0} (view : X → Z) (collapsed : Y → Z) (e : TreeEvent) (f : Version → Reader Y)
+    (before after : Cursor) (r : Result X Error) → Builds view collapsed before after r f
+    → Builds view collapsed before after r (λ version. led (e ∷ []) (f version))
+led_builds view collapsed e f before after (Ok x) h =
     (h.0, led_complete (e ∷ []) (f (version before)) (rest before) (rest after) h.0 h.1, h.2, h.3)
-led_builds view collapsed e parts f before after (Err error) h =
-    as_fault (led_visits Any NoMemory e parts
-    (f (version before)) (rest before) tt tt tt (kept before) after (Err error) tt (as_answer h))
+led_builds view collapsed e f before after (Err error) h = fails_in f (λ version. led (e ∷ []) (f version)) before
+    before error refl (led_fails (e ∷ []) (f (version before)) (rest before)) h
 
 abbrev pub with_parts : BareValue → RawParameters → RawItem
 with_parts b ps = record { bare = b; parameters = ps }
@@ -89,13 +82,13 @@ inner_some version t q r is ps e k =
 pub member_list_some : (version : Version) (t q r : List ℕ) (m : RawMember)
     → TakesIf (byte left_parenthesis) true t q → inner_at version q ≡ Ok (m, r) → member_at version t ≡ Ok (m, r)
 member_list_some version t q r m takes e =
-    member_list Any NoMemory version t q takes ∙ led_complete (begins_inner_list ∷ []) (inner_at version) q r m e
+    member_list Any Never version t q takes ∙ led_complete (begins_inner_list ∷ []) (inner_at version) q r m e
 
 pub member_item_some : (version : Version) (t q r : List ℕ) (i : RawItem)
     → TakesIf (byte left_parenthesis) false t q → item_at version q ≡ Ok (i, r) → member_at version t ≡ Ok (item i, r)
 unfolding give
 member_item_some version t q r i takes e =
-    member_item Any NoMemory version t q takes
+    member_item Any Never version t q takes
     ∙ led_complete (begins_item ∷ []) (item_at version >>= λ i. give (item i)) q r (item i)
     (bind_complete (item_at version) _ q r i e)
 
@@ -108,7 +101,7 @@ pub true_some : (version : Version) (t q r : List ℕ) (ps : RawParameters) → 
     → parameters_at version q ≡ Ok (ps, r) → member_value_at version t ≡ Ok (true_with ps, r)
 unfolding give
 true_some version t q r ps takes e =
-    true_is Any NoMemory version t q takes
+    true_is Any Never version t q takes
     ∙ bind_complete _ _ q r ps (led_complete (begins_item ∷ []) _ q r ps
     (led_complete (bare_item (boolean true) ∷ []) (parameters_at version) q r ps e))
 
@@ -120,63 +113,98 @@ keyed_some version t q r key m e k =
     ∙ led_complete (keyed_entry key ∷ []) (member_value_at version >>= λ m. give (key, m)) q r (key, m)
     (bind_complete (member_value_at version) _ q r m k)
 
+-- ---- errors of readers, by their parts
+
+module _ (version : Version) where
+  pub bare_fails : (t : List ℕ) → FailsWith (bare_at version t) (item_at version t)
+  unfolding item_at
+  bare_fails t = fault_bind (bare_at version) _ t
+
+  -- no byte is next that a bare item begins with
+  pub bare_none : (t : List ℕ) → NoOpener t → Apart is_token_start t
+      → located (bare_at version t) ≡ Err (ExpectedStartOfBareItem, t)
+  bare_none t opener token = ap located (bare_token version t opener) ∙ token_none t token
+
+  pub later_fails : (t q : List ℕ) (b : BareValue) → bare_at version t ≡ Ok (b, q)
+      → FailsWith (parameters_at version q) (item_at version t)
+  unfolding item_at
+  later_fails t q b read k r h = ap located (bind_complete (bare_at version) _ t q b read)
+      ∙ led_fails (bare_item b ∷ []) _ q k r (fault_bind (parameters_at version) _ q k r h)
+
+  pub items_fail : (t : List ℕ) → FailsWith (inner_items_at version t) (inner_at version t)
+  unfolding inner_at
+  items_fail t = fault_bind (inner_items_at version) _ t
+
+  pub closed_fails : (t q : List ℕ) (is : List RawItem) → inner_items_at version t ≡ Ok (is, q)
+      → FailsWith (parameters_at version q) (inner_at version t)
+  unfolding inner_at
+  closed_fails t q is read k r h = ap located (bind_complete (inner_items_at version) _ t q is read)
+      ∙ led_fails (closed_events is) _ q k r (fault_bind (parameters_at version) _ q k r h)
+
+  pub list_fails : (t q : List ℕ) → TakesIf (byte left_parenthesis) true t q
+      → FailsWith (inner_at version q) (member_at version t)
+  list_fails t q takes k r h = ap located (member_list Any Never version t q takes)
+      ∙ led_fails (begins_inner_list ∷ []) (inner_at version) q k r h
+
+  pub item_fails : (t q : List ℕ) → TakesIf (byte left_parenthesis) false t q
+      → FailsWith (item_at version q) (member_at version t)
+  item_fails t q takes k r h = ap located (member_item Any Never version t q takes)
+      ∙ led_fails (begins_item ∷ []) _ q k r (fault_bind (item_at version) _ q k r h)
+
+  -- a list member that begins as no bare item does
+  pub entry_fails : (t : List ℕ) → Apart (byte left_parenthesis) t → FailsWith (bare_at version t) (entry_at version t)
+  unfolding entry_at
+  entry_fails t apart k r h = led_fails (entry ∷ []) (member_at version) t k r
+      (item_fails t t (refl, apart) k r (bare_fails t k r h))
+
+  pub value_fails : (t q : List ℕ) → TakesIf (byte equals_sign) true t q
+      → FailsWith (member_at version q) (member_value_at version t)
+  unfolding member_value_at
+  value_fails t q takes k r h = ap located (branch_true (byte equals_sign) _ _ t q takes) ∙ h
+
+  pub true_fails : (t q : List ℕ) → TakesIf (byte equals_sign) false t q
+      → FailsWith (parameters_at version q) (member_value_at version t)
+  unfolding member_value_at
+  true_fails t q takes k r h = ap located (branch_false (byte equals_sign) _ _ t q takes)
+      ∙ led_fails _ _ q k r (fault_bind (parameters_at version) _ q k r h)
+
+  pub key_fails : (t : List ℕ) → FailsWith (key_at t) (keyed_at version t)
+  unfolding keyed_at
+  key_fails t = fault_bind key_at _ t
+
+  pub keyed_fails : (t q key : List ℕ) → key_at t ≡ Ok (key, q)
+      → FailsWith (member_value_at version q) (keyed_at version t)
+  unfolding keyed_at
+  keyed_fails t q key read k r h = ap located (bind_complete key_at _ t q key read)
+      ∙ led_fails (keyed_entry key ∷ []) _ q k r (fault_bind (member_value_at version) _ q k r h)
+
 -- after an equals sign
-pub value_builds : {X : Type 0} (view : X → RawMember) (before middle after : Cursor)
-    (r : Result X (ParseError OutOfMemory)) → TakesIf (byte equals_sign) true (rest before) (rest middle)
-    → kept middle ≡ kept before → Builds view ordered_member member_events middle after r member_at
-    → Builds view ordered_member member_events before after r member_value_at
-value_builds view before middle after (Ok m) takes same h = (
+pub value_builds : (before middle after : Cursor) (r : Result ListEntry Error)
+    → TakesIf (byte equals_sign) true (rest before) (rest middle) → kept middle ≡ kept before
+    → Builds member_tree ordered_member middle after r member_at
+    → Builds member_tree ordered_member before after r member_value_at
+value_builds before middle after (Ok m) takes same h = (
   h.0,
   value_some (version before) (rest before) (rest middle) (rest after) h.0 takes
       (kept_reads member_at (rest middle) (kept middle) (kept before) same ∙ h.1),
   h.2,
   h.3 ∙ same,
 )
-value_builds view before middle after (Err e) takes same h =
-    as_fault (value_visits Any NoMemory (version before) (rest before)
-    (rest middle) tt tt (kept before) after (Err e) takes
-    (kept_visits Any NoMemory member_events member_at middle after tt tt (kept before) (Err e) same
-    (as_answer h)))
+value_builds before middle after (Err e) takes same h = fails_in member_at member_value_at before middle e same
+    (value_fails (version before) (rest before) (rest middle) takes) h
 
 -- ---- items, by their bare items and parameters
 
--- the copy of a bare item that was read
-module _ (before after : Cursor) (item : ReadBareItem)
-    (read : Reads input_value before after (Ok item) (bare_at (version before))) where
-  pub owned_read : (r : Result OwnedBareItem (ParseError OutOfMemory))
-      → IfOk r (λ owned. bare_value owned ≡ input_value item)
-      → IfOk r (λ value. Reads bare_value before after (Ok value) (bare_at (version before)))
-  owned_read (Ok value) same =
-      (read.0 ∙ ap (λ (v : BareValue). Ok (v, rest after)) (sym same), read.1)
-  owned_read (Err error) same = tt
-
-  pub owned_fails : (r : Result OwnedBareItem (ParseError OutOfMemory))
-      → IfErr r (IsOfVisitor (λ _. IsTrue (is_borrowed item)))
-      → IfErr r (λ error. FailsAs item_events before error item_at)
-  owned_fails (Ok value) failed = tt
-  owned_fails (Err error) failed = as_fault (of_visitor Any NoMemory item_events (kept before) after tt tt
-      (λ _. IsTrue (is_borrowed item)) error (item_at (version before) (rest before)) failed
-      (λ fault f. bare_failed Any NoMemory _ _ _ _ _ fault read.0 (borrowed_text item f)))
-
--- an error after the bare item
-pub later_fails : (before between : Cursor) (value : BareValue) (error : ParseError OutOfMemory)
-    → bare_at (version before) (rest before) ≡ Ok (value, rest between) → kept between ≡ kept before
-    → FailsAs parameters_events between error parameters_at → FailsAs item_events before error item_at
-later_fails before between value error read same h =
-    as_fault (item_visits Any NoMemory (version before) (rest before) (rest between) value tt tt tt (kept before) before
-    (Err error) read tt (kept_visits Any NoMemory parameters_events parameters_at between before tt tt (kept before)
-    (Err error) same (as_answer h)))
-
 pub item_builds : (before between after : Cursor) (value : BareValue) (entries : List (List ℕ × OwnedBareItem))
-    → bare_at (version before) (rest before) ≡ Ok (value, rest between) → kept between ≡ kept before
-    → Builds (λ (u : Unit {0}). pairs_tree entries) collapse parameters_events between after (Ok tt) parameters_at
-    → Builds (λ (u : Unit {0}). with_parts value (pairs_tree entries)) ordered_item item_events before after (Ok tt)
-    item_at
-item_builds before between after value entries read same h = (
-  item_of value h.0,
-  item_some (version before) (rest before) (rest between) (rest after) value h.0 read
+    (raw : BareValue) → bare_at (version before) (rest before) ≡ Ok (raw, rest between) → value ≡ raw
+    → kept between ≡ kept before
+    → Builds (λ (u : Unit {0}). pairs_tree entries) collapse between after (Ok tt) parameters_at
+    → Builds (λ (u : Unit {0}). with_parts value (pairs_tree entries)) ordered_item before after (Ok tt) item_at
+item_builds before between after value entries raw read is same h = (
+  item_of raw h.0,
+  item_some (version before) (rest before) (rest between) (rest after) raw h.0 read
       (kept_reads parameters_at (rest between) (kept between) (kept before) same ∙ h.1),
-  item_parts value value (pairs_tree entries) h.0 refl h.2,
+  item_parts value raw (pairs_tree entries) h.0 is h.2,
   h.3 ∙ same,
 )
 

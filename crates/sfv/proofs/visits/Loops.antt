@@ -80,7 +80,7 @@ module _ {A : Type 0} (l : Loop A) (version : Version) where
   unfolding give
   next_none t r e = l.is_next version t ∙ bind_complete l.delimiter (one_if (l.one version)) t r false e
 
-  next_one : (t r : List ℕ) → l.delimiter t ≡ Ok (true, r)
+  pub next_one : (t r : List ℕ) → l.delimiter t ≡ Ok (true, r)
       → (l.next version) t ≡ ((l.one version) >>= λ v. give (Some v)) r
   next_one t r e = l.is_next version t ∙ bind_complete l.delimiter (one_if (l.one version)) t r true e
 
@@ -94,7 +94,7 @@ module _ {A : Type 0} (l : Loop A) (version : Version) where
   shorter_at t r q v e k = (l.consumes version).consumes t q v (next_some t r q v e k)
 
   -- a fault of the next one is the fault of the whole
-  faulty : (front : List A) (t : List ℕ) (total : Answer (List A)) (f : Fault)
+  pub faulty : (front : List A) (t : List ℕ) (total : Answer (List A)) (f : Fault)
       → in_front l.parts front (many l.parts (l.next version) t) ≡ total → (l.next version) t ≡ Err f
       → total ≡ Err (after_events (all_events l.parts front) f)
   faulty front t total f so_far e = is_faulty l.parts (l.next version) (l.consumes version) front t f total e so_far

@@ -6,9 +6,9 @@ use Rattle.sfv_spec.specs.declared.field_kind.FieldKind.TheVariants.{List as lis
 use Rattle.sfv_spec.specs.declared.version.Version.{Version}
 use Rattle.sfv_spec.specs.Events.{TreeEvent, item_events, inner_list_end, parameters_events, inner_item_events}
 use Rattle.sfv_spec.specs.Events.{entry_events, keyed_events}
-use Rattle.sfv_model.specs.Reader.{Reader, give}
+use Rattle.sfv_model.specs.Reader.{Reader, give, one_and_more}
 use Rattle.sfv_model.specs.Members.{entry_at, keyed_at, item_delimited}
-use Rattle.sfv_model.specs.Fields.{member_delimited}
+use Rattle.sfv_model.specs.Fields.{member_delimited, next_at}
 
 -- after an item of an inner list: `true` if another item follows, `false` after the closing parenthesis
 unfoldable pub item_delimiter_at : Reader Bool
@@ -37,6 +37,11 @@ member_parts false = entry_events
 abbrev pub one_member_at : (keyed : Bool) → Version → Reader (MemberValue keyed)
 one_member_at true = keyed_at
 one_member_at false = entry_at
+
+-- the reader of one member and those after it, up to the end of the text
+abbrev pub some_members_at : (keyed : Bool) → Version → Reader (List (MemberValue keyed))
+some_members_at keyed version =
+    one_and_more (member_parts keyed) (one_member_at keyed version) (next_at (one_member_at keyed version))
 
 -- the type of field with such members
 abbrev pub field_of : Bool → FieldKind

@@ -19,6 +19,8 @@ pub(crate) struct Cursor<'de> {
     pub(super) parser: Parser<'de>,
     pub(super) alloc: Global,
     pub(super) index: usize,
+    /// The number of members, or of members and items of an inner list, before the next element of a tree.
+    pub(super) count: usize,
     ghost within: { index ≤ length parser.input.now },
 }
 
@@ -35,6 +37,7 @@ impl<'de> Cursor<'de> {
             parser,
             alloc,
             index: 0,
+            count: 0,
         }
     }
 

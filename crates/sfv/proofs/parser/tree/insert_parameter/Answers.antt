@@ -7,5 +7,5 @@ returns-clause-entries c = rw (
   c.in_ok-enter_parameter.ensures.entries,
   pairs_tree-insert,
   c.in_ok-value.ensures.value,
-  c.in_ok-key.ensures.value,
+  c.in_ok-key.ensures.text,
 ) refl

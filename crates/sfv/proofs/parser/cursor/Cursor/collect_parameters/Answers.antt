@@ -1,14 +1,12 @@
 use Rattle.std.proofs.Common.{◌∙◌, refl, ap}
-use Rattle.std.specs.Prelude.{⊤}
-use Rattle.sfv_spec.specs.Events.{parameters_events}
 use Rattle.sfv_tree.specs.Trees.{pairs_tree}
-use Rattle.sfv_model.specs.Items.{parameter_at}
+use Rattle.sfv_model.specs.Items.{parameter_at, parameters_at}
 use Rattle.sfv_model.proofs.sound.Items.{Consumes-parameter}
-use Rattle.sfv.specs.parser.Cursor.{version, kept, rest}
-use Rattle.sfv.proofs.trees.Errors.{Any, NoMemory, as_fault}
+use Rattle.sfv.specs.parser.Cursor.{version, input, rest}
+use Rattle.sfv.proofs.trees.Errors.{Any, fails_in, refused}
 use Rattle.sfv.proofs.reads.Errors.{left_with, kept_reads}
-use Rattle.sfv.proofs.visits.Parameters.{of_visitor, visited_all, visited_error, parameter_failed}
-use Rattle.sfv.proofs.trees.Parameters.{collected_none, collected_more}
+use Rattle.sfv.proofs.visits.Parameters.{visited_all}
+use Rattle.sfv.proofs.trees.Parameters.{collected_none, collected_more, collected_fails}
 use Rattle.sfv.proofs.parser.cursor.Cursor.collect_parameters.Goals as goal
 
 pub loop-parameter-init : goal.loop-parameter-init
@@ -21,8 +19,9 @@ loop-parameter-init c = record {
 
 pub returns-in_err-parameter-clause-tree : goal.returns-in_err-parameter-clause-tree
 returns-in_err-parameter-clause-tree c =
-    rw (left_with c.from_residual.ensures.1) (as_fault (visited_error Any _ _ _ _ _ _ _ c.loop-parameter.invariant.kept
-    c.loop-parameter.invariant.collected.visited c.in_err-parameter.ensures.read))
+    rw (left_with c.from_residual.ensures.1) (fails_in parameter_at parameters_at c.args.self.now c.loop-parameter.self
+    _ c.loop-parameter.invariant.kept (collected_fails _ _ _ _ c.loop-parameter.invariant.collected)
+    (refused (input c.loop-parameter.self) _ _ c.in_err-parameter.ensures.read))
 
 pub loop-parameter-smaller : goal.loop-parameter-smaller
 loop-parameter-smaller c =
@@ -38,15 +37,6 @@ loop-parameter-preserved c =
       kept = e.1 ∙ c.loop-parameter.invariant.kept;
       seed = c.in_ok-insert_parameter.ensures.seed ∙ c.loop-parameter.invariant.seed;
     }
-
-pub returns-in_err-insert_parameter-clause-tree : goal.returns-in_err-insert_parameter-clause-tree
-returns-in_err-insert_parameter-clause-tree c =
-    let e = rw c.in-Some.is at c.in_ok-parameter.ensures.read in
-    let read = kept_reads parameter_at _ _ _ c.loop-parameter.invariant.kept ∙ e.0 in
-    rw (left_with c.from_residual-in_err-insert_parameter.ensures.1) (as_fault (of_visitor Any NoMemory parameters_events
-    (kept c.args.self.now) c.parameter.new.self tt tt (λ _. ⊤) _ _ c.in_err-insert_parameter.ensures.failed
-    (λ fault failed. parameter_failed Any NoMemory _ _ _ _ _ _ _ _ fault
-    c.loop-parameter.invariant.collected.visited read tt)))
 
 pub returns-clause-tree : goal.returns-clause-tree
 returns-clause-tree c =

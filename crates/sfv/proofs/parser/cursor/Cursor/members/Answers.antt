@@ -1,4 +1,4 @@
-use Rattle.std.proofs.Common.{◌∙◌, ap, not, refl, [], true, false}
+use Rattle.std.proofs.Common.{◌∙◌, ap, not, refl, []}
 use Rattle.std.proofs.lemmas.Bool.{true≢false}
 use Rattle.sfv.specs.parser.Cursor.{version}
 use Rattle.sfv.specs.parser.Members.{member_parts, one_member_at}

@@ -1,4 +1,4 @@
-use Rattle.std.proofs.Common.{◌≡◌, ◌+◌, ℕ, false, cond, length, []}
+use Rattle.std.proofs.Common.{◌≡◌, ◌+◌, false, cond, length, []}
 use Rattle.sfv_model.specs.Fields.{members_at}
 use Rattle.sfv.specs.parser.Cursor.{version, rest}
 use Rattle.sfv.specs.parser.Members.{member_parts, one_member_at}

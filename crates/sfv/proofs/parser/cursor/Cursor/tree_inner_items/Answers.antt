@@ -1,25 +1,26 @@
-use Rattle.std.proofs.Common.{◌≡◌, ◌∙◌, false, ap, map, not, sym, subst, []}
+use Rattle.std.proofs.Common.{◌≡◌, ◌∙◌, false, refl, inr, ap, map, not, sym, subst, []}
 use Rattle.std.specs.Prelude.{All, is_some}
 use Rattle.std.proofs.lemmas.List.Elements.{All-nil}
 use Rattle.sfv_spec.specs.Ordered.{ordered_item}
 use Rattle.sfv_tree.specs.Trees.{item_tree}
 use Rattle.sfv_tree.specs.Seeds.{ItemHasSeed}
 use Rattle.sfv_model.specs.Reader.{first}
-use Rattle.sfv.specs.parser.Cursor.{rest}
-use Rattle.sfv.proofs.trees.Errors.{Any, NoMemory, as_answer, as_fault}
-use Rattle.sfv.proofs.reads.Delimiters.{items_closed, items_first}
-use Rattle.sfv.proofs.reads.Errors.{left_with}
-use Rattle.sfv.proofs.visits.Loops.{shorter, first_fails, delimiter_fails, one_fails, items_loop}
-use Rattle.sfv.proofs.visits.Taken.{no_items_visited}
+use Rattle.sfv.specs.parser.Cursor.{kept, version, rest}
+use Rattle.sfv_model.specs.Members.{inner_items_at}
+use Rattle.sfv.proofs.trees.Errors.{Any, Never}
+use Rattle.sfv.proofs.reads.Delimiters.{items_none, items_closed, items_first}
+use Rattle.sfv.proofs.reads.Errors.{left_with, FaultOf-here}
+use Rattle.sfv.proofs.visits.Loops.{shorter, items_loop}
 use Rattle.sfv.proofs.trees.Loops.{as_one, built_first, built_more, built_all, items_with, item_added, seed_kept}
-use Rattle.sfv.proofs.trees.Loops.{keeps_seed}
+use Rattle.sfv.proofs.trees.Loops.{keeps_seed, first_fails, delimiter_fails, one_fails}
 use Rattle.sfv.proofs.parser.cursor.Cursor.tree_inner_items.Goals as goal
 
 pub returns-then-is_none-clause-tree : goal.returns-then-is_none-clause-tree
 returns-then-is_none-clause-tree c =
     let none : is_some (first (rest c.args.self.now)) ≡ false =
     rw (← c.peek.ensures) (c.is_none.ensures ∙ ap not c.if-is_none.true) in
-    rw c.error-error.ensures (as_fault (no_items_visited Any c.args.self.now tt none))
+    rw c.error.ensures (inr (FaultOf-here _ c.args.self.now (kept c.args.self.now) _ refl
+    (items_none (version c.args.self.now) (rest c.args.self.now) none)))
 
 pub returns-then-take_if-clause-tree : goal.returns-then-take_if-clause-tree
 returns-then-take_if-clause-tree c = (
@@ -38,13 +39,13 @@ returns-then-take_if-clause-seed c =
 
 pub returns-in_err-push_inner_item-clause-tree : goal.returns-in_err-push_inner_item-clause-tree
 returns-in_err-push_inner_item-clause-tree c =
-    rw (left_with c.from_residual.ensures.1) (as_fault (first_fails Any NoMemory items_loop c.args.self.now _ c.take_if.new.self
-    c.push_inner_item.new.self tt tt _ (
+    rw (left_with c.from_residual.ensures.1) (first_fails items_loop inner_items_at c.args.self.now c.take_if.new.self
+    _ (
       items_first _ _ _ _ _ (rw (← c.peek.ensures) (c.is_none.ensures
           ∙ ap not c.if-is_none.false)) c.skip_sp.ensures.skipped.1 c.if-take_if.ensures.takes,
       c.take_if.ensures.kept
           ∙ c.skip_sp.ensures.kept,
-    ) (as_answer c.in_err-push_inner_item.ensures.tree)))
+    ) c.in_err-push_inner_item.ensures.tree)
 
 pub loop-items-init : goal.loop-items-init
 loop-items-init c =
@@ -64,14 +65,13 @@ loop-items-init c =
 
 pub returns-in_err-consume_item_delimiter-clause-tree : goal.returns-in_err-consume_item_delimiter-clause-tree
 returns-in_err-consume_item_delimiter-clause-tree c =
-    rw (left_with c.from_residual-in_err-consume_item_delimiter.ensures.1) (as_fault (delimiter_fails Any NoMemory items_loop
-    c.args.self.now _ c.loop-items.self c.consume_item_delimiter.new.self tt tt _
-    c.loop-items.invariant.built.visited c.in_err-consume_item_delimiter.ensures))
+    rw (left_with c.from_residual-in_err-consume_item_delimiter.ensures.1) (delimiter_fails items_loop inner_items_at
+    c.args.self.now c.loop-items.self _ c.loop-items.invariant.built.visited c.in_err-consume_item_delimiter.ensures)
 
 pub loop-items-smaller : goal.loop-items-smaller
 loop-items-smaller c =
     let wanted = rw c.if-branch.true at c.in_ok-consume_item_delimiter.ensures in
-    shorter Any NoMemory items_loop c.loop-items.self c.consume_item_delimiter.new.self
+    shorter Any Never items_loop c.loop-items.self c.consume_item_delimiter.new.self
     c.push_inner_item-in-loop-items.new.self tt tt wanted (as_one items_loop items_with
     c.consume_item_delimiter.new.self c.push_inner_item-in-loop-items.new.self _ _
     c.in_ok-push_inner_item-2.ensures.tree)
@@ -92,10 +92,9 @@ loop-items-preserved c =
 pub returns-in_err-push_inner_item-2-clause-tree : goal.returns-in_err-push_inner_item-2-clause-tree
 returns-in_err-push_inner_item-2-clause-tree c =
     let wanted = rw c.if-branch.true at c.in_ok-consume_item_delimiter.ensures in
-    rw (left_with c.from_residual-in_err-push_inner_item-2.ensures.1) (as_fault (one_fails Any NoMemory items_loop
-    c.args.self.now _ c.loop-items.self c.consume_item_delimiter.new.self c.push_inner_item-in-loop-items.new.self
-    tt tt tt _ c.loop-items.invariant.built.visited wanted
-    (as_answer c.in_err-push_inner_item-2.ensures.tree)))
+    rw (left_with c.from_residual-in_err-push_inner_item-2.ensures.1) (one_fails items_loop inner_items_at
+    c.args.self.now c.loop-items.self c.consume_item_delimiter.new.self _ c.loop-items.invariant.built.visited wanted
+    c.in_err-push_inner_item-2.ensures.tree)
 
 pub returns-clause-tree : goal.returns-clause-tree
 returns-clause-tree c =

@@ -1,23 +1,25 @@
-use Rattle.std.proofs.Common.{◌∙◌, ap, Err}
-use Rattle.sfv_spec.specs.Events.{item_events}
-use Rattle.sfv_spec.specs.Values.{item}
+use Rattle.std.proofs.Common.{◌∙◌, ap, subst, sym}
+use Rattle.std.specs.Prelude.{All}
+use Rattle.std.specs.declared.alloc.Global.{Global}
+use Rattle.std.specs.declared.vec.Vec.{Vec}
+use Rattle.indexmap.specs.IndexMap.{hasher_of}
+use Rattle.sfv_spec.specs.Values.{item, inner_list}
+use Rattle.sfv_tree.specs.Seeds.{ItemHasSeed}
+use Rattle.sfv_tree.specs.declared.parsed.Item.{Item}
 use Rattle.sfv_model.specs.Items.{item_at}
-use Rattle.sfv_model.specs.Members.{inner_at}
-use Rattle.sfv.specs.parser.Cursor.{kept, version}
-use Rattle.sfv.specs.parser.Members.{after_begin}
-use Rattle.sfv.proofs.trees.Errors.{Any, NoMemory, as_answer, as_fault}
+use Rattle.sfv_model.specs.Members.{inner_at, member_at}
+use Rattle.sfv.specs.parser.Cursor.{version}
 use Rattle.sfv.proofs.reads.Errors.{left_with, kept_reads}
-use Rattle.sfv.proofs.visits.InnerLists.{list_member_visits, item_member_visits}
-use Rattle.sfv.proofs.visits.Parts.{kept_visits}
-use Rattle.sfv.proofs.trees.Parts.{member_list_some, member_item_some}
+use Rattle.sfv.proofs.trees.Errors.{fails_in}
+use Rattle.sfv.proofs.trees.Loops.{seed_kept}
+use Rattle.sfv.proofs.trees.Parts.{list_fails, item_fails, member_list_some, member_item_some}
 use Rattle.sfv.proofs.parser.cursor.Cursor.tree_member.Goals as goal
 
 pub returns-in_err-items-clause-tree : goal.returns-in_err-items-clause-tree
 returns-in_err-items-clause-tree c =
-    rw (left_with c.from_residual.ensures.1) (as_fault (list_member_visits Any NoMemory (version c.args.self.now) _ _ tt tt tt
-    (kept c.args.self.now) c.tree_inner_list.new.self (Err c.in_err-items.field-0.0) c.if-take_if.ensures.takes tt
-    (kept_visits Any NoMemory after_begin inner_at c.take_if.new.self c.tree_inner_list.new.self tt tt _
-    (Err c.in_err-items.field-0.0) c.take_if.ensures.kept (as_answer c.in_err-items.ensures.tree))))
+    rw (left_with c.from_residual.ensures.1) (fails_in inner_at member_at c.args.self.now c.take_if.new.self _
+    c.take_if.ensures.kept (list_fails (version c.args.self.now) _ _ c.if-take_if.ensures.takes)
+    c.in_err-items.ensures.tree)
 
 pub returns-then-take_if-clause-tree : goal.returns-then-take_if-clause-tree
 returns-then-take_if-clause-tree c =
@@ -25,17 +27,24 @@ returns-then-take_if-clause-tree c =
       built.0,
       member_list_some _ _ _ _ _ c.if-take_if.ensures.takes (kept_reads inner_at _ _ _ c.take_if.ensures.kept
           ∙ built.1),
-      built.2,
+      ap inner_list c.with_params.ensures.tree ∙ built.2,
       built.3 ∙ c.take_if.ensures.kept,
     )
 
+pub returns-then-take_if-clause-seed : goal.returns-then-take_if-clause-seed
+returns-then-take_if-clause-seed c = (
+  ap hasher_of c.with_params.ensures.params ∙ c.in_ok-items.ensures.seed ∙ c.with_hasher-params.ensures.hasher,
+  subst (All (ItemHasSeed c.args.self.now.parser.seed))
+      (sym (ap (λ (v : Vec Item Global). v.items) c.with_params.ensures.items))
+      (seed_kept (λ s. All (ItemHasSeed s) c.in_ok-items.items.items) c.take_if.new.self c.args.self.now
+      c.take_if.ensures.kept c.in_ok-items.ensures.item_seeds),
+)
+
 pub returns-in_err-bare_item-clause-tree : goal.returns-in_err-bare_item-clause-tree
 returns-in_err-bare_item-clause-tree c =
-    rw (left_with c.from_residual-in_err-bare_item.ensures.1) (as_fault (item_member_visits Any NoMemory (version c.args.self.now)
-    _ _ tt tt tt (kept c.args.self.now) c.tree_item.new.self (Err c.in_err-bare_item.field-0.0)
-    c.if-take_if.ensures.takes tt
-    (kept_visits Any NoMemory item_events item_at c.take_if.new.self c.tree_item.new.self tt tt _
-    (Err c.in_err-bare_item.field-0.0) c.take_if.ensures.kept (as_answer c.in_err-bare_item.ensures.tree))))
+    rw (left_with c.from_residual-in_err-bare_item.ensures.1) (fails_in item_at member_at c.args.self.now
+    c.take_if.new.self _ c.take_if.ensures.kept
+    (item_fails (version c.args.self.now) _ _ c.if-take_if.ensures.takes) c.in_err-bare_item.ensures.tree)
 
 pub returns-clause-tree : goal.returns-clause-tree
 returns-clause-tree c =
@@ -43,6 +52,6 @@ returns-clause-tree c =
       item built.0,
       member_item_some _ _ _ _ _ c.if-take_if.ensures.takes (kept_reads item_at _ _ _ c.take_if.ensures.kept
           ∙ built.1),
-      ap item built.2,
+      ap item (c.with_params-2.ensures.tree ∙ built.2),
       built.3 ∙ c.take_if.ensures.kept,
     )
