@@ -238,14 +238,20 @@ fn block_end<C: RunClass>(bytes: &[u8]) -> usize
 
 // Returns the first 8 bytes, and then the last 8.
 #[inline(always)]
-fn ends_of(bytes: &[u8]) -> [u8; HALF]
+fn ends_of(bytes: &[u8]) -> u8x16
     requires { 8 ≤ length bytes.now }
     ensures { result ≡ take 8 bytes.now ++ drop (length bytes.now - 8) bytes.now }
 {
-    let mut ends = [0u8; HALF];
-    ends[..8].copy_from_slice(&bytes[..8]);
-    ends[8..].copy_from_slice(&bytes[bytes.len() - 8..]);
-    ends
+    let Some(first) = bytes.first_chunk::<8>() else {
+        unreachable!();
+    };
+    let Some(last) = bytes.last_chunk::<8>() else {
+        unreachable!();
+    };
+    u8x8::from_array(*first).shuffle(
+        u8x8::from_array(*last),
+        [0, 1, 2, 3, 4, 5, 6, 7, 8, 9, 10, 11, 12, 13, 14, 15],
+    )
 }
 
 // Finds the end of the run in 8 to 16 bytes: tests the first 8 and the last 8 at once.
@@ -256,7 +262,7 @@ fn pair_end<C: RunClass>(bytes: &[u8]) -> usize
     ensures { result ≡ prefix_len C.class bytes.now }
 {
     let ends = ends_of(bytes);
-    let outside = outside_half::<C>(u8x16::from_array(ends));
+    let outside = outside_half::<C>(ends);
     if outside == 0 {
         return bytes.len();
     }
