@@ -4,7 +4,7 @@ use Rattle.std.proofs.Common.{arith, true, if◌then◌else◌, Option, Some, No
 use Rattle.std.specs.Prelude.{string_bytes}
 use Rattle.std.proofs.lemmas.Option.{same_Some}
 use Rattle.std.proofs.lemmas.List.{append-nil, length-append, take-append-drop}
-use Rattle.sfv.specs.Values.{RawField, item, inner_list, HasMember, Fits, AllFit, bare_values}
+use Rattle.sfv.specs.Values.{RawField, item, inner_list, token, HasMember, Fits, AllFit, fits_bare, bare_values}
 use Rattle.sfv.specs.Types.{FieldKind, item_field, list_field, dictionary_field, Version, SerializeError}
 use Rattle.sfv.specs.Types.serialize_errors as errors
 use Rattle.sfv.specs.Events.{TreeEvent, parameter, parameters_end, events}
@@ -21,7 +21,8 @@ use Rattle.sfv_c.specs.declared.answer.CallFault.TheVariants as faults
 use Rattle.sfv_c.specs.Answers.{Puts}
 use Rattle.sfv_c.specs.Writing.{AreRowsOfField, BeginRowsOfField, IsWriteFault, PutsRows}
 use Rattle.sfv_c.specs.RowEvents.{ParseState, Piece, text_only, followed_by, added, beginning, may_end, Reads}
-use Rattle.sfv_c.specs.RowEvents.{WritesAll, IsErrorOf, IsAppended, Appends}
+use Rattle.sfv_c.specs.RowEvents.{WritesAll, IsErrorOf, IsAppended, Appends, IsTokenAlone}
+use Rattle.sfv.specs.Types.versions.{Rfc8941, Rfc9651}
 use Rattle.sfv_c.proofs.Accepted.{field_of_events}
 use Rattle.sfv_c.proofs.Places.{adds_field, same_piece, piece_of}
 use Rattle.sfv_c.proofs.Valid.{valid_field}
@@ -153,3 +154,30 @@ module _ (version : Version) (kind : FieldKind) (rows : List Row) (before now : 
         );
         put = put;
       }
+
+-- the text of a token without parameters
+fits_token : (version : Version) (t : List ℕ) → fits_bare version (token t) ≡ true
+fits_token Rfc8941 t = refl
+fits_token Rfc9651 t = refl
+
+pub token_put : (version : Version) (rows : List Row) (t : List ℕ) → IsTokenAlone rows t
+    → (old new : List ℕ) (w : Written) → Puts t old new w → PutsRows version item_field rows old new w
+token_put version rows t read old new w put =
+    let raw : RawField item_field = record { bare = token t; parameters = [] } in
+    let es = events item_field raw in
+    let value = valid_field item_field raw (reads_valid rows es [] read) in
+    let same : canonical item_field raw ≡ t = append-nil t in
+    let fits : Fits version item_field raw = (fits_token version t, tt) in
+    record {
+      raw = raw;
+      rows_of = record { value = value; in_rows = reads_rows rows es read };
+      fits = fits;
+      text = Some t;
+      written = (
+        tt,
+        sym same,
+        subst (λ x. IsParsedAs version item_field x (ordered item_field raw)) same
+            (read_back version item_field raw value fits),
+      );
+      put = put;
+    }

@@ -1,8 +1,8 @@
 -- Reading rows step by step, and where it stops.
 use Rattle.std.proofs.Common.{◌≡◌, ℕ, ◌+◌, List, [], ◌∷◌, ◌++◌, drop, refl, sym, ◌∙◌, ap, subst, append_assoc}
-use Rattle.std.proofs.Common.{arith, length-append, Bool, false, IsTrue, Option, Some, None, Result, Ok, Err, inl}
+use Rattle.std.proofs.Common.{arith, length-append, drop-drop, get_or, Bool, false, IsTrue, Option, Some, None, Result, Ok, Err, inl}
 use Rattle.std.proofs.Common.{inr, option_map, MatchOption}
-use Rattle.std.specs.Prelude.{string_bytes}
+use Rattle.std.specs.Prelude.{⊤, string_bytes, codes}
 use Rattle.std.proofs.lemmas.List.{append-nil}
 use Rattle.std.specs.declared.alloc.Global.{Global}
 use Rattle.std.specs.declared.string.String as std_string
@@ -18,10 +18,14 @@ use Rattle.sfv_c.specs.declared.output.Output.{Output}
 use Rattle.sfv_c.specs.declared.rows_to_text.WrongRow.{WrongRow}
 use Rattle.sfv_c.specs.RowEvents.{ParseState, ended, list_members, dictionary_members, member, value, parameters, items}
 use Rattle.sfv_c.specs.RowEvents.{IsValidEvent, added, after, may_end, piece, Piece, text_only, followed_by, Reads}
-use Rattle.sfv_c.specs.RowEvents.{IsStuck, IsErrorOf, IsAppended, Appends, Writes, StopsAt, WritesOrStops}
+use Rattle.sfv_c.specs.RowEvents.{IsStuck, IsErrorOf, IsAppended, Appends, Writes, StopsAt, WritesOrStops, item_piece}
+use Rattle.sfv_c.specs.RowEvents.{IsPlainEntryAt, RefItem, GivesValue}
+use Rattle.sfv.specs.BareItems.{ref_value}
+use Rattle.std.specs.Array.{IsFirstChunk}
+use Rattle.sfv.specs.Written.{separator_before}
 use Rattle.sfv_c.specs.Rows.{IsRowOf}
 use Rattle.sfv_c.proofs.Places.{adds_nothing, adds_both}
-use Rattle.sfv_c.proofs.RowEvents.{reads_on}
+use Rattle.sfv_c.proofs.RowEvents.{reads_on, four_rows}
 
 -- nothing is appended
 pub appends_none : (o : Output) → Appends (text_only []) o o
@@ -105,6 +109,39 @@ writes_on {rows} {p} {q} {r} {start} {mid} {at} {a} {b} {c} h k = record {
       ∙ (ap (option_map (followed_by h.piece)) (k.leads more) ∙ adds_both h.piece k.piece (added r more)));
   appends = appends_both h.appends k.appends;
 }
+
+-- an entry without key and parameters
+adds_entry : (a b : Piece) (o : Option Piece)
+    → option_map (followed_by a) (option_map (followed_by (text_only []))
+    (option_map (followed_by b) (option_map (followed_by (text_only [])) o)))
+    ≡ option_map (followed_by (followed_by a b)) o
+adds_entry a b o =
+    ap (option_map (followed_by a)) (adds_nothing (option_map (followed_by b) (option_map (followed_by (text_only [])) o))
+    ∙ ap (option_map (followed_by b)) (adds_nothing o)) ∙ adds_both a b o
+
+pub entry_read : (rows chunk : List Row) (at : ℕ) (d : Row) → IsFirstChunk (drop at rows) chunk 4
+    → IsRowOf (get_or chunk 0 d) entry → IsRowOf (get_or chunk 1 d) begins_item
+    → IsRowOf (get_or chunk 3 d) parameters_end → (r : Option RefItem) → GivesValue (IsRowOf (get_or chunk 2 d)) r
+    → MatchOption r ⊤ (λ v. IsPlainEntryAt rows at (ref_value v))
+entry_read rows chunk at d h e i p None g = tt
+entry_read rows chunk at d h e i p (Some v) g =
+    subst (λ (r : List Row). Reads r (entry ∷ begins_item ∷ bare_item (ref_value v) ∷ parameters_end ∷ [])
+    (drop (at + 4) rows)) (sym (four_rows (drop at rows) chunk d h))
+    (tt, e, (tt, i, (g.0, g.1, (tt, p, drop-drop 4 at rows))))
+
+pub writes_entry : {rows : List Row} {at : ℕ} {a b c : Output} (is_first : Bool) (v : BareValue)
+    → IsPlainEntryAt rows at v → Appends (text_only (separator_before is_first (codes ", "))) a b
+    → Appends (item_piece false v) b c → Writes rows (list_members is_first) (list_members false) at (at + 4) a c
+writes_entry {rows} {at} is_first v read x y =
+    let front = text_only (separator_before is_first (codes ", ")) in
+    record {
+      es = entry ∷ begins_item ∷ bare_item v ∷ parameters_end ∷ [];
+      read = read;
+      count = refl;
+      piece = followed_by front (item_piece false v);
+      leads = λ more. adds_entry front (item_piece false v) (added (list_members false) more);
+      appends = appends_both x y;
+    }
 
 -- an answer after rows
 pub stops_on : {rows : List Row} {p q : ParseState} {start mid at : ℕ} {a b c : Output}

@@ -5,7 +5,7 @@ use Rattle.std.specs.Prelude.{string_bytes, length}
 use Rattle.std.specs.Borrow.{Bor}
 use Rattle.std.specs.declared.alloc.Global.{Global}
 use Rattle.std.specs.declared.string.String as std_string
-use Rattle.sfv.specs.Values.{BareValue, IsBareValue, AllFit}
+use Rattle.sfv.specs.Values.{BareValue, token, IsBareValue, AllFit}
 use Rattle.sfv.specs.Types.{FieldKind, item_field, list_field, dictionary_field, Version, GenericBareItem, ParamCall}
 use Rattle.sfv.specs.Types.{SerializeError}
 use Rattle.sfv.specs.Types.serialize_errors as errors
@@ -66,6 +66,15 @@ abbrev pub Reads : List Row → List TreeEvent → List Row → Type 0
 Reads rows [] rest = rows ≡ rest
 Reads [] (e ∷ es) rest = ⊥
 Reads (row ∷ rows) (e ∷ es) rest = IsValidEvent e × IsRowOf row e × Reads rows es rest
+
+-- the rows at this index are those of an entry with this value, without key and parameters
+abbrev pub IsPlainEntryAt : List Row → ℕ → BareValue → Type 0
+IsPlainEntryAt rows at v =
+    Reads (drop at rows) (entry ∷ begins_item ∷ bare_item v ∷ parameters_end ∷ []) (drop (at + 4) rows)
+
+-- the rows are those of a token without parameters
+abbrev pub IsTokenAlone : List Row → List ℕ → Type 0
+IsTokenAlone rows t = Reads rows (bare_item (token t) ∷ parameters_end ∷ []) []
 
 -- A place in a field: what may come next. A member and a value have a key or not. No member of a list or dictionary, or
 -- no item of an inner list, has come yet, or one has.

@@ -1,14 +1,15 @@
 //! The text of rows.
 
-ghost use Rattle.std.specs.Prelude.{◌≡◌, ◌<◌, ◌+◌, ◌∷◌, [], length, drop, MatchOption, false, true};
+ghost use Rattle.std.specs.Prelude.{◌≡◌, ◌<◌, ◌≤◌, ◌+◌, ◌∷◌, [], length, drop, MatchOption, IfSome, false, true};
 ghost use Rattle.sfv.specs.Types.{item_field, list_field, dictionary_field};
 ghost use Rattle.sfv_c.specs.RowEvents.{ParseState, member, value, items, parameters};
-ghost use Rattle.sfv_c.specs.RowEvents.{WritesOrStops, WritesAllOrStops};
+ghost use Rattle.sfv_c.specs.RowEvents.{WritesOrStops, WritesAllOrStops, IsPlainEntryAt};
+ghost use Rattle.sfv.specs.BareItems.{ref_value};
 
 use crate::output::Output;
 use crate::row_event::{is_plain, keyed_entry_in, parameter_in, value_in};
 use crate::rows::{ENTRY, INNER_LIST, INNER_LIST_END, ITEM, PARAMETERS_END, Row};
-use sfv::FieldKind;
+use sfv::{FieldKind, RefBareItem};
 
 // Each function reads rows from an index on, appends their text, and returns the index after them. It reads on after an
 // error of the output, since a wrong row is reported first.
@@ -25,6 +26,26 @@ fn row_at<'r, 'a>(rows: &'r [Row<'a>], at: usize) -> Option<&'r Row<'a>>
         (λ row. (at < length rows.now) × (drop at rows.now ≡ row.now ∷ drop (at + 1) rows.now)) }
 {
     rows.get(at)
+}
+
+/// Returns the value of the entry at this index, if it is an item without parameters and without key.
+// Most entries are one, and its rows are tested together.
+#[inline(always)]
+fn plain_entry_at<'a>(rows: &[Row<'a>], at: usize) -> Option<RefBareItem<'a>>
+    requires { at ≤ length rows.now }
+    ensures { IfSome result (λ v. IsPlainEntryAt rows.now at (ref_value v)) }
+{
+    let [entry, item, value, end] = rows[at..].first_chunk::<4>()?;
+    if !is_plain(end, PARAMETERS_END) {
+        return None;
+    }
+    if !is_plain(entry, ENTRY) {
+        return None;
+    }
+    if !is_plain(item, ITEM) {
+        return None;
+    }
+    value_in(value)
 }
 
 /// Writes parameters.
@@ -128,11 +149,17 @@ fn list(rows: &[Row<'_>], output: &mut Output) -> Result<(), WrongRow>
     let mut at = 0;
     let mut is_first = true;
     while let Some(row) = row_at(rows, at) {
-        if !is_plain(row, ENTRY) {
-            return Err(WrongRow { index: at });
+        if let Some(value) = plain_entry_at(rows, at) {
+            output.append_separator(is_first, ", ");
+            output.append_item(false, value);
+            at += 4;
+        } else {
+            if !is_plain(row, ENTRY) {
+                return Err(WrongRow { index: at });
+            }
+            output.append_separator(is_first, ", ");
+            at = member(rows, at + 1, false, output)?;
         }
-        output.append_separator(is_first, ", ");
-        at = member(rows, at + 1, false, output)?;
         is_first = false;
     }
     Ok(())

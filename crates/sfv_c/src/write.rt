@@ -1,13 +1,35 @@
 //! Rows that are written as a text.
 
+ghost use Rattle.std.specs.Prelude.{◌≡◌, IfSome};
+ghost use Rattle.sfv.specs.CheckedTexts.{text_of};
+ghost use Rattle.sfv.specs.Types.{item_field};
+ghost use Rattle.sfv_c.specs.RowEvents.{IsTokenAlone};
 ghost use Rattle.sfv_c.specs.Writing.{IsWrite, IsWriteOutcome};
 
 use crate::answer::{Answer, CallFault, Written, put};
 use crate::output::Output;
-use crate::rows::Row;
+use crate::row_event::{is_plain, value_in};
+use crate::rows::{PARAMETERS_END, Row};
 use crate::rows_to_text::field;
-use sfv::{FieldKind, Version};
+use sfv::{FieldKind, GenericBareItem, TokenRef, Version};
 use std::alloc::Global;
+
+/// Returns the token, if the rows are those of an item that is a token without parameters.
+fn token_alone<'a>(kind: FieldKind, rows: &[Row<'a>]) -> Option<TokenRef<'a>>
+    ensures { IfSome result (λ t. (kind ≡ item_field) × IsTokenAlone rows.now (text_of t)) }
+{
+    if !matches!(kind, FieldKind::Item) || rows.len() != 2 {
+        return None;
+    }
+    let [row, end] = rows.first_chunk::<2>()?;
+    if row.kind != 4 || !is_plain(end, PARAMETERS_END) {
+        return None;
+    }
+    match value_in(row) {
+        Some(GenericBareItem::Token(token)) => Some(token),
+        _ => None,
+    }
+}
 
 /// Writes the text of these rows to the start of the buffer.
 fn put_rows(
@@ -34,6 +56,23 @@ fn put_rows(
     Ok(put(output.text.as_str(), out))
 }
 
+/// Writes the text of these rows to the start of the buffer, as `put_rows` does.
+// The text of a token alone is copied once.
+fn put_field(
+    alloc: Global,
+    kind: FieldKind,
+    writing: Version,
+    rows: &[Row<'_>],
+    out: &mut [u8],
+) -> Result<Written, CallFault>
+    ensures { IsWriteOutcome writing kind rows.now out.old out.new result }
+{
+    match token_alone(kind, rows) {
+        Some(token) => Ok(put(token.as_str(), out)),
+        None => put_rows(alloc, kind, writing, rows, out),
+    }
+}
+
 /// Writes the field of these rows to the start of the buffer.
 pub(crate) fn write(
     alloc: Global,
@@ -44,7 +83,7 @@ pub(crate) fn write(
 ) -> Answer
     ensures { IsWrite writing kind rows.now out.old out.new result }
 {
-    match put_rows(alloc, kind, writing, rows, out) {
+    match put_field(alloc, kind, writing, rows, out) {
         Ok(written) => Answer::of_written(written),
         Err(fault) => Answer::of_fault(fault),
     }

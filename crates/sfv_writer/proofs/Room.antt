@@ -1,5 +1,5 @@
 -- Room for what is added to a text.
-use Rattle.std.proofs.Common.{◌≡◌, ◌≤◌, ◌+◌, ℕ, Bool, true, List, [], ◌∷◌, ◌++◌, length, string_bytes, string_len}
+use Rattle.std.proofs.Common.{◌≡◌, ◌<◌, ◌≤◌, ◌+◌, ℕ, Bool, true, false, cond, List, [], ◌∷◌, ◌++◌, length, string_bytes, string_len}
 use Rattle.std.proofs.Common.{string_capacity, ap, sym, arith, refl, Result, Ok, Err}
 use Rattle.std.specs.Prelude.{flat_map}
 use Rattle.std.specs.declared.string.String.{String}
@@ -7,6 +7,8 @@ use Rattle.std.specs.List.{list_all}
 use Rattle.std.proofs.lemmas.Bool.{and_parts}
 use Rattle.std.proofs.lemmas.List.{append-nil, length-append}
 use Rattle.sfv_spec.specs.Texts.{RunOf}
+use Rattle.sfv_spec.specs.Strings.{is_escaped_in_string, is_plain_in_display}
+use Rattle.sfv_writer.specs.Quoted.{piece_of}
 use Rattle.sfv_writer.specs.Written.{LacksRoom, AsksForRoom}
 use Rattle.sfv_writer.proofs.Written.{IsWrittenUpTo}
 
@@ -83,4 +85,22 @@ rest_room piece old output new bytes rest (Ok x) w c h = (omega (arith, c, h.0),
 rest_room piece old output new bytes rest (Err x) w c h = (
   omega (arith, c, h.0),
   room_inside piece old output bytes rest rest [] w (sym (append-nil rest)) c h.1,
+)
+
+-- the text in quotes has no fewer bytes than the value
+some_of : (b : Bool) (x y : List ℕ) → 0 < length x → 0 < length y → 0 < length (cond b x y)
+some_of true x y h k = h
+some_of false x y h k = k
+
+some_piece : (display : Bool) (c : ℕ) → 0 < length (piece_of display c)
+some_piece true c = some_of (is_plain_in_display c) _ _ (omega arith) (omega arith)
+some_piece false c = some_of (is_escaped_in_string c) _ _ (omega arith) (omega arith)
+
+pub inside_len : (display : Bool) (bytes : List ℕ) → length bytes ≤ length (flat_map (piece_of display) bytes)
+inside_len display [] = omega arith
+inside_len display (c ∷ bytes) = omega (
+  arith,
+  some_piece display c,
+  inside_len display bytes,
+  length-append (piece_of display c) (flat_map (piece_of display) bytes),
 )

@@ -61,6 +61,8 @@ fn serialize_quoted<A: Allocator>(value: &str, output: &mut String<A>) -> Result
     ensures text { Appends output.old output.new (bare_text (display_string value.now)) result }
     ensures room { AsksForRoom output.old output.new (bare_text (display_string value.now)) result }
 {
+    // As for a string.
+    output.reserve(value.len() + 3)?;
     output.push_str("%\"")?;
     serialize_inside::<DisplayEscaping, A>(value.as_bytes(), output)?;
     output.push('"')?;

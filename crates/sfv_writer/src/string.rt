@@ -50,8 +50,11 @@ impl<'a> Fragment for StringRef<'a> {
 
     #[inline(always)]
     fn serialize<A: Allocator>(self, output: &mut String<A>) -> Result<(), OutOfMemory> {
+        let text = self.as_str();
+        // Without it, the last quote after a long text would double the capacity.
+        output.reserve(text.len() + 2)?;
         output.push('"')?;
-        serialize_inside::<StringEscaping, A>(self.as_str().as_bytes(), output)?;
+        serialize_inside::<StringEscaping, A>(text.as_bytes(), output)?;
         output.push('"')?;
         Ok(())
     }

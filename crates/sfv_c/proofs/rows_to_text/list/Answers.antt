@@ -3,6 +3,8 @@ use Rattle.sfv.specs.Events.{entry}
 use Rattle.sfv_writer.proofs.Checks.{at_exit}
 use Rattle.sfv_c.specs.RowEvents.{ended, list_members}
 use Rattle.sfv_c.proofs.Stops.{writes_none, writes_row, writes_on, stops_at, stops_on, stuck_at, fails, not_entry}
+use Rattle.sfv_c.proofs.Stops.{writes_entry}
+use Rattle.sfv.specs.BareItems.{ref_value}
 use Rattle.sfv_c.proofs.rows_to_text.list.Goals as goal
 
 pub loop-row-init : goal.loop-row-init
@@ -15,14 +17,19 @@ returns-then-not-is_plain c = stops_at c.loop-row.invariant (stuck_at (list_memb
 pub returns-in_err-at : goal.returns-in_err-at
 returns-in_err-at c = at_exit c.from_residual.result _ _ _ c.from_residual.ensures.1
     (stops_on (writes_on c.loop-row.invariant (writes_row entry c.in-Some.ensures.1 tt
-    (c.if-not-is_plain.ensures.0 refl) refl c.append_separator.ensures.appended)) (c.in_err-at.ensures (list_members false)))
+    (c.if-not-is_plain.ensures.0 refl) refl c.append_separator-in_default-plain_entry_at.ensures.appended)) (c.in_err-at.ensures (list_members false)))
 
 pub loop-row-smaller : goal.loop-row-smaller
 loop-row-smaller c = omega (arith, c.in-Some.ensures.0, (c.in_ok-at.ensures ended).count)
 
+pub loop-row-preserved-in-Some-plain_entry_at : goal.loop-row-preserved-in-Some-plain_entry_at
+loop-row-preserved-in-Some-plain_entry_at c = writes_on c.loop-row.invariant (writes_entry c.loop-row.is_first
+    (ref_value c.in-Some-plain_entry_at.value) c.in-Some-plain_entry_at.ensures c.append_separator.ensures.appended
+    c.append_item.ensures.appended)
+
 pub loop-row-preserved : goal.loop-row-preserved
 loop-row-preserved c = writes_on (writes_on c.loop-row.invariant (writes_row entry c.in-Some.ensures.1 tt
-    (c.if-not-is_plain.ensures.0 refl) refl c.append_separator.ensures.appended)) (c.in_ok-at.ensures (list_members false))
+    (c.if-not-is_plain.ensures.0 refl) refl c.append_separator-in_default-plain_entry_at.ensures.appended)) (c.in_ok-at.ensures (list_members false))
 
 pub returns : goal.returns
 returns c = record {
