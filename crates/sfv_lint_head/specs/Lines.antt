@@ -1,6 +1,12 @@
 -- The lines of a field.
 use Rattle.std.specs.Prelude.{ℕ, ◌+◌, ◌-◌, ◌==◌, slice_index, Bool, true, false, List, [], ◌∷◌, length, take, map, filter, nat_lt, codes, Option, Some, None, if◌then◌else◌}
+use Rattle.std.specs.declared.alloc.Global.{Global}
+use Rattle.std.specs.declared.vec.Vec.{Vec}
 use Rattle.sfv_spec.specs.Texts.{joined}
+
+-- the bytes of each line
+abbrev pub line_texts : List (Vec ℕ Global) → List (List ℕ)
+line_texts lines = map (λ line. line.items) lines
 
 -- the text of a field: its lines with a comma and a space between neighbours (RFC 9651, section 4.2)
 abbrev pub joined_lines : List (List ℕ) → List ℕ

@@ -1,7 +1,8 @@
 //! The part of a line around an index, and a caret under the index.
 
-ghost use Rattle.std.specs.Prelude.{◌≡◌, ◌++◌, OnOk, Some, map, take, string_bytes};
+ghost use Rattle.std.specs.Prelude.{◌≡◌, ◌++◌, OnOk, Some, take, string_bytes};
 ghost use Rattle.sfv_lint_head.specs.Excerpts.{part_start, part_end, part_of, mark_of, part_line, caret_line, marked};
+ghost use Rattle.sfv_lint_head.specs.Lines.{line_texts};
 
 use crate::lines::place;
 use crate::shown::{append_caret, append_shown};
@@ -82,15 +83,14 @@ fn append_caret_line(out: &mut String, line: &[u8], index: usize) -> Result<(), 
     out.push('\n')
 }
 
-/// Appends the line of a field that an index of the joined text is in, as it is shown, and a caret under the index. A line
-/// of more than 72 bytes is printed up to 34 bytes before and after the index.
+/// Appends the line of a field that an index of the joined text is in, as it is shown, and a caret under the index. A
+/// line of more than 72 bytes is printed up to 34 bytes before and after the index.
 ///
 /// # Errors
 ///
 /// Returns `AllocError` if memory runs out. A part may then be appended.
 pub fn append_marked(out: &mut String, lines: &[Vec<u8>], index: usize) -> Result<(), AllocError>
-    ensures { OnOk result (string_bytes out.new ≡ string_bytes out.old
-        ++ marked (map (λ line. line.items) lines.now) (Some index)) }
+    ensures { OnOk result (string_bytes out.new ≡ string_bytes out.old ++ marked (line_texts lines.now) (Some index)) }
 {
     let Some((line, index)) = place(lines, index) else {
         return Ok(());

@@ -1,7 +1,7 @@
 //! The lines of a field, and the place of an index of their joined text.
 
-ghost use Rattle.std.specs.Prelude.{◌≡◌, IfOk, map, option_map, ◌<◌};
-ghost use Rattle.sfv_lint_head.specs.Lines.{joined_lines, place_in, without_return, value_lines};
+ghost use Rattle.std.specs.Prelude.{◌≡◌, IfOk, option_map};
+ghost use Rattle.sfv_lint_head.specs.Lines.{line_texts, joined_lines, place_in, without_return, value_lines};
 ghost use Rattle.sfv_lint_head.specs.Heads.{first_line, after_line};
 
 use memchr::memchr;
@@ -13,7 +13,7 @@ use std::alloc::{AllocError, Global};
 ///
 /// Returns `AllocError` if memory runs out.
 pub fn join(alloc: Global, lines: &[Vec<u8>]) -> Result<Vec<u8>, AllocError>
-    ensures { IfOk result (λ text. text.items ≡ joined_lines (map (λ line. line.items) lines.now)) }
+    ensures { IfOk result (λ text. text.items ≡ joined_lines (line_texts lines.now)) }
 {
     let mut text = Vec::new(alloc);
     let Some((first, others)) = lines.split_first() else {
@@ -32,7 +32,7 @@ pub fn join(alloc: Global, lines: &[Vec<u8>]) -> Result<Vec<u8>, AllocError>
 /// An index in the comma and the space after a line is at the end of this line, or after it. Returns `None` without a
 /// line.
 pub fn place(lines: &[Vec<u8>], index: usize) -> Option<(&[u8], usize)>
-    ensures { option_map (λ place. (place.0.now, place.1)) result ≡ place_in (map (λ line. line.items) lines.now) index }
+    ensures { option_map (λ place. (place.0.now, place.1)) result ≡ place_in (line_texts lines.now) index }
 {
     let (last, others) = lines.split_last()?;
     let mut column = index;
@@ -73,7 +73,7 @@ fn without_return(line: &[u8]) -> &[u8]
 ///
 /// Returns `AllocError` if memory runs out.
 pub fn split(alloc: Global, text: &[u8]) -> Result<Vec<Vec<u8>>, AllocError>
-    ensures { IfOk result (λ lines. map (λ line. line.items) lines.items ≡ value_lines text.now) }
+    ensures { IfOk result (λ lines. line_texts lines.items ≡ value_lines text.now) }
 {
     let mut lines = Vec::new(alloc);
     let mut rest = text;

@@ -5,7 +5,7 @@ ghost use Rattle.sfv_lint_head.specs.Paint.{color_of, painted};
 
 use std::alloc::AllocError;
 
-/// Whether the output has colors.
+/// The colors of the output.
 #[derive(Clone, Copy, Debug, PartialEq, Eq)]
 pub enum Colors {
     /// No word has a color.

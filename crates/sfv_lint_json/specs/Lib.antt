@@ -1,0 +1,3 @@
+pub mod Base32
+pub mod Json
+pub mod Trees
