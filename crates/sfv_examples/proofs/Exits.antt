@@ -79,8 +79,6 @@ one_memory version b e fit (inr h) = only_memory version (b ∷ []) e (fit, tt) 
 -- No room for a part means no room for the whole. `old` is the text before all parts, and `mid` and `now` are after
 -- some.
 module _ {Z : Type 0} (old : String Z) (front part : List ℕ) where
-  pub lacks_first : (more : List ℕ) → LacksRoom old (front ++ part) → LacksRoom old (front ++ (part ++ more))
-  lacks_first more h = subst (LacksRoom old) (append_assoc front part more) (room_before old (front ++ part) more h)
 
   module _ (mid : String Z) (begun : string_bytes mid ≡ string_bytes old ++ (front ++ part))
       (room : string_capacity old ≤ string_capacity mid) where
@@ -134,10 +132,6 @@ module _ {Z : Type 0} (old : String Z) (front key : List ℕ) (none : Bool) (ite
       (named_list_ended [] opening (opening ++ inside) ((opening ++ inside) ++ codes ")")
       (((opening ++ inside) ++ codes ")") ++ parameters_text params) front key none items params refl refl begun refl
       refl) h
-
-  pub opening_lacks : LacksRoom old opening → Lacks
-  opening_lacks h = whole_lacks (room_before old ((opening ++ inside) ++ codes ")") (parameters_text params)
-      (room_before old (opening ++ inside) (codes ")") (room_before old opening inside h)))
 
   module _ (mid : String Z) (opened : string_bytes mid ≡ string_bytes old ++ opening)
       (room : string_capacity old ≤ string_capacity mid) where

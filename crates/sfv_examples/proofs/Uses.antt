@@ -31,11 +31,6 @@ use Rattle.sfv_examples.specs.Uses.{IsReadError, IsErrorOfLines, IsLentString}
 use Rattle.sfv_examples.specs.declared.visiting.MemberCounter.{MemberCounter}
 use Rattle.sfv_examples.specs.declared.visiting.TooMany.{TooMany}
 
--- what holds anyway holds of an answer
-pub on_ok : {A E : Type 0} (r : Result A E) (P : Type 0) → P → OnOk r P
-on_ok (Ok x) P h = h
-on_ok (Err e) P h = tt
-
 -- of another kind it is the default
 pub integer_or-other : (default : ℤ) (b : BareValue) → ((z : ℤ) → ¬ (b ≡ integer z)) → integer_or default b ≡ default
 integer_or-other default (integer z) h = absurd (h z refl)

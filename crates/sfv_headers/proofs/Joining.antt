@@ -63,12 +63,3 @@ two_lines all text line left so_far more = rw so_far.whole (some so_far.done so_
         → 1 < length (done ++ line ∷ left)
     some [] h = absurd (more (none_first text h))
     some (x ∷ xs) h = omega (arith, length-append xs (line ∷ left))
-
-pub all_text : (all : List (List ℕ)) (text : Option Text) → IsSoFar all text []
-    → option_map cow_slice_items text ≡ text_of_lines all
-all_text all text so_far =
-    so_far.text_is ∙ ap text_of_lines (sym (so_far.whole ∙ append-nil so_far.done))
-
-pub all_borrowed : (all : List (List ℕ)) (text : Option Text) → IsSoFar all text [] → length all ≡ 1
-    → IfSome text IsBorrowedSlice
-all_borrowed all text so_far one = so_far.one_is_borrowed (ap length (sym (so_far.whole ∙ append-nil so_far.done)) ∙ one)

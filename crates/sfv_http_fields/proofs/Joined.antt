@@ -51,15 +51,3 @@ module _ {A : Type 0} (name : List ℕ) (f : A → List ℕ × List ℕ) (xs : L
       some [] h = absurd (omega (arith, h))
       some (x ∷ []) h = absurd (omega (arith, h))
       some (x ∷ y ∷ ys) h = λ none. never x 44 (32 ∷ []) (joined (codes ", ") (y ∷ ys)) none
-
--- the text of all lines
-pub lines_joined : (name : List ℕ) (lines : List (List ℕ × List ℕ)) (text : Option (CowSlice ℕ Global))
-    → IsSoFar (lines_of name lines) text [] → bytes_of text ≡ text_of_lines name lines
-lines_joined name lines text so_far = of_text text (lines_of name lines) (all_text (lines_of name lines) text so_far)
-  where
-    of_text : (text : Option (CowSlice ℕ Global)) (lines : List (List ℕ))
-        → option_map cow_slice_items text ≡ text_of lines → bytes_of text ≡ joined (codes ", ") lines
-    of_text None [] h = refl
-    of_text None (x ∷ xs) h = absurd (cc)
-    of_text (Some t) [] h = absurd (cc)
-    of_text (Some t) (x ∷ xs) h = cc

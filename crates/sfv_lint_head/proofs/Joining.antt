@@ -18,17 +18,6 @@ pub joined_first : (line : List ℕ) (lines : List (List ℕ)) → joined_lines 
 joined_first line [] = sym (append-nil line)
 joined_first line (next ∷ lines) = rw (joined_first next lines) (grind (arith, common_steps))
 
--- the place is in the first line, or in a later one
-pub place_here : (line : List ℕ) (lines : List (List ℕ)) (last : List ℕ) (index : ℕ) → index < length line + 2
-    → place_in (line ∷ lines ++ last ∷ []) index ≡ Some (line, index)
-place_here line [] last index h = grind (arith, common_steps)
-place_here line (next ∷ lines) last index h = grind (arith, common_steps)
-
-pub place_later : (line : List ℕ) (lines : List (List ℕ)) (last : List ℕ) (index : ℕ) → length line + 2 ≤ index
-    → place_in (line ∷ lines ++ last ∷ []) index ≡ place_in (lines ++ last ∷ []) (index - (length line + 2))
-place_later line [] last index h = grind (arith, common_steps)
-place_later line (next ∷ lines) last index h = grind (arith, common_steps)
-
 pub joined_all : {A : Type 0} (g : A → List ℕ) (xs others : List A) (first : A) (n : ℕ) (start text : List ℕ)
     → xs ≡ first ∷ others → length others ≤ n → start ≡ g first → text ≡ start ++ more_lines (map g (take n others))
     → text ≡ joined_lines (map g xs)

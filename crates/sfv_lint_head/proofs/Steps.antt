@@ -93,18 +93,10 @@ without : (b : ℕ) (bytes : List ℕ) → starts_with nat_eq (b ∷ bytes) (cod
     → names_http (b ∷ bytes) ≡ names_http bytes
 without b bytes h = ap (λ (found : Bool). found || names_http bytes) h
 
-with_it : (b : ℕ) (bytes : List ℕ) → starts_with nat_eq (b ∷ bytes) (codes "HTTP/") ≡ true
-    → names_http (b ∷ bytes) ≡ true
-with_it b bytes h = ap (λ (found : Bool). found || names_http bytes) h
-
 module _ (line : List ℕ) (i : ℕ) (h : i < length line) where
   pub names_http_step : starts_with nat_eq (take (length line - i) (drop i line)) (codes "HTTP/") ≡ false
       → names_http (drop i line) ≡ names_http (drop (i + 1) line)
   names_http_step other = rw (drop_more line i 0 h) (without (get_or line i 0) (drop (i + 1) line) (rw (rest_at line i h) at other))
-
-  pub names_http_here : starts_with nat_eq (take (length line - i) (drop i line)) (codes "HTTP/") ≡ true
-      → names_http (drop i line) ≡ true
-  names_http_here found = rw (drop_more line i 0 h) (with_it (get_or line i 0) (drop (i + 1) line) (rw (rest_at line i h) at found))
 
 -- ---- the values of a name
 

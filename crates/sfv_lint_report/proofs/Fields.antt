@@ -30,21 +30,6 @@ same_name : (name : List ℕ) → str_eq_ignore_ascii_case name name ≡ true
 same_name name = (bytes_eq-Decides (str_to_ascii_lowercase name) (str_to_ascii_lowercase name)).1 refl
 
 module _ (version : Version) (lines : List (List ℕ × List ℕ)) (name : List ℕ) (old new : Report) where
-  pub with_other : new.fields.items ≡ old.fields.items → registered_type name ≡ None
-      → IsWithLine version lines name old new
-  with_other same none = record {
-    fields = λ h. rw same h;
-    covered = inr none;
-    kept = λ other h. rw same h;
-  }
-
-  pub with_known : new.fields.items ≡ old.fields.items → list_any (is_of_name name) old.fields.items ≡ true
-      → IsWithLine version lines name old new
-  with_known same found = record {
-    fields = λ h. rw same h;
-    covered = inl (rw same found);
-    kept = λ other h. rw same h;
-  }
 
   pub with_field : (field : Field) → new.fields.items ≡ old.fields.items ++ field ∷ [] → IsFieldOf version lines field
       → field.name.items ≡ name → IsWithLine version lines name old new

@@ -37,13 +37,6 @@ module _ {S E : Type 0} (may_fail : Type 0) (takes : S → TreeEvent → S → T
   reader_fails {O} version kind t r error is h = somewhere version kind t error
       (subst (λ (r : Result O (ParseError E)). IfErr r (HasVisitorError takes MayFail Never version kind t from)) is h)
 
--- out of memory in the parser, and in the reader
-pub of_syntax : (may_fail : Type 0) (t : List ℕ) (e : Error) → ErrorNeedsMark t e → NeedsMarkUnless may_fail t e
-of_syntax may_fail t e h = λ same. inl (h same)
-
-pub of_reader : (may_fail : Type 0) (t : List ℕ) (e : Error) → may_fail → NeedsMarkUnless may_fail t e
-of_reader may_fail t e h = λ same. inr h
-
 -- a reader that never runs out of memory
 pub mark_needed : (t : List ℕ) (e : Error) → NeedsMarkUnless ⊥ t e → ErrorNeedsMark t e
 mark_needed t e h = λ same. elim (h same) [

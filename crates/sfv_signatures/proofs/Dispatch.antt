@@ -23,9 +23,6 @@ use Rattle.sfv_signatures.specs.HttpMessages.{HttpGives, ValueGives, is_derived,
 use Rattle.sfv_signatures.specs.HttpMessages.{ParsedGives, FieldGives, LinesGive, member_of, plain_text, byte_text}
 use Rattle.sfv_signatures.specs.HttpMessages.{has, string_param}
 
-Gives : Type 1
-Gives = Result (List ℕ) BaseErrorKind → Type 0
-
 -- a field of one type
 pub of_kind : {T : Type 0} (kind k : FieldKind) (t : List ℕ) (old new : String Global) (r : Result T BaseErrorKind)
     → kind ≡ k
@@ -37,11 +34,6 @@ of_kind kind k t old new r h x =
 -- ---- the value by its form
 
 module _ {T : Type 0} (old new : String Global) (r : Result T BaseErrorKind) where
-  pub with_bs : (bs : Bool) (key : Option (List ℕ)) (sf : Bool) (type : Option FieldKind) (lines : List (List ℕ))
-      → bs ≡ true → AppendsValue (λ r. r ≡ Ok (byte_text lines)) old new r
-      → AppendsValue (FieldGives bs key sf type lines) old new r
-  with_bs bs key sf type lines h x =
-      subst (λ b. AppendsValue (FieldGives b key sf type lines) old new r) (sym h) x
 
   pub with_key : (bs : Bool) (key : Option (List ℕ)) (sf : Bool) (type : Option FieldKind) (lines : List (List ℕ))
       (k t : List ℕ) → bs ≡ false → key ≡ Some k → t ≡ plain_text lines
@@ -51,14 +43,6 @@ module _ {T : Type 0} (old new : String Global) (r : Result T BaseErrorKind) whe
       subst (λ b. AppendsValue (FieldGives b key sf type lines) old new r) (sym h)
       (subst (λ (o : Option (List ℕ)). AppendsValue (FieldGives false o sf type lines) old new r) (sym some)
       (subst (λ t. AppendsValue (ParsedGives dictionary_field (member_of k) t) old new r) e x))
-
-  pub as_it_is : (bs : Bool) (key : Option (List ℕ)) (sf : Bool) (type : Option FieldKind) (lines : List (List ℕ))
-      → bs ≡ false → key ≡ None → sf ≡ false → AppendsValue (λ r. r ≡ Ok (plain_text lines)) old new r
-      → AppendsValue (FieldGives bs key sf type lines) old new r
-  as_it_is bs key sf type lines h none k x =
-      subst (λ b. AppendsValue (FieldGives b key sf type lines) old new r) (sym h)
-      (subst (λ (o : Option (List ℕ)). AppendsValue (FieldGives false o sf type lines) old new r) (sym none)
-      (subst (λ b. AppendsValue (FieldGives false None b type lines) old new r) (sym k) x))
 
   pub with_sf : (bs : Bool) (key : Option (List ℕ)) (sf : Bool) (type : Option FieldKind) (lines : List (List ℕ))
       (kind : FieldKind) (t : List ℕ) → bs ≡ false → key ≡ None → sf ≡ true → type ≡ Some kind → t ≡ plain_text lines

@@ -63,12 +63,6 @@ pub not_a_key : (key t : List ℕ) (members : List (List ℕ × RawMember)) → 
 not_a_key key t members h other = no_member key t members h
     (absent_key key members (read_is_value Rfc9651 dictionary_field t members h).parts other)
 
-pub found_member_gives : (key t : List ℕ) (members : List (List ℕ × RawMember)) (m : RawMember)
-    → IsParsedAs Rfc9651 dictionary_field t members → last_of key members ≡ Some m
-    → ParsedGives dictionary_field (member_of key) t (Ok (member_text m))
-found_member_gives key t members m h some =
-    inl (members, h, sym (ap (λ (o : Option RawMember). ok_or (option_map member_text o) kinds.NoMember) some))
-
 -- ---- texts that are not keys
 
 none_outside : (inner : ℕ → Bool) (cs : List ℕ) → list_all inner cs ≡ true

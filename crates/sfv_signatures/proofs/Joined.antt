@@ -37,20 +37,6 @@ pub record IsSoFar (old new : List ℕ) (is_first : Bool) (left all : List (List
   pub text : new ≡ old ++ done
   pub whole : done ++ with_separators is_first (codes ", ") left ≡ with_separators true (codes ", ") all
 
-pub none_yet : (old : List ℕ) (all : List (List ℕ)) → IsSoFar old old true all all
-none_yet old all = record { done = []; text = sym (append-nil old); whole = refl }
-
-pub one_more : (old new next : List ℕ) (is_first : Bool) (x : List ℕ) (left all : List (List ℕ))
-    → IsSoFar old new is_first (x ∷ left) all → next ≡ new ++ (separator_before is_first (codes ", ") ++ x)
-    → IsSoFar old next false left all
-one_more old new next is_first x left all so_far e = record {
-  done = so_far.done ++ (separator_before is_first (codes ", ") ++ x);
-  text = e ∙ ap (λ (t : List ℕ). t ++ (separator_before is_first (codes ", ") ++ x)) so_far.text
-      ∙ append_assoc old so_far.done (separator_before is_first (codes ", ") ++ x);
-  whole = append_assoc so_far.done (separator_before is_first (codes ", ") ++ x) (with_separators false (codes ", ") left)
-      ∙ so_far.whole;
-}
-
 pub all_joined : (old new : List ℕ) (is_first : Bool) (all : List (List ℕ)) → IsSoFar old new is_first [] all
     → new ≡ old ++ joined (codes ", ") all
 all_joined old new is_first all so_far =

@@ -25,9 +25,6 @@ pub record HasLines (message : Message) (is : List RawItem) (t : List ℕ) : Typ
   pub found : HaveValues message [] is values
   pub text : t ≡ flat_map fed_line (zip is values)
 
-pub no_lines : (message : Message) (t : List ℕ) → t ≡ [] → HasLines message [] t
-no_lines message t h = record { values = []; found = tt; text = h }
-
 zip_snoc : (is : List RawItem) (vs : List (List ℕ)) (i : RawItem) (v : List ℕ) → length vs ≡ length is
     → flat_map fed_line (zip (is ++ i ∷ []) (vs ++ v ∷ [])) ≡ flat_map fed_line (zip is vs) ++ fed_line (i, v)
 zip_snoc [] [] i v h = simp append-nil refl
@@ -44,15 +41,6 @@ one_more message is i v t u h k e = record {
   found = values_snoc message [] is h.values i v h.found k;
   text = e ∙ ap (λ s. s ++ fed_line (i, v)) h.text
       ∙ sym (zip_snoc is h.values i v (values_counted message [] is h.values h.found));
-}
-
-pub lined_base : (message : Message) (l : RawInnerList) (t u : List ℕ) → HasLines message l.items t
-    → IsValue list_field (inner_list l ∷ []) → u ≡ t ++ params_line l → IsBaseOf message l u
-lined_base message l t u h k e = record {
-  list = k;
-  values = h.values;
-  found = h.found;
-  text = e ∙ ap (λ s. s ++ params_line l) h.text;
 }
 
 -- ---- the identifier at an index
@@ -79,11 +67,6 @@ pub step_fault : (message : Message) (l : RawInnerList) (n : ℕ) (t : List ℕ)
     kind → UnlessMemory (λ kind. BreaksFirst message l kind n) kind
 step_fault message l n t kind lines (inl memory) = inl memory
 step_fault message l n t kind lines (inr (i, at, rule)) = inr (i, at, rule, (lines.values, lines.found))
-
--- all lines
-pub all_lines : (message : Message) (l : RawInnerList) (n : ℕ) (t : List ℕ) → length l.items ≤ n
-    → HasLines message (take n l.items) t → HasLines message l.items t
-all_lines message l n t h lines = subst (λ (is : List RawItem). HasLines message is t) (take_all n l.items h) lines
 
 -- the error at an index, after the lines before it
 pub error_at : (message : Message) (l : RawInnerList) (n : ℕ) (t : List ℕ) (e : BaseError)

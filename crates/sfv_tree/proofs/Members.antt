@@ -8,16 +8,6 @@ use Rattle.sfv_tree.specs.Events.{event_of, is_moved}
 use Rattle.sfv_tree.specs.declared.visitor.member.Member.{Member}
 use Rattle.sfv_tree.specs.declared.visitor.Event.{Event}
 
--- an incomplete member does not go in
-pub settles_pair : (ms : List (List ℕ × RawMember)) (key : List ℕ) (p : Member)
-    → settle_pair ms key (member_state p) ≡ (ms, Some (key, member_state p))
-settles_pair ms key p = grind arith
-
--- a member does not end at a bare item
-pub not_moved : (p : Member) (e : Event) (m : RawMember) → ended m ≡ member_step (member_state p) (event_of e)
-    → is_moved e ≡ false
-not_moved p e m h = grind arith
-
 pub or_true : (b : Bool) → IsTrue (b || true)
 or_true true = search rules
 or_true false = search rules

@@ -110,8 +110,3 @@ more_decoded before symbols rest bytes part after new n so_far fits groups front
       within = rw back (omega (arith, length-drop n rest, so_far.within));
       all = rw (is, front, back, append_assoc, ← parts) so_far.all;
     }
-
--- the last ones are decoded
-pub all_decoded : (before symbols rest bytes new : List ℕ) → IsDecodedUpTo before symbols rest bytes
-    → new ≡ bytes ++ decoded_symbols rest → new ≡ before ++ decoded_symbols symbols
-all_decoded before symbols rest bytes new so_far is = is ∙ so_far.all
