@@ -1,51 +1,25 @@
 -- Lemmas for callers. They lead from a value to the text, from a visitor's run to the field, and from a written text to
 -- its parsed value. Callers cite them from here.
 use Rattle.std.proofs.Common.{◌≡◌, ℕ, List, [], ◌∷◌, ◌++◌, true, cond, Result, Ok, Err, refl, sym, ◌∙◌, ap, subst, inl}
-use Rattle.std.proofs.Common.{inr}
-use Rattle.std.specs.Prelude.{fold}
-use Rattle.sfv_spec.specs.Events.{TreeEvent, events}
-use Rattle.sfv_base.specs.declared.error.ParseError.TheVariants as parse_errors
-use Rattle.sfv_spec.proofs.Runs.{runs_fold}
-use Rattle.std.specs.Prelude.{⊤, bytes_eq, option_map, Some, None, IfOk, IfErr, MatchResult}
-use Rattle.std.specs.declared.alloc.Global.{Global}
-use Rattle.std.specs.declared.vec.Vec.{Vec}
-use Rattle.std.proofs.lemmas.Option.{same_Some}
-use Rattle.std.proofs.lemmas.Result.{IfOk-weaker, IfErr-weaker}
+use Rattle.std.{proofs.Common.{inr, fold, bytes_eq, option_map, Some, None, IfOk, IfErr, MatchResult}, specs.Prelude.⊤}
+use Rattle.std.specs.declared.{alloc.Global.Global, vec.Vec.Vec}
+use Rattle.std.proofs.lemmas.{Option.same_Some, Result.{IfOk-weaker, IfErr-weaker}}
 use Rattle.indexmap.specs.IndexMap.{IndexMap, insert_entry}
-use Rattle.sfv_spec.specs.Values.{RawMember, RawField}
-use Rattle.sfv_spec.specs.declared.field_kind.FieldKind.{FieldKind}
-use Rattle.sfv_spec.specs.declared.field_kind.FieldKind.TheVariants.{Item as item_field, List as list_field}
-use Rattle.sfv_spec.specs.declared.field_kind.FieldKind.TheVariants.{Dictionary as dictionary_field}
-use Rattle.sfv_spec.specs.declared.version.Version.{Version}
-use Rattle.sfv_spec.specs.Grammar.{IsFieldText}
-use Rattle.sfv_spec.specs.Ordered.{last_of, ordered, ordered_member}
-use Rattle.sfv_spec.proofs.Repeats.{no_repeats}
-use Rattle.sfv_spec.proofs.Marks.{keys}
-use Rattle.sfv_spec.specs.Statements.{IsParsedAs, IsValue}
-use Rattle.sfv_spec.proofs.Collapse.{entered, collapse-distinct, collapse-push, last_of-push}
-use Rattle.sfv_spec.proofs.Structure.{one_field_lem}
-use Rattle.sfv_spec.proofs.Valid.{accepted_is_value_lem}
-use Rattle.sfv_spec.specs.Faults.{IsFaultAt}
-use Rattle.sfv_spec.specs.declared.error_kind.ErrorKind.{ErrorKind}
-use Rattle.sfv_base.specs.declared.error.Error.{Error}
-use Rattle.sfv_base.specs.Errors.{index_of, kind_of, out_of_memory}
-use Rattle.sfv_tree.specs.Trees.{list_tree, dictionary_tree}
+use Rattle.sfv_spec.proofs.{Collapse.{entered, collapse-distinct, collapse-push, last_of-push}, Marks.keys}
+use Rattle.sfv_spec.proofs.{Repeats.no_repeats, Runs.runs_fold, Structure.one_field_lem, Valid.accepted_is_value_lem}
 use Rattle.sfv_tree.specs.Builders.{list_state, list_step, dictionary_state, ListAdds, DictionaryAdds, dictionary_step}
-use Rattle.sfv_tree.specs.declared.hash_seed.HashSeed.{HashSeed}
-use Rattle.sfv_tree.specs.declared.parsed.ListEntry.{ListEntry}
-use Rattle.sfv_tree.specs.declared.visitor.list_builder.ListBuilder.{ListBuilder}
-use Rattle.sfv_tree.specs.declared.visitor.dictionary_builder.DictionaryBuilder.{DictionaryBuilder}
-use Rattle.sfv_base.specs.declared.error.ParseError.{ParseError}
 use Rattle.sfv_tree.specs.declared.visitor.Visitor.{Ghosts as Visitor}
-use Rattle.sfv.specs.declared.parser.Parser.{Parser}
-use Rattle.sfv.specs.Parsers.{version_of, input_of, IsParseError, IsAnswerBy, IsSyntaxErrorBy}
-use Rattle.sfv.specs.Parsers.{ReceivesAsReadBy, ReadsBy, ReadsItemBy}
+use Rattle.sfv.specs.Field.{TreeEvent, events, RawMember, RawField, FieldKind, item_field, list_field, dictionary_field}
+use Rattle.sfv.specs.Field.{Version, IsFieldText, last_of, ordered, ordered_member, IsParsedAs, IsValue, IsFaultAt}
+use Rattle.sfv.specs.Field.{ErrorKind, index_of, kind_of, out_of_memory, list_tree, dictionary_tree, IsParseError}
+use Rattle.sfv.specs.Field.{IsAnswerBy, IsSyntaxErrorBy}
+use Rattle.sfv.specs.Parsers.{version_of, input_of, ReceivesAsReadBy, ReadsBy, ReadsItemBy}
+use Rattle.sfv.specs.Types.{Error, HashSeed, ListEntry, ListBuilder, DictionaryBuilder, ParseError}
+use Rattle.sfv.specs.{declared.parser.Parser.Parser, parser.Visits.ReturnsAfter}
 use Rattle.sfv.proofs.Relations.{HasFirst, HasVisitorError, has_visitor_error}
+use Rattle.sfv.proofs.built.{Dictionaries.built_dictionary_after, Items.insert_entry-entered, Lists.built_list_after}
 use Rattle.sfv.proofs.visits.First.{has_first}
-use Rattle.sfv.specs.parser.Visits.{ReturnsAfter}
-use Rattle.sfv.proofs.built.Items.{insert_entry-entered}
-use Rattle.sfv.proofs.built.Lists.{built_list_after}
-use Rattle.sfv.proofs.built.Dictionaries.{built_dictionary_after}
+use Rattle.sfv_base.specs.declared.error.ParseError.TheVariants as parse_errors
 -- The last pair of a key: `IsLast` splits the pairs there (`last_of-split`, `split-last_of`). `none-last_of`: the key
 -- has no pair. `lookup-last_of`: without repeated keys, the last pair is the first. `last_of-over`: a function of each
 -- value.

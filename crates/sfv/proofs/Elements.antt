@@ -1,32 +1,18 @@
 -- The text of all elements that an iterator over a list, an inner list or a dictionary returns, and of one element.
-use Rattle.std.proofs.Common.{◌≡◌, ◌++◌, ◌∙◌, ℕ, zero, suc, Bool, true, List, [], ◌∷◌, map, refl, sym, ap}
-use Rattle.std.proofs.Common.{subst, append-nil, Iter, arith, inl, inr}
-use Rattle.std.specs.Prelude.{codes, ◌||◌}
-use Rattle.std.specs.Borrow.{Bor}
-use Rattle.std.specs.Iterator.{Drains}
-use Rattle.std.specs.List.{list_any, Any}
-use Rattle.std.specs.Map.Iter.{TakesFirst, deref_pair}
-use Rattle.std.specs.Slice.Iter.{iter_rest, iter_steps}
-use Rattle.std.proofs.lemmas.Simd.{map-map}
-use Rattle.sfv_spec.specs.Texts.{joined}
-use Rattle.sfv_spec.specs.Values.{BareValue, RawItem, RawParameters, RawMember}
-use Rattle.sfv_spec.specs.declared.field_kind.FieldKind.TheVariants.{List as list_field}
-use Rattle.sfv_spec.specs.declared.field_kind.FieldKind.TheVariants.{Dictionary as dictionary_field}
+use Rattle.std.proofs.Common.{◌≡◌, ◌++◌, ◌∙◌, ℕ, zero, suc, Bool, true, List, [], ◌∷◌, map, refl, sym, ap, subst}
+use Rattle.std.proofs.Common.{append-nil, Iter, arith, inl, inr, codes, ◌||◌, Bor, Any}
+use Rattle.std.specs.{Iterator.Drains, List.list_any, Map.Iter.{TakesFirst, deref_pair}}
+use Rattle.std.{specs.Slice.Iter.{iter_rest, iter_steps}, proofs.lemmas.Simd.map-map}
 use Rattle.sfv_spec.specs.Canonical.{canonical, value_text, parameters_text, item_text, inner_list_text, member_text}
-use Rattle.sfv_spec.specs.Canonical.{dictionary_member_text}
-use Rattle.sfv_spec.specs.declared.version.Version.TheVariants.{Rfc9651}
-use Rattle.sfv_spec.proofs.Given.{newer_has_all}
-use Rattle.sfv_tree.specs.Trees.{item_tree, member_tree, list_tree, dictionary_tree}
-use Rattle.sfv_tree.specs.declared.parsed.Item.{Item}
-use Rattle.sfv_tree.specs.declared.parsed.ListEntry.{ListEntry}
-use Rattle.sfv_tree.proofs.Words.{entry_tree}
+use Rattle.sfv_spec.specs.{Canonical.dictionary_member_text, Texts.joined}
+use Rattle.sfv_spec.{specs.Values.{BareValue, RawItem, RawParameters, RawMember}, proofs.Given.newer_has_all}
+use Rattle.sfv_tree.{specs.Trees.{item_tree, member_tree, list_tree, dictionary_tree}, proofs.Words.entry_tree}
 use Rattle.sfv_writer.specs.Versions.{inner_items, list_members, dictionary_members, parts_text, IsSerializeError}
-use Rattle.sfv_writer.specs.declared.serialize_error.SerializeError.{SerializeError}
-use Rattle.sfv_writer.specs.declared.serialize_error.SerializeError.TheVariants as errors
 use Rattle.sfv_writer.specs.Written.{with_separators}
-use Rattle.sfv_writer.proofs.Lent.{slice_gives, map_gives}
-use Rattle.sfv_writer.proofs.Separated.{in_a_row_first}
+use Rattle.sfv_writer.proofs.{Lent.{slice_gives, map_gives}, Separated.in_a_row_first}
 use Rattle.sfv_serializer.proofs.Scripts.{inner_list_ended as ended}
+use Rattle.sfv.specs.Types.{list_field, dictionary_field, Rfc9651, Item, ListEntry, SerializeError}
+use Rattle.sfv_writer.specs.declared.serialize_error.SerializeError.TheVariants as errors
 
 -- the text of all elements, through a function of each
 through : {A B : Type 0} (separator : List ℕ) (text : B → List ℕ) (lent : A → B) (taken : List A) (all : List B)

@@ -1,29 +1,16 @@
 -- Lemmas that lead from a visitor's result to the clause of a field crate in one step. `Callers` re-exports them.
 use Rattle.std.proofs.Common.{◌≡◌, ℕ, List, [], ◌∷◌, true, false, cond, Option, Some, None, Bool, refl, sym, ap, ◌∙◌, ℤ}
-use Rattle.std.proofs.Common.{IsTrue, ◌++◌, Result, Ok, Err, subst, append_assoc}
-use Rattle.std.specs.Prelude.{OnOk, bytes_eq, fold, option_map, unwrap_or}
-use Rattle.std.proofs.lemmas.List.{append-nil}
-use Rattle.std.proofs.lemmas.Slice.Eq.{bytes_eq-Decides}
-use Rattle.sfv_spec.specs.Values.{RawField, BareValue, RawParameters, RawMember, IsFieldValue, integer, decimal, string}
-use Rattle.sfv_spec.specs.Values.{token, byte_sequence, boolean, date, display_string, Fits, fits_bare, bare_values}
-use Rattle.sfv_spec.specs.declared.field_kind.FieldKind.{FieldKind}
-use Rattle.sfv_spec.specs.declared.field_kind.FieldKind.TheVariants.{List as list_field, Dictionary as dictionary_field}
-use Rattle.sfv_spec.specs.declared.version.Version.{Version}
-use Rattle.sfv_spec.specs.declared.version.Version.TheVariants.{Rfc8941, Rfc9651}
-use Rattle.sfv_spec.specs.Events.{TreeEvent, entry, keyed_entry, begins_item, begins_inner_list, bare_item, parameter}
-use Rattle.sfv_spec.specs.Events.{inner_list_end, parameters_end, parameters_events, entry_events, keyed_events, events}
-use Rattle.sfv_spec.specs.Ordered.{last_of, ordered, ordered_member}
-use Rattle.sfv_spec.specs.Statements.{IsParsedAs}
-use Rattle.sfv_spec.proofs.Structure.{one_field_lem}
-use Rattle.sfv_spec.proofs.Fields.{all_fit_newer}
-use Rattle.sfv_spec.proofs.Kept.{last_kept, fold_parameters}
-use Rattle.sfv_spec.proofs.Collapse.{last_of-push}
-use Rattle.sfv_spec.proofs.Repeats.{IsOrdered}
-use Rattle.sfv_spec.proofs.Distinct.{ordered_same}
-use Rattle.sfv_spec.specs.Canonical.{canonical}
-use Rattle.sfv_spec.proofs.Runs.{runs_fold}
-use Rattle.sfv.proofs.Relations.{Answers}
-use Rattle.sfv.proofs.LastRead.{fold_entries, IsIdle, last_read, read_back_either}
+use Rattle.std.proofs.Common.{IsTrue, ◌++◌, Result, Ok, Err, subst, append_assoc, OnOk, bytes_eq, fold, option_map}
+use Rattle.std.proofs.{Common.{unwrap_or, append-nil}, lemmas.Slice.Eq.bytes_eq-Decides}
+use Rattle.sfv_spec.{specs.Values.{fits_bare, bare_values}, proofs.Collapse.last_of-push}
+use Rattle.sfv_spec.proofs.{Distinct.ordered_same, Fields.all_fit_newer, Kept.{last_kept, fold_parameters}}
+use Rattle.sfv_spec.proofs.{Repeats.IsOrdered, Runs.runs_fold, Structure.one_field_lem}
+use Rattle.sfv.specs.Field.{RawField, BareValue, RawParameters, RawMember, IsFieldValue, integer, decimal, string}
+use Rattle.sfv.specs.Field.{token, byte_sequence, boolean, date, display_string, Fits, FieldKind, list_field}
+use Rattle.sfv.specs.Field.{dictionary_field, Version, Rfc8941, Rfc9651, TreeEvent, entry, keyed_entry, begins_item}
+use Rattle.sfv.specs.Field.{begins_inner_list, bare_item, parameter, inner_list_end, parameters_end, parameters_events}
+use Rattle.sfv.specs.Field.{entry_events, keyed_events, events, last_of, ordered, ordered_member, IsParsedAs, canonical}
+use Rattle.sfv.proofs.{LastRead.{fold_entries, IsIdle, last_read, read_back_either}, Relations.Answers}
 
 -- If each pair of a key sets the looked-at part of the state, and no other pair changes it, the final part comes from the
 -- key's last pair. It begins as without a pair.

@@ -1,36 +1,19 @@
 -- Where no field begins, the fault of its first part is that of the field.
 use Rattle.std.proofs.Common.{◌≡◌, ℕ, ◌≤◌, true, List, [], ◌∷◌, length, drop, Option, Some, None, Ok, Err, ap, subst}
-use Rattle.std.proofs.Common.{◌∙◌}
-use Rattle.std.specs.Prelude.{MatchOption, is_some, Result, IfErr}
-use Rattle.std.specs.declared.alloc.Global.{Global}
-use Rattle.std.proofs.lemmas.Result.{IfErr-weaker}
-use Rattle.sfv_spec.proofs.Marks.{left_parenthesis, is_space}
-use Rattle.sfv_spec.specs.Classes.{is_token_start}
-use Rattle.sfv_spec.specs.declared.field_kind.FieldKind.{FieldKind}
-use Rattle.sfv_spec.specs.declared.field_kind.FieldKind.TheVariants.{Item as item_field, List as list_field}
-use Rattle.sfv_spec.specs.declared.field_kind.FieldKind.TheVariants.{Dictionary as dictionary_field}
-use Rattle.sfv_spec.specs.declared.version.Version.{Version}
-use Rattle.sfv_spec.specs.Events.{TreeEvent, entry, begins_item, events, entry_events, keyed_events}
-use Rattle.sfv_base.specs.declared.error.Error.{Error}
-use Rattle.sfv_spec.specs.declared.error_kind.ErrorKind.{ErrorKind}
-use Rattle.sfv_spec.specs.declared.error_kind.ErrorKind.TheVariants.{ExpectedStartOfBareItem}
-use Rattle.sfv_model.specs.Reader.{Answer, Apart, first, byte, span, led, led_answer}
-use Rattle.sfv_model.specs.Bare.{bare_at}
-use Rattle.sfv_model.specs.Items.{key_at, item_at}
+use Rattle.std.proofs.Common.{◌∙◌, MatchOption, is_some, Result, IfErr}
+use Rattle.std.{specs.declared.alloc.Global.Global, proofs.lemmas.Result.IfErr-weaker}
+use Rattle.sfv_spec.{specs.Classes.is_token_start, proofs.Marks.{left_parenthesis, is_space}}
+use Rattle.sfv_model.specs.{Bare.bare_at, Fields.{whole_field_at, read_field}, Items.{key_at, item_at}}
 use Rattle.sfv_model.specs.Members.{member_at, entry_at, keyed_at}
-use Rattle.sfv_model.specs.Fields.{whole_field_at, read_field}
-use Rattle.sfv_model.proofs.complete.Combinators.{branch_past}
-use Rattle.sfv.specs.Parsers.{IsParseError}
-use Rattle.sfv.specs.Memory.{IsRefusal}
-use Rattle.sfv.specs.declared.parser.Parser.{Parser}
-use Rattle.sfv.specs.declared.parser.cursor.Cursor.{Cursor}
+use Rattle.sfv_model.specs.Reader.{Answer, Apart, first, byte, span, led, led_answer}
+use Rattle.sfv_model.proofs.{Types.ExpectedStartOfBareItem, complete.Combinators.branch_past}
+use Rattle.sfv.specs.Field.{FieldKind, item_field, list_field, dictionary_field, Version, TreeEvent, entry, begins_item}
+use Rattle.sfv.specs.{Field.{events, entry_events, keyed_events, ErrorKind, IsParseError}, Memory.IsRefusal}
+use Rattle.sfv.specs.{Types.Error, declared.parser.Parser.Parser, declared.parser.cursor.Cursor.Cursor}
 use Rattle.sfv.specs.parser.Cursor.{kept, kept_input, kept_version, input, version, rest, located, located_whole}
 use Rattle.sfv.specs.parser.Cursor.{IsFaultOf}
-use Rattle.sfv.proofs.Parsed.{parse_error}
-use Rattle.sfv.proofs.reads.Errors.{fault_bind}
-use Rattle.sfv.proofs.reads.Steps.{NoOpener, bare_token, token_none}
-use Rattle.sfv.proofs.reads.Delimiters.{first_of, members_first}
-use Rattle.sfv.proofs.visits.Whole.{ending_located, field_faulty}
+use Rattle.sfv.proofs.{Parsed.parse_error, reads.Delimiters.{first_of, members_first}, reads.Errors.fault_bind}
+use Rattle.sfv.proofs.{reads.Steps.{NoOpener, bare_token, token_none}, visits.Whole.{ending_located, field_faulty}}
 
 -- no byte stands next that a bare item begins with
 pub bare_none : (version : Version) (t : List ℕ) → NoOpener t → Apart is_token_start t

@@ -1,17 +1,11 @@
 -- The value of two lines of a field is the value of the lines joined by a comma and a space.
-use Rattle.std.proofs.Common.{◌≡◌, ◌∙◌, ℕ, ◌<◌, List, ◌∷◌, ◌++◌, length, ap, sym, arith}
-use Rattle.std.specs.Prelude.{map, codes}
+use Rattle.std.proofs.Common.{◌≡◌, ◌∙◌, ℕ, ◌<◌, List, ◌∷◌, ◌++◌, length, ap, sym, arith, map, codes}
 use Rattle.std.proofs.lemmas.List.{map-append}
-use Rattle.sfv_spec.specs.Values.{RawMember, HasMember}
-use Rattle.sfv_spec.specs.Grammar.{IsFieldText}
-use Rattle.sfv_spec.specs.Ordered.{collapse, ordered_member, ordered}
-use Rattle.sfv_spec.specs.Statements.{IsParsedAs}
-use Rattle.sfv_spec.specs.declared.field_kind.FieldKind.TheVariants.{List as list_field, Dictionary as dictionary_field}
-use Rattle.sfv_spec.specs.declared.version.Version.{Version}
+use Rattle.sfv_spec.specs.Ordered.{collapse}
 use Rattle.sfv_spec.proofs.Collapse.{collapse-distinct, no_repeats-collapse, entered_all, entered_all-collapse}
-use Rattle.sfv_spec.proofs.Distinct.{is_ordered, ordered_same}
-use Rattle.sfv_spec.proofs.Structure.{one_field_lem}
-use Rattle.sfv_model.proofs.Lines.{joined_lines_lem}
+use Rattle.sfv_spec.proofs.{Distinct.{is_ordered, ordered_same}, Structure.one_field_lem}
+use Rattle.sfv_model.proofs.{Lines.joined_lines_lem, Types.{list_field, dictionary_field, Version}}
+use Rattle.sfv.specs.Field.{RawMember, HasMember, IsFieldText, ordered_member, ordered, IsParsedAs}
 use Rattle.sfv.proofs.built.Dictionaries.{collapse-over}
 
 -- the value of the first line has the same effect as its members

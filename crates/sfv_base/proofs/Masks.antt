@@ -1,18 +1,14 @@
 -- Masks of lanes, computed lane by lane from a vector of bytes.
 use Rattle.std.proofs.Common.{◌≡◌, ℕ, ◌+◌, ◌*◌, ◌/◌, ◌%◌, ◌^◌, ◌<◌, ◌≤◌, Bool, true, false, not, cond, eqb, List, []}
 use Rattle.std.proofs.Common.{◌∷◌, ◌++◌, map, length, get_or, replicate, bit_and, refl, sym, ap, ap₂, ◌∙◌, arith, w8}
-use Rattle.std.proofs.Common.{Fits}
-use Rattle.std.proofs.lemmas.Bool.{agree_below, agree_below_at}
-use Rattle.std.proofs.lemmas.Nat.{and_le_r, and_mask}
+use Rattle.std.{proofs.Common.{Fits, ext_get_or}, specs.List.range_with_len}
+use Rattle.std.proofs.lemmas.{Bool.{agree_below, agree_below_at}, List.{get_or-map, get_or_append_left, length-map}}
+use Rattle.std.proofs.lemmas.{List.FromFn.get_or-map-range_with_len, Nat.{and_le_r, and_mask}}
 use Rattle.std.proofs.lemmas.Simd.{zip2_splat, zip2_of_maps, map-map, mask_l-mod, Each1-all, Each1-weaker, Each1-zip2}
 use Rattle.std.proofs.lemmas.Simd.{Each2-splat, Each1-get_or, below_from_Fits, swz_l, SwzOk, SwzOk-from_below}
 use Rattle.std.proofs.lemmas.Simd.{length-swz_l, get_or-swz_l_below}
-use Rattle.std.proofs.lemmas.List.{get_or-map, get_or_append_left, length-map, ext_get_or}
-use Rattle.std.proofs.lemmas.List.FromFn.{get_or-map-range_with_len}
-use Rattle.std.specs.List.{range_with_len}
 use lib.Lanes.{zip2, mask_l, top, Each1}
-use Rattle.sfv_base.specs.Lanes.{outside_mask, is_marked}
-use Rattle.sfv_base.specs.declared.lanes.TheConstants.{HIGH}
+use Rattle.sfv_base.specs.{Lanes.{outside_mask, is_marked}, declared.lanes.TheConstants.HIGH}
 
 -- ---- maps
 

@@ -1,14 +1,11 @@
 -- The rows of the tables of classes, and the classes as bits of a row.
-use Rattle.std.proofs.Common.{◌≡◌, ℕ, ◌<◌, Bool, true, not, eqb, List, get_or, bit_and, refl}
-use Rattle.std.proofs.lemmas.Bool.{agree_below, agree_below_at, eqb-true}
+use Rattle.std.proofs.Common.{◌≡◌, ℕ, ◌<◌, Bool, true, not, eqb, List, get_or, bit_and, refl, eqb-true}
+use Rattle.std.proofs.lemmas.Bool.{agree_below, agree_below_at}
 use Rattle.sfv_spec.specs.Classes.{is_string_byte, is_token_start, is_token_inner, is_key_start, is_key_inner}
-use Rattle.sfv_spec.specs.Classes.{is_lower_hexadecimal}
-use Rattle.sfv_spec.specs.Strings.{is_plain_in_display}
+use Rattle.sfv_spec.specs.{Classes.is_lower_hexadecimal, Strings.is_plain_in_display}
 use Rattle.sfv_spec.proofs.Marks.{is_plain_in_string, is_symbol}
-use Rattle.sfv_base.specs.Digits.{digit_row}
-use Rattle.sfv_base.specs.Rows.{class_sum, run_class_sum}
-use Rattle.sfv_base.specs.declared.utils.TheConstants.{CLASSES, DIGITS}
-use Rattle.sfv_base.specs.declared.runs.TheConstants.{RUN_CLASSES}
+use Rattle.sfv_base.specs.{Digits.digit_row, Rows.{class_sum, run_class_sum}}
+use Rattle.sfv_base.specs.declared.{runs.TheConstants.RUN_CLASSES, utils.TheConstants.{CLASSES, DIGITS}}
 
 -- the rows of a table are the values of a function, which is computed
 abbrev rows_are : (ℕ → ℕ) → List ℕ → Bool

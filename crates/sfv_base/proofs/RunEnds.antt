@@ -1,17 +1,13 @@
 -- A run of a class, seen 32 bytes at a time through the mask of those outside it.
 use Rattle.std.proofs.Common.{◌≡◌, ℕ, zero, suc, ◌+◌, ◌-◌, ◌*◌, ◌/◌, ◌<◌, ◌≤◌, Bool, true, false, not, cond, eqb, List}
 use Rattle.std.proofs.Common.{[], ◌∷◌, ◌++◌, inl, inr, length, get_or, take, drop, refl, sym, ap, ap₂, ◌∙◌, arith}
-use Rattle.std.proofs.Common.{drop-drop, length-drop}
+use Rattle.std.proofs.Common.{drop-drop, length-drop, eq-eqb, ne_eqb, take_all, take-append-drop, length-take-le}
+use Rattle.std.{proofs.Common.length-append, specs.Array.IsWholeChunk}
+use Rattle.std.{specs.List.{prefix_len, list_all}, specs.Simd.first_chunks, proofs.lemmas.Bool.{and_from, cases_lt}}
+use Rattle.std.proofs.lemmas.List.{Folds.prefix_len-append, Sums.{prefix_len-le-length, prefix_len_stops}}
 use Rattle.std.proofs.lemmas.Simd.{chunk-drop, length-chunk, leading_from_mask_l, trailing_mask_l}
-use Rattle.std.proofs.lemmas.List.Folds.{prefix_len-append}
-use Rattle.std.proofs.lemmas.List.Sums.{prefix_len-le-length, prefix_len_stops}
-use Rattle.std.proofs.lemmas.Bool.{eq-eqb, ne_eqb, and_from, cases_lt}
-use Rattle.std.specs.List.{prefix_len, list_all}
-use Rattle.std.specs.Simd.{first_chunks}
-use Rattle.std.specs.Array.{IsWholeChunk}
-use Rattle.std.proofs.lemmas.List.{take_all, take-append-drop, length-take-le, length-append}
-use lib.Lanes.{chunk}
 use lib.Count.{count_trailing_zeros}
+use lib.Lanes.{chunk}
 use Rattle.sfv_base.specs.Lanes.{outside_mask}
 
 -- the chunk at an index

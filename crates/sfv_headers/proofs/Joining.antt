@@ -1,10 +1,8 @@
 -- The lines of a field are joined one after the other.
 use Rattle.std.proofs.Common.{◌≡◌, ℕ, ◌<◌, List, [], ◌∷◌, ◌++◌, length, Option, Some, None, refl, sym, ap, ◌∙◌}
-use Rattle.std.proofs.Common.{append_assoc, append-nil, arith, length-append}
-use Rattle.std.specs.Prelude.{◌≢◌, option_map, codes, IfSome}
+use Rattle.std.proofs.Common.{append_assoc, arith, length-append, ◌≢◌, option_map, codes, IfSome}
 use Rattle.std.specs.Cow.{cow_slice_items, IsBorrowedSlice}
-use Rattle.std.specs.declared.alloc.Global.{Global}
-use Rattle.std.specs.declared.borrow.CowSlice.{CowSlice}
+use Rattle.std.specs.declared.{alloc.Global.Global, borrow.CowSlice.CowSlice}
 use Rattle.sfv.specs.Texts.{joined}
 use Rattle.sfv_headers.specs.Lines.{text_of_lines, with_line}
 

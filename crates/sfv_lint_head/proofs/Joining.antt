@@ -1,14 +1,10 @@
 -- The text of a field, line after line.
 use Rattle.std.proofs.Common.{◌≡◌, ℕ, ◌+◌, ◌-◌, ◌<◌, ◌≤◌, List, [], ◌∷◌, ◌++◌, length, take, refl, sym, ap, ◌∙◌}
-use Rattle.std.proofs.Common.{append_assoc, append-nil, arith, Bool, true, false, eqb-true}
-use Rattle.std.specs.Prelude.{map, filter, codes, flat_map, ◌==◌, Some}
-use Rattle.std.proofs.lemmas.Grind.{common_steps}
-use Rattle.std.proofs.lemmas.List.{take_all}
+use Rattle.std.proofs.Common.{append_assoc, append-nil, arith, Bool, true, false, eqb-true, map, filter, codes}
+use Rattle.std.proofs.Common.{flat_map, ◌==◌, take_all}
+use Rattle.std.proofs.lemmas.{Grind.common_steps, List.map-append, List.Elements.filter-append}
 use Rattle.sfv_lint_head.specs.Heads.{first_line, after_line}
-use Rattle.sfv_lint_head.specs.Lines.{joined_lines, place_in, lines_of_text, before_first, value_lines}
-use Rattle.sfv_lint_head.specs.Lines.{without_return, has_any}
-use Rattle.std.proofs.lemmas.List.{map-append}
-use Rattle.std.proofs.lemmas.List.Elements.{filter-append}
+use Rattle.sfv_lint_head.specs.Lines.{joined_lines, lines_of_text, before_first, value_lines, without_return, has_any}
 
 -- each line after a comma and a space
 abbrev pub more_lines : List (List ℕ) → List ℕ

@@ -1,12 +1,9 @@
 -- Lists step by step.
-use Rattle.std.proofs.Common.{◌≡◌, ℕ, suc, zero, ◌+◌, ◌-◌, ◌<◌, ◌≤◌, List, [], ◌∷◌, ◌++◌, length, take, drop, get_or, refl, sym, ap, ◌∙◌}
-use Rattle.std.proofs.Common.{append_assoc, append-nil, arith, Bool, true, false, eq-eqb, eqb-true}
-use Rattle.std.specs.Prelude.{◌≢◌, IsTrue, map, slice_index, ◌==◌, if◌then◌else◌, flat_map, ◌||◌, codes, nat_eq}
-use Rattle.std.specs.List.{starts_with}
-use Rattle.std.specs.Str.{str_eq_ignore_ascii_case}
-use Rattle.std.proofs.lemmas.Grind.{common_steps}
-use Rattle.std.proofs.lemmas.List.{take_more, drop_more, map-append, take_all, length-drop}
-use Rattle.std.proofs.lemmas.List.Elements.{filter-append}
+use Rattle.std.proofs.Common.{◌≡◌, ℕ, suc, zero, ◌+◌, ◌-◌, ◌<◌, ◌≤◌, List, [], ◌∷◌, ◌++◌, length, take, drop, get_or}
+use Rattle.std.proofs.Common.{refl, sym, ap, ◌∙◌, append_assoc, append-nil, arith, Bool, true, false, eq-eqb, eqb-true}
+use Rattle.std.proofs.Common.{◌≢◌, IsTrue, map, slice_index, ◌==◌, if◌then◌else◌, flat_map, ◌||◌, codes, nat_eq}
+use Rattle.std.{proofs.Common.{take_all, length-drop}, specs.List.starts_with, specs.Str.str_eq_ignore_ascii_case}
+use Rattle.std.proofs.lemmas.{Grind.common_steps, List.{take_more, drop_more, map-append}, List.Elements.filter-append}
 use Rattle.httparse.specs.Grammar.{Field, LineEnd, crlf, lf, print_end, print_field, print_section, HasNoSection}
 use Rattle.httparse.specs.Spans.{SectionOverflows}
 use Rattle.sfv_lint_head.specs.Heads.{first_line, after_line, values_of, line_feeds, names_http}

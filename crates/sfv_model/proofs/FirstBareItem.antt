@@ -1,20 +1,12 @@
 -- A bare item that stands first in the text of an item is read, whatever follows where it ends.
-use Rattle.std.proofs.Common.{◌≡◌, List, [], ◌++◌, length, take, drop, Result, Ok, ℕ, ◌<◌, ◌+◌, refl, sym, ap, subst, ◌∙◌, arith}
-use Rattle.std.proofs.Common.{append_assoc}
-use Rattle.std.proofs.lemmas.List.{append-nil, take_at, take-append-drop, length-append, length-take-le}
-use Rattle.sfv_spec.proofs.Marks.{space, is_space}
-use Rattle.sfv_spec.specs.Values.{BareValue}
-use Rattle.sfv_spec.specs.declared.version.Version.{Version}
-use Rattle.sfv_spec.specs.Texts.{IsLongestBeginning, ◌⨾◌}
-use Rattle.sfv_spec.specs.Grammar.{Spaces, IsBareText, IsEnded, BeginsWithLongest}
-use Rattle.sfv_model.specs.Reader.{Fault, span}
-use Rattle.sfv_model.specs.Bare.{bare_at}
-use Rattle.sfv_model.specs.Items.{item_of}
-use Rattle.sfv_model.specs.Claims.{BeginsWithBare}
+use Rattle.std.proofs.Common.{◌≡◌, List, [], ◌++◌, length, take, drop, Result, Ok, ℕ, ◌<◌, ◌+◌, refl, sym, ap, subst}
+use Rattle.std.proofs.Common.{◌∙◌, arith, append_assoc, append-nil, take_at, take-append-drop, length-append}
+use Rattle.std.proofs.Common.{length-take-le}
+use Rattle.sfv_spec.specs.{Grammar.{Spaces, IsBareText, IsEnded, BeginsWithLongest}, Texts.{IsLongestBeginning, ◌⨾◌}}
+use Rattle.sfv_spec.{specs.Values.BareValue, specs.declared.version.Version.Version, proofs.Marks.{space, is_space}}
+use Rattle.sfv_model.specs.{Bare.bare_at, Claims.BeginsWithBare, Items.item_of, Reader.{Fault, span}}
 use Rattle.sfv_model.proofs.LongestBareItem.{ended_apart, bare_is_exact}
-use Rattle.sfv_model.proofs.complete.Combinators.{span_complete}
-use Rattle.sfv_model.proofs.complete.Bare.{bare_complete}
-use Rattle.sfv_model.proofs.complete.Items.{item_no}
+use Rattle.sfv_model.proofs.complete.{Bare.bare_complete, Combinators.span_complete, Items.item_no}
 
 -- after spaces, a text of this bare value, and a bare item may end there
 abbrev pub BeginsWithComplete : Version → BareValue → List ℕ → Type 0

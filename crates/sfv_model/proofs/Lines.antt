@@ -1,13 +1,8 @@
 -- Two lines of a field, joined by a comma and a space.
-use Rattle.std.proofs.Common.{◌≡◌, ℕ, ◌<◌, List, [], ◌∷◌, ◌++◌, length, refl, arith, append_assoc}
-use Rattle.std.specs.Prelude.{◌==◌, ◌||◌, codes}
-use Rattle.std.specs.List.{list_all}
-use Rattle.std.proofs.lemmas.Bool.{and_parts, and_from}
-use Rattle.sfv_spec.specs.Ascii.{byte}
-use Rattle.sfv_spec.specs.Texts.{◌⨾◌}
-use Rattle.sfv_spec.specs.Grammar.{Spaces, OptionalWhitespace, Comma, AreMembersText, IsMemberText}
-use Rattle.sfv_spec.specs.Grammar.{IsDictionaryMemberText}
-use Rattle.sfv_spec.specs.Statements.{JoinedLines}
+use Rattle.std.proofs.Common.{◌≡◌, ℕ, ◌<◌, List, [], ◌∷◌, ◌++◌, length, refl, arith, append_assoc, ◌==◌, ◌||◌, codes}
+use Rattle.std.{specs.List.list_all, proofs.lemmas.Bool.{and_parts, and_from}}
+use Rattle.sfv_spec.specs.{Ascii.byte, Grammar.{Spaces, OptionalWhitespace, Comma, AreMembersText, IsMemberText}}
+use Rattle.sfv_spec.specs.{Grammar.IsDictionaryMemberText, Statements.JoinedLines, Texts.◌⨾◌}
 use Rattle.sfv_model.proofs.texts.Joining.{joining_append, joining_into, in_turn}
 
 spaces_are_whitespace : (t : List ℕ) → Spaces t → OptionalWhitespace t

@@ -1,23 +1,14 @@
 -- The reader of fields and the grammar agree; where a fault is exact no field goes on.
 use Rattle.std.proofs.Common.{◌≡◌, ℕ, ◌+◌, ◌<◌, true, false, List, [], ◌∷◌, ◌++◌, length, take, drop, Some, Ok, Err}
-use Rattle.std.proofs.Common.{refl, sym, ap, ◌∙◌, append_assoc, arith, inl, inr}
-use Rattle.std.proofs.lemmas.List.{append-nil, append_cancel_right, length-append, take_at, drop_at}
-use Rattle.std.proofs.lemmas.Bool.{cases_Bool}
-use Rattle.sfv_spec.specs.declared.field_kind.FieldKind.{FieldKind}
-use Rattle.sfv_spec.specs.declared.version.Version.{Version}
-use Rattle.sfv_spec.specs.Events.{TreeEvent}
-use Rattle.sfv_spec.specs.Reach.{IsReach}
-use Rattle.sfv_spec.specs.declared.error_kind.ErrorKind.TheVariants.{TrailingCharactersAfterParsedValue}
-use Rattle.sfv_spec.proofs.Reached.{reach_before, reach_end}
-use Rattle.sfv_spec.proofs.Valid.{accepted_is_value_lem}
-use Rattle.sfv_model.specs.Judgements.{Reached, Lasts, Local}
-use Rattle.sfv_model.specs.Reader.{has_rule, first, Fault, Answer, Reader}
-use Rattle.sfv_model.specs.Fields.{ending, read_field}
-use Rattle.sfv_model.specs.Claims.{ReadIsAccepted, FaultIsPlaced}
-use Rattle.sfv_model.proofs.sound.Combinators.{Somewhere, Goes, Reads}
-use Rattle.sfv_model.proofs.sound.Fields.{Sound-field}
-use Rattle.sfv_model.proofs.local.Fields.{Local-field}
-use Rattle.sfv_model.proofs.complete.Fields.{field_complete}
+use Rattle.std.proofs.Common.{refl, sym, ap, ◌∙◌, append_assoc, arith, inl, inr, append-nil, length-append, take_at}
+use Rattle.std.proofs.{Common.drop_at, lemmas.Bool.cases_Bool, lemmas.List.append_cancel_right}
+use Rattle.sfv_spec.specs.{Events.TreeEvent, Reach.IsReach}
+use Rattle.sfv_spec.proofs.{Reached.{reach_before, reach_end}, Valid.accepted_is_value_lem}
+use Rattle.sfv_model.specs.{Claims.{ReadIsAccepted, FaultIsPlaced}, Fields.{ending, read_field}}
+use Rattle.sfv_model.specs.{Judgements.{Reached, Lasts, Local}, Reader.{has_rule, first, Fault, Answer, Reader}}
+use Rattle.sfv_model.proofs.Types.{FieldKind, Version, TrailingCharactersAfterParsedValue}
+use Rattle.sfv_model.proofs.{complete.Fields.field_complete, local.Fields.Local-field}
+use Rattle.sfv_model.proofs.sound.{Combinators.{Somewhere, Goes, Reads}, Fields.Sound-field}
 
 -- a beginning of a text of the grammar
 abbrev pub Starts : {A : Type 0} → (A → List ℕ → Type 0) → List ℕ → Type 0

@@ -1,15 +1,8 @@
 -- When a reading runs out of memory.
-use Rattle.std.proofs.Common.{◌≡◌, ℕ, List, Result, Ok, Err, subst, inl, inr}
-use Rattle.std.specs.Prelude.{⊤, ◌⊎◌, IfErr}
-use Rattle.sfv_spec.specs.Events.{TreeEvent, events}
-use Rattle.sfv_spec.specs.declared.field_kind.FieldKind.{FieldKind}
-use Rattle.sfv_spec.specs.declared.field_kind.FieldKind.TheVariants.{Item as item_field}
-use Rattle.sfv_spec.specs.declared.version.Version.{Version}
-use Rattle.sfv_base.specs.declared.error.Error.{Error}
-use Rattle.sfv_base.specs.declared.error.ParseError.{ParseError}
-use Rattle.sfv_base.specs.declared.error.ParseError.TheVariants.{Visitor}
+use Rattle.std.{proofs.Common.{◌≡◌, ℕ, List, Result, Ok, Err, subst, inl, inr, ◌⊎◌, IfErr}, specs.Prelude.⊤}
+use Rattle.sfv_base.specs.declared.error.{Error.Error, ParseError.ParseError, ParseError.TheVariants.Visitor}
 use Rattle.sfv.proofs.Callers.{FailsIn, HasVisitorError, accepted_or_not}
-use Rattle.sfv_readers.specs.Words.{ErrorNeedsMark, NeedsMarkUnless}
+use Rattle.sfv_readers.specs.Field.{TreeEvent, events, FieldKind, item_field, Version, ErrorNeedsMark, NeedsMarkUnless}
 
 module _ {S E : Type 0} (may_fail : Type 0) (takes : S → TreeEvent → S → Type 0) (from : S) where
   -- an error at some event, and none at the end

@@ -1,32 +1,23 @@
 -- What the calls of a script describe, by their members and by their steps.
 use Rattle.std.proofs.Common.{◌≡◌, ℕ, ◌-◌, Bool, true, false, List, [], ◌∷◌, ◌++◌, length, map, take, drop, codes, refl}
-use Rattle.std.proofs.Common.{sym, ap, ◌∙◌, subst, arith}
-use Rattle.std.specs.Prelude.{filter, if◌then◌else◌, flat_map, Result, Ok, Err, OnErr}
-use Rattle.std.specs.declared.string.String.{String}
-use Rattle.std.proofs.Math.Seq.{take-append_seam}
-use Rattle.std.proofs.lemmas.Simd.{map-map}
-use Rattle.std.proofs.lemmas.List.{length-append, append-nil}
-use Rattle.sfv_spec.specs.Texts.{joined}
-use Rattle.sfv_spec.specs.Values.{RawItem, RawMember, item, inner_list, Fits, member_values}
-use Rattle.sfv_spec.specs.declared.field_kind.FieldKind.TheVariants.{List as list_field, Dictionary as dictionary_field}
-use Rattle.sfv_spec.specs.declared.version.Version.{Version}
+use Rattle.std.proofs.Common.{sym, ap, ◌∙◌, subst, arith, filter, if◌then◌else◌, flat_map, Result, Ok, Err, OnErr}
+use Rattle.std.proofs.Common.{length-append, append-nil}
+use Rattle.std.specs.declared.{alloc.Global.Global, string.String.String, vec.Vec.Vec}
+use Rattle.std.proofs.{Math.Seq.take-append_seam, lemmas.Simd.map-map}
 use Rattle.sfv_spec.specs.Canonical.{item_text, member_text, dictionary_member_text}
-use Rattle.sfv_spec.proofs.Fields.{fit_split, fit_append}
-use Rattle.sfv_values.specs.KeyText.{KeyRef}
-use Rattle.sfv_values.specs.CheckedTexts.{text_of}
+use Rattle.sfv_spec.specs.{Texts.joined, Values.{RawItem, RawMember, item, inner_list, Fits, member_values}}
+use Rattle.sfv_spec.specs.declared.field_kind.FieldKind.TheVariants.{List as list_field, Dictionary as dictionary_field}
+use Rattle.sfv_spec.{specs.declared.version.Version.Version, proofs.Fields.{fit_split, fit_append}}
+use Rattle.sfv_values.specs.{CheckedTexts.text_of, KeyText.KeyRef}
 use Rattle.sfv_writer.specs.Written.{LacksRoom}
-use Rattle.std.specs.declared.alloc.Global.{Global}
-use Rattle.std.specs.declared.vec.Vec.{Vec}
-use Rattle.sfv_serializer.specs.declared.script.ItemCalls.{ItemCalls}
-use Rattle.sfv_serializer.specs.declared.script.ParamCall.{ParamCall}
-use Rattle.sfv_serializer.specs.declared.script.MemberCalls.{MemberCalls}
-use Rattle.sfv_serializer.specs.declared.script.MemberCalls.TheVariants as calls
-use Rattle.sfv_serializer.specs.Scripts.{item_of_calls, member_of_calls, entry_of_calls, is_written, described_list}
-use Rattle.sfv_serializer.specs.Scripts.{described_dictionary, LacksForListCall, LacksForEntryCall}
 use Rattle.sfv_serializer.specs.ScriptSteps.{supplied_member, member_calls, list_calls, dictionary_calls}
 use Rattle.sfv_serializer.specs.ScriptSteps.{list_described, dictionary_described, supplied_list, supplied_dictionary}
 use Rattle.sfv_serializer.specs.ScriptSteps.{added_text, added_text_of_pair, tried_list, tried_dictionary, LacksForTry}
+use Rattle.sfv_serializer.specs.Scripts.{item_of_calls, member_of_calls, entry_of_calls, is_written, described_list}
+use Rattle.sfv_serializer.specs.Scripts.{described_dictionary, LacksForListCall, LacksForEntryCall}
+use Rattle.sfv_serializer.specs.declared.script.{ItemCalls.ItemCalls, MemberCalls.MemberCalls, ParamCall.ParamCall}
 use Rattle.sfv_serializer.proofs.Scripts.{named_inner}
+use Rattle.sfv_serializer.specs.declared.script.MemberCalls.TheVariants as calls
 
 -- ---- examples: an item, an inner list that is abandoned or finished, and an item
 

@@ -1,22 +1,17 @@
 -- The values that calls hand over.
 use Rattle.std.proofs.Common.{Bool, true, false, ◌≡◌, ℕ, ◌<◌, List, [], ◌∷◌, length, map, sym, ap, ◌∙◌, Result, arith}
-use Rattle.std.specs.Prelude.{flat_map}
-use Rattle.std.proofs.lemmas.List.Folds.{flat_map-map}
+use Rattle.std.proofs.{Common.flat_map, lemmas.List.Folds.flat_map-map}
 use Rattle.sfv_spec.specs.Values.{BareValue, RawParameters, bare_values, AllFit, item_values, member_values}
 use Rattle.sfv_spec.specs.declared.field_kind.FieldKind.TheVariants.{List as list_field, Dictionary as dictionary_field}
-use Rattle.sfv_spec.specs.declared.version.Version.{Version}
-use Rattle.sfv_serializer.specs.Scripts.{param_of_call, item_of_calls, member_of_calls, entry_of_calls}
-use Rattle.sfv_serializer.specs.ScriptSteps.{supplied_member, inner_list_calls, list_calls, dictionary_calls}
-use Rattle.sfv_serializer.proofs.Described.{supplied_list_is, supplied_dictionary_is}
+use Rattle.sfv_spec.{specs.declared.version.Version.Version, proofs.Fields.fit_append, proofs.Marks.parameter_values}
 use Rattle.sfv_values.specs.KeyText.{KeyRef}
 use Rattle.sfv_writer.specs.Versions.{NamesFirstUnfit, ChecksVersion}
-use Rattle.sfv_spec.proofs.Marks.{parameter_values}
-use Rattle.sfv_spec.proofs.Fields.{fit_append}
 use Rattle.sfv_writer.specs.declared.serialize_error.SerializeError.{SerializeError}
 use Rattle.sfv_writer.proofs.Checks.{names_front, looks_after, not_of_none, singles}
-use Rattle.sfv_serializer.specs.declared.script.ParamCall.{ParamCall}
-use Rattle.sfv_serializer.specs.declared.script.ItemCalls.{ItemCalls}
-use Rattle.sfv_serializer.specs.declared.script.MemberCalls.{MemberCalls}
+use Rattle.sfv_serializer.specs.ScriptSteps.{supplied_member, inner_list_calls, list_calls, dictionary_calls}
+use Rattle.sfv_serializer.specs.Scripts.{param_of_call, item_of_calls, member_of_calls, entry_of_calls}
+use Rattle.sfv_serializer.specs.declared.script.{ItemCalls.ItemCalls, MemberCalls.MemberCalls, ParamCall.ParamCall}
+use Rattle.sfv_serializer.proofs.Described.{supplied_list_is, supplied_dictionary_is}
 
 -- calls of which a value doesn't fit are not none
 pub named_list : (version : Version) (calls : List MemberCalls) (e : SerializeError)

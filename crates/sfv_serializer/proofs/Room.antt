@@ -1,33 +1,23 @@
 -- Room for the texts of calls, one after another.
 use Rattle.std.proofs.Common.{◌≡◌, ◌≤◌, ◌<◌, ◌+◌, ℕ, Bool, true, false, List, [], ◌∷◌, ◌++◌, length, get_or, map, take}
 use Rattle.std.proofs.Common.{drop, codes, refl, sym, ap, subst, ◌∙◌, arith, inl, inr, string_bytes, string_capacity}
-use Rattle.std.proofs.Common.{Result, Ok, Err}
-use Rattle.std.specs.Prelude.{Option, OnErr, filter_map, if◌then◌else◌}
+use Rattle.std.proofs.Common.{Result, Ok, Err, Option, OnErr, filter_map, if◌then◌else◌, drop-cons, length-append}
 use Rattle.std.specs.declared.string.String.{String}
-use Rattle.std.proofs.Math.Seq.{drop-cons}
-use Rattle.std.proofs.lemmas.List.{length-append, map-append}
-use Rattle.std.proofs.lemmas.List.Concat.{flat_map-append}
-use Rattle.sfv_spec.specs.Texts.{joined}
-use Rattle.sfv_spec.specs.Values.{BareValue, RawItem, RawParameters, IsItem}
-use Rattle.sfv_spec.specs.declared.version.Version.{Version}
-use Rattle.sfv_spec.specs.declared.version.Version.TheVariants.{Rfc9651}
-use Rattle.sfv_spec.specs.Canonical.{item_text, parameters_text}
-use Rattle.sfv_spec.proofs.Given.{newer_has_all}
-use Rattle.sfv_values.specs.CheckedTexts.{text_of as key_text}
-use Rattle.sfv_values.specs.BareItems.{ref_value}
-use Rattle.sfv_writer.specs.Written.{LacksRoom, separator_before, with_separators, is_first_after, param_text}
+use Rattle.std.proofs.lemmas.List.{map-append, Concat.flat_map-append}
+use Rattle.sfv_spec.specs.{Canonical.{item_text, parameters_text}, Texts.joined}
+use Rattle.sfv_spec.specs.{Values.{BareValue, RawItem, RawParameters, IsItem}, declared.version.Version.Version}
+use Rattle.sfv_spec.{specs.declared.version.Version.TheVariants.Rfc9651, proofs.Given.newer_has_all}
+use Rattle.sfv_values.specs.{BareItems.ref_value, CheckedTexts.text_of as key_text}
 use Rattle.sfv_writer.specs.Versions.{NamesFirstUnfit, IsSerializeError}
+use Rattle.sfv_writer.specs.Written.{LacksRoom, separator_before, with_separators, is_first_after, param_text}
 use Rattle.sfv_writer.specs.declared.serialize_error.SerializeError.{SerializeError}
-use Rattle.sfv_writer.specs.declared.serialize_error.SerializeError.TheVariants as errors
-use Rattle.sfv_writer.proofs.RoomOfIterators.{row_len}
-use Rattle.sfv_writer.proofs.Checks.{split_at}
-use Rattle.sfv_writer.proofs.Room.{len_of, room_after, room_before}
+use Rattle.sfv_writer.proofs.{Checks.split_at, Room.{len_of, room_after, room_before}, RoomOfIterators.row_len}
 use Rattle.sfv_writer.proofs.Separated.{IsLed, in_a_row_first}
-use Rattle.sfv_serializer.specs.declared.script.ParamCall.{ParamCall}
-use Rattle.sfv_serializer.specs.declared.script.ItemCalls.{ItemCalls}
-use Rattle.sfv_serializer.specs.Scripts.{param_of_call, item_of_calls}
 use Rattle.sfv_serializer.specs.ScriptSteps.{ended_text, inner_list_calls, added_text, added_text_of_pair}
+use Rattle.sfv_serializer.specs.Scripts.{param_of_call, item_of_calls}
+use Rattle.sfv_serializer.specs.declared.script.{ItemCalls.ItemCalls, ParamCall.ParamCall}
 use Rattle.sfv_serializer.proofs.Scripts.{in_a_row_append, is_first_after-map, named_inner}
+use Rattle.sfv_writer.specs.declared.serialize_error.SerializeError.TheVariants as errors
 
 -- no room for a part of a text means no room for the text
 pub lacks_more : {Z : Type 0} (old output : String Z) (so_far one whole : List ℕ)

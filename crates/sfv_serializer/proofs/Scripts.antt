@@ -1,30 +1,21 @@
 -- Members are written call by call.
 use Rattle.std.proofs.Common.{◌≡◌, ◌≤◌, ℕ, ◌+◌, ◌<◌, Bool, true, false, List, [], ◌∷◌, ◌++◌, length, get_or, map, take}
-use Rattle.std.proofs.Common.{refl, sym, ap, subst, ◌∙◌, codes, append_assoc, arith, string_capacity}
-use Rattle.std.specs.Prelude.{Option, filter_map, Result, Ok, Err, OnOk, OnErr, string_bytes, string_len}
-use Rattle.std.specs.Borrow.{MutBor}
+use Rattle.std.proofs.Common.{refl, sym, ap, subst, ◌∙◌, codes, append_assoc, arith, string_capacity, Option}
+use Rattle.std.proofs.Common.{filter_map, Result, Ok, Err, OnOk, OnErr, string_bytes, string_len, MutBor, append-nil}
 use Rattle.std.specs.List.{AllByRecursion}
-use Rattle.std.proofs.lemmas.List.{map-append, append-nil}
-use Rattle.std.proofs.lemmas.List.Elements.{filter_map-append}
-use Rattle.std.proofs.lemmas.Str.{IsUtf8-string_bytes}
-use Rattle.sfv_spec.specs.Texts.{joined}
-use Rattle.sfv_spec.specs.Values.{RawItem, RawParameters, IsItem, inner_list}
-use Rattle.sfv_spec.specs.Canonical.{item_text, parameters_text, dictionary_member_text}
+use Rattle.std.proofs.lemmas.{List.map-append, List.Elements.filter_map-append, Str.IsUtf8-string_bytes}
+use Rattle.sfv_spec.specs.{Canonical.{item_text, parameters_text, dictionary_member_text}, Texts.joined}
+use Rattle.sfv_spec.specs.{Values.{RawItem, RawParameters, IsItem, inner_list}, declared.version.Version.Version}
 use Rattle.sfv_values.specs.BareItems.{ref_value}
-use Rattle.sfv_spec.specs.declared.version.Version.{Version}
 use Rattle.sfv_writer.specs.Written.{Extends, separator_before, with_separators, is_first_after}
 use Rattle.sfv_writer.proofs.Separated.{IsLed, mapped_more, is_first_after-false, in_a_row_first}
-use Rattle.sfv_serializer.specs.declared.script.ItemCalls.{ItemCalls}
-use Rattle.sfv_serializer.specs.declared.script.ParamCall.{ParamCall}
-use Rattle.sfv_serializer.specs.declared.script.MemberCalls.{MemberCalls}
-use Rattle.sfv_serializer.specs.Scripts.{param_of_call, item_of_calls}
 use Rattle.sfv_serializer.specs.ScriptSteps.{inner_list_calls, member_calls, ended_text, WritesInner, WritesList}
-use Rattle.sfv_serializer.specs.ScriptSteps.{WritesDictionary}
-use Rattle.sfv_serializer.specs.declared.sequence_kind.InnerListItems.{InnerListItems}
-use Rattle.sfv_serializer.specs.declared.sequence.SequenceSerializer.{SequenceSerializer}
-use Rattle.sfv_serializer.specs.declared.sink.Sink.{Ghosts as Sink}
+use Rattle.sfv_serializer.specs.{ScriptSteps.WritesDictionary, Scripts.{param_of_call, item_of_calls}}
 use Rattle.sfv_serializer.specs.Serializers.{HasAppended, KeepsSequence, GrowsSequence, Removes, lent_sequence}
 use Rattle.sfv_serializer.specs.Serializers.{sequence_sink, is_empty_so_far}
+use Rattle.sfv_serializer.specs.declared.script.{ItemCalls.ItemCalls, MemberCalls.MemberCalls, ParamCall.ParamCall}
+use Rattle.sfv_serializer.specs.declared.sequence.SequenceSerializer.{SequenceSerializer}
+use Rattle.sfv_serializer.specs.declared.{sequence_kind.InnerListItems.InnerListItems, sink.Sink.Ghosts as Sink}
 
 is_first_after-append : {A : Type 0} (b : Bool) (xs ys : List A)
     → is_first_after b (xs ++ ys) ≡ is_first_after (is_first_after b xs) ys

@@ -1,13 +1,9 @@
 -- Checks of the values of each element of a slice, one by one.
-use Rattle.std.proofs.Common.{◌≡◌, ◌∙◌, ◌<◌, ◌+◌, ◌∷◌, ℕ, List, length, map, ap, sym, subst, get_or, take}
-use Rattle.std.specs.Prelude.{flat_map}
+use Rattle.std.proofs.Common.{◌≡◌, ◌∙◌, ◌<◌, ◌+◌, ◌∷◌, ℕ, List, length, map, ap, sym, subst, get_or, take, flat_map}
 use Rattle.std.proofs.lemmas.List.{map-append}
-use Rattle.sfv_spec.specs.Values.{BareValue, AllFit}
-use Rattle.sfv_spec.specs.declared.version.Version.{Version}
-use Rattle.sfv_writer.specs.Versions.{NamesFirstUnfit}
-use Rattle.sfv_writer.specs.declared.serialize_error.SerializeError.{SerializeError}
-use Rattle.sfv_writer.proofs.Checks.{each_more, each_stops, split_at}
-use Rattle.sfv_writer.proofs.Separated.{mapped_more}
+use Rattle.sfv_spec.specs.{Values.{BareValue, AllFit}, declared.version.Version.Version}
+use Rattle.sfv_writer.specs.{Versions.NamesFirstUnfit, declared.serialize_error.SerializeError.SerializeError}
+use Rattle.sfv_writer.proofs.{Checks.{each_more, each_stops, split_at}, Separated.mapped_more}
 
 module _ {A B : Type 0} (version : Version) (tree : A → B) (values : B → List BareValue) where
   -- the version has the values of one more element

@@ -1,17 +1,11 @@
 -- Lines that are joined.
 use Rattle.std.proofs.Common.{◌≡◌, ℕ, Bool, true, false, List, [], ◌∷◌, ◌++◌, refl, sym, ◌∙◌, ap, inl, inr}
-use Rattle.std.proofs.Common.{append_assoc, append-nil}
-use Rattle.std.specs.Prelude.{codes, nat_lt, Ok, Err, IsUtf8}
-use Rattle.std.specs.List.{list_all}
-use Rattle.std.proofs.lemmas.Bool.{and_parts, and_from}
-use Rattle.std.proofs.lemmas.Str.{IsUtf8-from_ascii}
-use Rattle.sfv.specs.Texts.{joined}
-use Rattle.sfv.specs.Written.{with_separators, separator_before}
-use Rattle.sfv_signatures.specs.declared.base_error.BaseErrorKind.{BaseErrorKind}
+use Rattle.std.{proofs.Common.{append_assoc, append-nil, codes, nat_lt, Ok, Err, IsUtf8}, specs.List.list_all}
+use Rattle.std.proofs.lemmas.{Bool.{and_parts, and_from}, Str.IsUtf8-from_ascii}
+use Rattle.sfv.specs.{Texts.joined, Written.{with_separators, separator_before}}
+use Rattle.sfv_signatures.specs.{Components.UnlessMemory, SignatureBase.{checked, IsChecked}}
+use Rattle.sfv_signatures.{specs.declared.base_error.BaseErrorKind.BaseErrorKind, proofs.Ascii.ascii_from}
 use Rattle.sfv_signatures.specs.declared.base_error.BaseErrorKind.TheVariants as kinds
-use Rattle.sfv_signatures.specs.SignatureBase.{checked, IsChecked}
-use Rattle.sfv_signatures.specs.Components.{UnlessMemory}
-use Rattle.sfv_signatures.proofs.Ascii.{ascii_from}
 
 -- ---- parts with a separator between neighbours
 

@@ -1,18 +1,12 @@
 -- The lines of the first identifiers.
-use Rattle.std.proofs.Common.{◌≡◌, ℕ, ◌+◌, ◌<◌, ◌≤◌, zero, suc, List, [], ◌∷◌, ◌++◌, length, map, take, refl, sym, ◌∙◌, ap}
-use Rattle.std.proofs.Common.{append_assoc, inl, inr, subst, arith}
-use Rattle.std.specs.Prelude.{flat_map, codes, slice_get, option_map, Some, Ok, Err}
-use Rattle.std.specs.List.{zip, slice_index_or}
-use Rattle.std.proofs.lemmas.List.{append-nil, take_all, take-map}
-use Rattle.std.proofs.lemmas.Option.{slice_get-map, slice_get_read}
-use Rattle.sfv.specs.Types.{list_field}
-use Rattle.sfv.specs.Values.{RawItem, RawInnerList, inner_list}
-use Rattle.sfv.specs.Statements.{IsValue}
-use Rattle.sfv_signatures.specs.declared.base_error.BaseErrorKind.{BaseErrorKind}
-use Rattle.sfv_signatures.specs.SignatureBase.{Message, component_line, params_line, Gives, HaveValues}
-use Rattle.sfv_signatures.specs.SignatureBase.{IsBaseOf, BreaksFirst}
+use Rattle.std.proofs.Common.{◌≡◌, ℕ, ◌+◌, ◌<◌, zero, suc, List, [], ◌∷◌, ◌++◌, length, map, take, refl, sym, ◌∙◌, ap}
+use Rattle.std.proofs.Common.{append_assoc, inl, inr, subst, arith, flat_map, codes, slice_get, option_map, Some, Ok}
+use Rattle.std.proofs.Common.{Err, zip, slice_index_or, append-nil}
+use Rattle.std.proofs.lemmas.{List.take-map, Option.{slice_get-map, slice_get_read}}
+use Rattle.sfv.specs.Values.{RawItem, RawInnerList}
 use Rattle.sfv_signatures.specs.Components.{UnlessMemory, HasAppended, IsBaseError}
-use Rattle.sfv_signatures.specs.declared.base_error.BaseError.{BaseError}
+use Rattle.sfv_signatures.specs.SignatureBase.{Message, component_line, Gives, HaveValues, BreaksFirst}
+use Rattle.sfv_signatures.specs.declared.base_error.{BaseError.BaseError, BaseErrorKind.BaseErrorKind}
 use Rattle.sfv_signatures.proofs.Rules.{values_snoc, values_counted}
 
 -- a line with its line feed

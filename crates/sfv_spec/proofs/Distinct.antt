@@ -1,17 +1,14 @@
 -- A field is its own ordered value if and only if no key occurs twice in it.
-use Rattle.std.proofs.Common.{◌≡◌, ℕ, List, map, sym, ◌∙◌, ap, subst}
-use Rattle.std.specs.Prelude.{IsTrue}
-use Rattle.std.specs.List.{AllByRecursion}
-use Rattle.std.proofs.lemmas.Map.Made.{keys_of-map_values}
+use Rattle.std.proofs.Common.{◌≡◌, ℕ, List, map, sym, ◌∙◌, ap, subst, IsTrue}
+use Rattle.std.{specs.List.AllByRecursion, proofs.lemmas.Map.Made.keys_of-map_values}
+use Rattle.sfv_spec.specs.Ordered.{collapse, ordered_item, ordered_member, ordered}
 use Rattle.sfv_spec.specs.Values.{RawItem, RawInnerList, RawMember, item, inner_list, RawField}
 use Rattle.sfv_spec.specs.declared.field_kind.FieldKind.{FieldKind}
 use Rattle.sfv_spec.specs.declared.field_kind.FieldKind.TheVariants.{Item as item_field, List as list_field}
 use Rattle.sfv_spec.specs.declared.field_kind.FieldKind.TheVariants.{Dictionary as dictionary_field}
-use Rattle.sfv_spec.specs.Ordered.{collapse, ordered_item, ordered_member, ordered}
-use Rattle.sfv_spec.proofs.Repeats.{no_repeats, IsOrderedItem, IsOrderedMember, IsOrdered}
-use Rattle.sfv_spec.proofs.Marks.{keys}
-use Rattle.sfv_spec.proofs.Each.{each, each_within, each_map, map_own}
 use Rattle.sfv_spec.proofs.Collapse.{collapse-distinct, no_repeats-collapse}
+use Rattle.sfv_spec.proofs.Each.{each, each_within, each_map, map_own}
+use Rattle.sfv_spec.proofs.{Marks.keys, Repeats.{no_repeats, IsOrderedItem, IsOrderedMember, IsOrdered}}
 
 -- ---- parts that are their own ordered values
 

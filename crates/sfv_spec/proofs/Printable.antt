@@ -1,31 +1,22 @@
 -- Canonical texts are printable ASCII.
-use Rattle.std.proofs.Common.{◌≡◌, ℕ, zero, suc, Bool, true, false, List, [], ◌∷◌, ◌++◌, map, refl, replicate}
-use Rattle.std.proofs.Common.{inl, inr, arith}
-use Rattle.std.specs.Prelude.{IsTrue, flat_map, codes, nat_lt, not}
-use Rattle.std.specs.List.{list_all, AllByRecursion}
-use Rattle.std.proofs.lemmas.Bool.{and_parts, and_from, ltb-true, agree_below_at}
-use Rattle.std.proofs.lemmas.Bool.Decides.{nat_tests}
-use Rattle.std.proofs.lemmas.List.Folds.{list_all-append}
-use Rattle.std.specs.Char.{is_ascii_digit}
-use Rattle.sfv_spec.specs.Texts.{RunOf, IsJoining, joined}
+use Rattle.std.proofs.Common.{◌≡◌, ℕ, zero, suc, Bool, true, false, List, [], ◌∷◌, ◌++◌, map, refl, replicate, inl, inr}
+use Rattle.std.{proofs.Common.{arith, IsTrue, flat_map, codes, nat_lt, not, ltb-true}, specs.Char.is_ascii_digit}
+use Rattle.std.{specs.List.{list_all, AllByRecursion}, proofs.lemmas.Bool.{and_parts, and_from, agree_below_at}}
+use Rattle.std.proofs.lemmas.{Bool.Decides.nat_tests, List.Folds.list_all-append}
+use Rattle.sfv_spec.specs.Base64.{symbol, IsBase64Text}
+use Rattle.sfv_spec.specs.Canonical.{bare_text, value_text, parameters_text, item_text, inner_list_text, member_text}
+use Rattle.sfv_spec.specs.Canonical.{dictionary_member_text}
 use Rattle.sfv_spec.specs.Classes.{is_string_byte, is_key, is_key_start, is_key_inner, is_token, is_token_start}
-use Rattle.sfv_spec.specs.Classes.{is_token_inner, is_lower_hexadecimal}
+use Rattle.sfv_spec.specs.{Classes.{is_token_inner, is_lower_hexadecimal}, Grammar.IsBareText, Numbers.text_if}
+use Rattle.sfv_spec.specs.{Statements.PrintableTexts, Strings.{is_escaped_in_string, IsStringPiece, IsDisplayPiece}}
+use Rattle.sfv_spec.specs.Texts.{RunOf, IsJoining, joined}
 use Rattle.sfv_spec.specs.Values.{BareValue, integer, decimal, string, token, byte_sequence, boolean, date}
 use Rattle.sfv_spec.specs.Values.{display_string, IsBareValue, RawParameters, RawItem, RawInnerList, AreParameters}
 use Rattle.sfv_spec.specs.Values.{IsItem, RawMember, item, inner_list, IsMember}
 use Rattle.sfv_spec.specs.declared.field_kind.FieldKind.TheVariants.{Item as item_field, List as list_field}
 use Rattle.sfv_spec.specs.declared.field_kind.FieldKind.TheVariants.{Dictionary as dictionary_field}
 use Rattle.sfv_spec.specs.declared.version.Version.TheVariants.{Rfc9651}
-use Rattle.sfv_spec.specs.Numbers.{text_if}
-use Rattle.sfv_spec.specs.Base64.{symbol, IsBase64Text}
-use Rattle.sfv_spec.specs.Strings.{is_escaped_in_string, IsStringPiece, IsDisplayPiece}
-use Rattle.sfv_spec.specs.Grammar.{IsBareText}
-use Rattle.sfv_spec.specs.Canonical.{bare_text, value_text, parameters_text, item_text, inner_list_text}
-use Rattle.sfv_spec.specs.Canonical.{member_text, dictionary_member_text}
-use Rattle.sfv_spec.proofs.Marks.{equals_sign}
-use Rattle.sfv_spec.proofs.Settled.{joining-nil, joining-cons}
-use Rattle.sfv_spec.proofs.Written.{bare_written}
-use Rattle.sfv_spec.specs.Statements.{PrintableTexts}
+use Rattle.sfv_spec.proofs.{Marks.equals_sign, Settled.{joining-nil, joining-cons}, Written.bare_written}
 
 abbrev pub Printable : List ℕ → Type 0
 Printable = RunOf is_string_byte

@@ -1,12 +1,5 @@
 -- A member after an event is complete or not.
-use Rattle.std.proofs.Common.{◌≡◌, ℕ, true, false, List, rules, Result, Ok, Err}
-use Rattle.std.specs.Prelude.{Bool, Some, ◌||◌, IsTrue, OnOk}
-use native.Mathlib.Omega.{arith}
-use Rattle.sfv_spec.specs.Values.{RawMember}
-use Rattle.sfv_tree.specs.Builders.{member_state, member_step, settle_pair, ended}
-use Rattle.sfv_tree.specs.Events.{event_of, is_moved}
-use Rattle.sfv_tree.specs.declared.visitor.member.Member.{Member}
-use Rattle.sfv_tree.specs.declared.visitor.Event.{Event}
+use Rattle.std.proofs.Common.{true, false, rules, Result, Ok, Err, Bool, ◌||◌, IsTrue, OnOk}
 
 pub or_true : (b : Bool) → IsTrue (b || true)
 or_true true = search rules

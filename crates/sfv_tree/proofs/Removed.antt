@@ -1,14 +1,9 @@
 -- A key that is removed from a map has no pair, and the pairs of other keys stay.
-use Rattle.std.proofs.Common.{◌≡◌, ℕ, false, List, [], ◌∷◌, refl, sym, ap, subst, ◌∙◌, inl, inr}
-use Rattle.std.specs.Prelude.{bytes_eq, None}
-use Rattle.std.specs.List.{AllByRecursion, IsDistinct}
-use Rattle.std.specs.Map.{keys_of}
-use Rattle.std.proofs.lemmas.Bool.{cases_Bool}
-use Rattle.std.proofs.lemmas.Slice.Eq.{bytes_eq-Decides}
+use Rattle.std.proofs.Common.{◌≡◌, ℕ, false, List, [], ◌∷◌, refl, sym, ap, subst, ◌∙◌, inl, inr, bytes_eq, None}
+use Rattle.std.specs.{List.{AllByRecursion, IsDistinct}, Map.keys_of}
+use Rattle.std.proofs.lemmas.{Bool.cases_Bool, Slice.Eq.bytes_eq-Decides}
 use Rattle.indexmap.specs.IndexMap.{shift_remove_entry}
-use Rattle.sfv_spec.specs.Ordered.{last_of, without}
-use Rattle.sfv_spec.proofs.Last.{over}
-use Rattle.sfv_spec.proofs.Collapse.{or_none}
+use Rattle.sfv_spec.{specs.Ordered.{last_of, without}, proofs.Collapse.or_none, proofs.Last.over}
 use Rattle.sfv_values.specs.BareItems.{bare_value}
 use Rattle.sfv_tree.specs.Trees.{OwnedBareItem, pairs_tree, member_tree, dictionary_tree}
 use Rattle.sfv_tree.specs.declared.parsed.ListEntry.{ListEntry}

@@ -1,13 +1,9 @@
 -- A copy of a bare item that owns its text has the same value.
-use Rattle.std.proofs.Common.{◌≡◌, ℕ, List, ap}
-use Rattle.std.specs.Prelude.{string_bytes}
-use Rattle.std.specs.List.{AllZip, each_same}
-use Rattle.std.specs.declared.alloc.Global.{Global}
-use Rattle.std.specs.declared.vec.Vec.{Vec}
+use Rattle.std.{proofs.Common.{◌≡◌, ℕ, List, ap, string_bytes}, specs.List.{AllZip, each_same}}
+use Rattle.std.specs.declared.{alloc.Global.Global, vec.Vec.Vec}
+use Rattle.sfv_values.specs.{BareItems.{IsCopyBy, bare_value}, declared.bare.GenericBareItem.GenericBareItem}
 use Rattle.std.specs.declared.string.String as std_string
 use Rattle.sfv_spec.specs.Values as values
-use Rattle.sfv_values.specs.BareItems.{IsCopyBy, bare_value}
-use Rattle.sfv_values.specs.declared.bare.GenericBareItem.{GenericBareItem}
 use Rattle.sfv_values.specs.declared.bare.GenericBareItem.TheVariants as bare
 
 -- what holds of a copy of the bytes, whatever else does

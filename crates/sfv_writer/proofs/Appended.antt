@@ -1,8 +1,6 @@
 -- What is added to a text to which another was added.
-use Rattle.std.proofs.Common.{◌≡◌, ℕ, List, [], ◌++◌, sym, ap, subst, ◌∙◌, append_assoc, Result, Ok, Err}
-use Rattle.std.specs.Prelude.{MatchResult, OnErr, IsErr}
-use Rattle.std.proofs.lemmas.List.{append-nil}
-use Rattle.std.proofs.lemmas.Result.{MatchResult-from_err}
+use Rattle.std.proofs.Common.{◌≡◌, ℕ, List, [], ◌++◌, sym, ap, subst, ◌∙◌, append_assoc, Result, Ok, Err, MatchResult}
+use Rattle.std.proofs.{Common.{OnErr, IsErr, append-nil}, lemmas.Result.MatchResult-from_err}
 use Rattle.sfv_writer.specs.Written.{Extends}
 
 -- it stands after both

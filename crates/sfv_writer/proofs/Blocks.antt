@@ -1,15 +1,11 @@
 -- Vectors of bytes, of values and of symbols, lane by lane.
 use Rattle.std.proofs.Common.{◌≡◌, ℕ, zero, suc, ◌+◌, ◌-◌, ◌*◌, ◌/◌, ◌%◌, ◌^◌, ◌<◌, Bool, true, cond, eqb, ltb, List}
 use Rattle.std.proofs.Common.{[], ◌∷◌, ◌++◌, map, take, length, get_or, replicate, bit_and, refl, sym, ap, ap₂, subst}
-use Rattle.std.proofs.Common.{◌∙◌, arith, inl, inr, w8, w16, Fits}
-use Rattle.std.specs.Prelude.{◌==◌, nat_lt}
-use Rattle.std.specs.List.{list_all, range_with_len}
-use Rattle.std.proofs.lemmas.Bool.{agree_below_at, eqb-true, and_parts, and_from, both_ways, cases_Bool, ltb-true}
-use Rattle.std.proofs.lemmas.Bool.{lt-ltb}
+use Rattle.std.proofs.Common.{◌∙◌, arith, inl, inr, w8, w16, Fits, ◌==◌, nat_lt, eqb-true, ltb-true, lt-ltb}
+use Rattle.std.{proofs.Common.{length-take-le, ext_get_or}, specs.List.{list_all, range_with_len}}
+use Rattle.std.proofs.lemmas.Bool.{agree_below_at, and_parts, and_from, both_ways, cases_Bool}
+use Rattle.std.proofs.lemmas.List.{get_or-map, length-map, Folds.list_all_at, FromFn.get_or-range_with_len}
 use Rattle.std.proofs.lemmas.Nat.{and_mask}
-use Rattle.std.proofs.lemmas.List.{get_or-map, length-map, length-take-le, ext_get_or}
-use Rattle.std.proofs.lemmas.List.Folds.{list_all_at}
-use Rattle.std.proofs.lemmas.List.FromFn.{get_or-range_with_len}
 use Rattle.std.proofs.lemmas.Simd.{swz_l, SwzOk, SwzOk-from_below, Each1-get_or, length-swz_l, get_or-swz_l_below}
 use Rattle.std.proofs.lemmas.Simd.{pick_l_whole}
 use lib.Lanes.{zip2, sel_l, top, Each1, number_l, digits_l, pick_l}

@@ -1,30 +1,18 @@
 -- Values that are looked at one after another.
 use Rattle.std.proofs.Common.{◌≡◌, ℕ, zero, suc, ◌<◌, List, [], ◌∷◌, ◌++◌, length, get_or, map, take, refl, sym, ap}
-use Rattle.std.proofs.Common.{subst, ◌∙◌, length-append, Result, Ok, Err, inl, inr, arith}
-use Rattle.std.specs.Prelude.{⊤, not, Option, Some, flat_map, MatchResult, IfErr, IsErrAnd}
-use Rattle.std.specs.Iterator.{Yields, Drains}
-use Rattle.std.specs.List.{find}
-use Rattle.std.proofs.lemmas.Result.{err_from_is_err_and}
-use Rattle.std.proofs.lemmas.List.Concat.{flat_map-append}
-use Rattle.std.proofs.lemmas.List.Folds.{flat_map-map}
-use Rattle.std.proofs.iter.Next.{Yields-more}
+use Rattle.std.proofs.Common.{subst, ◌∙◌, length-append, Result, Ok, Err, inl, inr, arith, not, Option, Some, flat_map}
+use Rattle.std.proofs.Common.{MatchResult, IfErr, IsErrAnd, find}
+use Rattle.std.{specs.Iterator.{Yields, Drains}, specs.Map.values_of, specs.Prelude.⊤, proofs.iter.Next.Yields-more}
+use Rattle.std.proofs.lemmas.{List.Concat.flat_map-append, List.Folds.flat_map-map, Result.err_from_is_err_and}
 use Rattle.sfv_spec.specs.Values.{BareValue, RawField, HasMember, bare_values, fits_bare, AllFit, member_values}
-use Rattle.sfv_spec.specs.declared.field_kind.FieldKind.{FieldKind}
-use Rattle.sfv_spec.specs.declared.field_kind.FieldKind.TheVariants.{Item as item_field, List as list_field}
-use Rattle.sfv_spec.specs.declared.field_kind.FieldKind.TheVariants.{Dictionary as dictionary_field}
-use Rattle.sfv_spec.specs.declared.version.Version.{Version}
-use Rattle.sfv_spec.specs.declared.version.Version.TheVariants.{Rfc9651}
+use Rattle.sfv_spec.proofs.{Fields.fit_append, Given.{found_front, found_after, newer_has_all}, Marks.parameter_values}
+use Rattle.sfv_model.proofs.Types.{FieldKind, item_field, list_field, dictionary_field, Version, Rfc9651}
 use Rattle.sfv_values.specs.BareItems.{bare_value}
 use Rattle.sfv_tree.specs.Trees.{OwnedBareItem, pairs_tree, member_tree, dictionary_tree}
 use Rattle.sfv_tree.specs.declared.parsed.ListEntry.{ListEntry}
-use Rattle.std.specs.Map.{values_of}
-use Rattle.sfv_spec.proofs.Given.{found_front, found_after, newer_has_all}
-use Rattle.sfv_writer.proofs.Lent.{GivesAll}
 use Rattle.sfv_writer.specs.Versions.{NamesFirstUnfit, ChecksVersion, ChecksAll, ChecksVersionFirst, IsSerializeError}
-use Rattle.sfv_writer.specs.Versions.{FailsAmong, FailsFrom}
-use Rattle.sfv_spec.proofs.Marks.{parameter_values}
-use Rattle.sfv_spec.proofs.Fields.{fit_append}
-use Rattle.sfv_writer.specs.declared.serialize_error.SerializeError.{SerializeError}
+use Rattle.sfv_writer.specs.{Versions.{FailsAmong, FailsFrom}, declared.serialize_error.SerializeError.SerializeError}
+use Rattle.sfv_writer.proofs.Lent.{GivesAll}
 use Rattle.sfv_writer.specs.declared.serialize_error.SerializeError.TheVariants as errors
 
 -- ---- in front of others and after them

@@ -1,16 +1,11 @@
 -- The digits of a decimal.
 use Rattle.std.proofs.Common.{◌≡◌, ℕ, ◌+◌, ◌<◌, ◌≤◌, ◌/◌, ◌%◌, Bool, true, false, eqb, List, [], ◌∷◌, ◌++◌, refl, ap}
-use Rattle.std.proofs.Common.{subst, ◌∙◌, arith, sym, Result, ℤ, pos, negsuc, to_z, of_z, w64}
-use Rattle.std.specs.Prelude.{MatchResult, nat_abs, int_lt, codes, decimal as decimal_digits}
-use Rattle.std.proofs.lemmas.Fmt.{decimal_digit, decimal_step}
-use Rattle.std.proofs.lemmas.Int.{to_z-of_z}
-use Rattle.std.specs.Fmt.{signed_decimal}
-use Rattle.sfv_spec.proofs.Marks.{digit_zero, minus_text}
-use Rattle.std.specs.Int.{is_negative}
-use Rattle.sfv_spec.proofs.Written.{not_negative}
+use Rattle.std.proofs.Common.{subst, ◌∙◌, arith, sym, Result, ℤ, pos, negsuc, to_z, of_z, w64, MatchResult, nat_abs}
+use Rattle.std.{proofs.Common.{int_lt, codes, decimal as decimal_digits}, specs.Fmt.signed_decimal}
+use Rattle.std.{specs.Int.is_negative, proofs.lemmas.Fmt.{decimal_digit, decimal_step}, proofs.lemmas.Int.to_z-of_z}
 use Rattle.sfv_spec.specs.Canonical.{fraction_digits, decimal_text}
-use Rattle.sfv_writer.specs.Written.{Extends}
-use Rattle.sfv_writer.proofs.Appended.{put, next, after}
+use Rattle.sfv_spec.proofs.{Marks.{digit_zero, minus_text}, Written.not_negative}
+use Rattle.sfv_writer.{specs.Written.Extends, proofs.Appended.{put, next, after}}
 
 pub fraction_one : (f : ℕ) → eqb (f % 100) 0 ≡ true → fraction_digits f ≡ (digit_zero + f / 100) ∷ []
 fraction_one f e = rw e refl

@@ -1,14 +1,10 @@
 -- The Base64 texts of bytes, part by part.
 use Rattle.std.proofs.Common.{◌≡◌, ◌≤◌, ◌<◌, ◌+◌, ◌*◌, ◌/◌, ◌%◌, ℕ, zero, suc, true, List, [], ◌∷◌, ◌++◌, length, take}
 use Rattle.std.proofs.Common.{drop, get_or, refl, sym, ap, ◌∙◌, arith, append_assoc, ltb, string_bytes, string_capacity}
-use Rattle.std.specs.Str.{IsAscii}
-use Rattle.std.specs.List.{list_all}
-use Rattle.std.specs.declared.string.String.{String}
-use Rattle.std.proofs.lemmas.Bool.{and_parts, ltb-true, lt-ltb}
-use Rattle.std.proofs.lemmas.List.{append-nil, length-append, length-take-le, take-append-drop}
+use Rattle.std.proofs.Common.{IsAscii, ltb-true, lt-ltb, append-nil, length-append, length-take-le, take-append-drop}
+use Rattle.std.{specs.List.list_all, specs.declared.string.String.String, proofs.lemmas.Bool.and_parts}
 use Rattle.sfv_spec.specs.Base64.{symbols, symbol, base64_text}
-use Rattle.sfv_writer.specs.Written.{LacksRoom}
-use Rattle.sfv_writer.proofs.Room.{len_of}
+use Rattle.sfv_writer.{specs.Written.LacksRoom, proofs.Room.len_of}
 
 -- its text between colons, after what was written before
 pub between_colons : (old a b new bytes : List ℕ) → a ≡ old ++ 58 ∷ [] → b ≡ a ++ base64_text bytes

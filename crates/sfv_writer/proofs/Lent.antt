@@ -1,18 +1,11 @@
 -- Values that are lent by a slice or a map.
-use Rattle.std.proofs.Common.{◌≡◌, List, [], ◌∷◌, ◌++◌, ℕ, length, map, refl, sym, ap, ◌∙◌, Iter, arith}
-use Rattle.std.specs.Prelude.{Option}
-use Rattle.std.specs.Borrow.{Bor}
-use Rattle.std.specs.Iterator.{Yields, Drains}
-use Rattle.std.specs.Slice.Iter.{iter_rest, iter_steps}
-use Rattle.std.specs.Map.Iter.{TakesFirst, deref_pair}
-use Rattle.std.proofs.lemmas.List.{map-append, append-nil}
-use Rattle.std.proofs.lemmas.Map.Iter.{rest_so_far}
-use Rattle.std.proofs.lemmas.Simd.{map-map}
+use Rattle.std.proofs.Common.{◌≡◌, List, [], ◌∷◌, ◌++◌, ℕ, length, map, refl, sym, ap, ◌∙◌, Iter, arith, Option, Bor}
+use Rattle.std.proofs.Common.{append-nil}
+use Rattle.std.specs.{Iterator.{Yields, Drains}, Map.Iter.{TakesFirst, deref_pair}, Slice.Iter.{iter_rest, iter_steps}}
+use Rattle.std.proofs.lemmas.{List.map-append, Map.Iter.rest_so_far, Simd.map-map}
 use Rattle.sfv_tree.specs.Trees.{OwnedBareItem, pairs_tree, member_tree, list_tree, dictionary_tree}
-use Rattle.sfv_tree.proofs.Words.{pair_tree, entry_tree}
-use Rattle.sfv_tree.specs.declared.parsed.ListEntry.{ListEntry}
-use Rattle.sfv_writer.specs.Pairs.{lent_pairs}
-use Rattle.sfv_writer.proofs.Words.{lent_list_member, lent_dictionary_member}
+use Rattle.sfv_tree.{specs.declared.parsed.ListEntry.ListEntry, proofs.Words.{pair_tree, entry_tree}}
+use Rattle.sfv_writer.{specs.Pairs.lent_pairs, proofs.Words.{lent_list_member, lent_dictionary_member}}
 
 -- ---- the elements taken so far come before the rest
 

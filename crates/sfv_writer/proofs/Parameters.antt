@@ -1,22 +1,13 @@
 -- Parameters that are written one after another: as values, and as they are lent.
 use Rattle.std.proofs.Common.{◌≡◌, ℕ, List, [], ◌∷◌, ◌++◌, length, refl, sym, ap, subst, ◌∙◌, append_assoc, arith}
-use Rattle.std.specs.Prelude.{IsTrue, Result, Ok, Err, OnOk}
-use Rattle.std.specs.Borrow.{Bor}
-use Rattle.std.proofs.lemmas.List.{append-nil}
-use Rattle.sfv_spec.specs.Classes.{is_key}
+use Rattle.std.proofs.Common.{IsTrue, Result, Ok, Err, OnOk, Bor, append-nil}
+use Rattle.sfv_spec.specs.{Canonical.parameters_text, Classes.is_key, Statements.IsValue}
 use Rattle.sfv_spec.specs.Values.{BareValue, RawParameters, RawItem, IsBareValue, AreParameters, AllFit}
-use Rattle.sfv_spec.specs.declared.field_kind.FieldKind.TheVariants.{Item as item_field}
-use Rattle.sfv_spec.specs.Statements.{IsValue}
-use Rattle.sfv_spec.proofs.Distinct.{item_own}
-use Rattle.sfv_spec.specs.declared.version.Version.{Version}
-use Rattle.sfv_spec.proofs.Repeats.{no_repeats}
-use Rattle.sfv_spec.proofs.Marks.{keys}
-use Rattle.sfv_spec.specs.Canonical.{parameters_text}
+use Rattle.sfv_spec.specs.declared.{field_kind.FieldKind.TheVariants.Item as item_field, version.Version.Version}
+use Rattle.sfv_spec.proofs.{Distinct.item_own, Marks.keys, Repeats.no_repeats}
 use Rattle.sfv_values.specs.BareItems.{bare_value}
 use Rattle.sfv_tree.specs.Trees.{OwnedBareItem, pairs_tree}
-use Rattle.sfv_writer.specs.Written.{param_text}
-use Rattle.sfv_writer.specs.Pairs.{lent_pairs, pair_values}
-use Rattle.sfv_writer.proofs.Appended.{next}
+use Rattle.sfv_writer.{specs.Pairs.{lent_pairs, pair_values}, specs.Written.param_text, proofs.Appended.next}
 
 -- the text of one more, after those of all before
 pub parameters_push : (ps : RawParameters) (p : List ℕ × BareValue)

@@ -1,9 +1,7 @@
 -- Parts that are written in a row, with a separator between each two.
 use Rattle.std.proofs.Common.{◌≡◌, ℕ, ◌+◌, ◌<◌, Bool, true, false, List, [], ◌∷◌, ◌++◌, length, get_or, map, take, refl}
-use Rattle.std.proofs.Common.{sym, ap, ◌∙◌, append_assoc, Result, Ok, Err, arith}
-use Rattle.std.specs.Prelude.{IfErr, OnOk}
-use Rattle.std.specs.List.{AllByRecursion}
-use Rattle.std.proofs.lemmas.List.{take_more, map-append, append-nil}
+use Rattle.std.proofs.Common.{sym, ap, ◌∙◌, append_assoc, Result, Ok, Err, arith, IfErr, OnOk, append-nil}
+use Rattle.std.{specs.List.AllByRecursion, proofs.lemmas.List.{take_more, map-append}}
 use Rattle.sfv_spec.specs.Texts.{joined}
 use Rattle.sfv_writer.specs.Written.{separator_before, with_separators, is_first_after}
 

@@ -1,22 +1,15 @@
 -- Parts that an iterator gave, and whose text is appended.
 use Rattle.std.proofs.Common.{◌≡◌, ◌≤◌, ℕ, Bool, false, List, [], ◌∷◌, ◌++◌, string_bytes, string_capacity, refl, sym}
-use Rattle.std.proofs.Common.{ap, subst, ◌∙◌, arith, inl, inr, Result}
-use Rattle.std.specs.Prelude.{Option, Some, None, IfErr, IsErrAnd, flat_map}
-use Rattle.std.specs.Iterator.{Yields, Drains}
-use Rattle.std.specs.declared.string.String.{String}
-use Rattle.std.proofs.iter.Next.{Yields-more}
-use Rattle.std.proofs.lemmas.List.{append-nil, length-append}
-use Rattle.sfv_spec.specs.Values.{AllFit}
-use Rattle.sfv_spec.specs.declared.version.Version.{Version}
+use Rattle.std.proofs.Common.{ap, subst, ◌∙◌, arith, inl, inr, Result, Option, Some, None, IfErr, IsErrAnd, flat_map}
+use Rattle.std.proofs.Common.{append-nil, length-append}
+use Rattle.std.{specs.Iterator.{Yields, Drains}, specs.declared.string.String.String, proofs.iter.Next.Yields-more}
+use Rattle.sfv_spec.specs.{Values.AllFit, declared.version.Version.Version}
 use Rattle.sfv_writer.specs.Versions.{PartKind, parts_text, StopsEarly, LacksForParts, IsSerializeError}
-use Rattle.sfv_writer.specs.Versions.{NamesFirstUnfit}
-use Rattle.sfv_writer.specs.Written.{Extends, LacksRoom, separator_before}
+use Rattle.sfv_writer.specs.{Versions.NamesFirstUnfit, Written.{Extends, LacksRoom, separator_before}}
 use Rattle.sfv_writer.specs.declared.serialize_error.SerializeError.{SerializeError}
+use Rattle.sfv_writer.proofs.{Appended.{next, grows}, Checks.{at_exit, each_more, each_stops}}
+use Rattle.sfv_writer.proofs.{Room.{room_after, room_before}, Separated.{IsLed, in_a_row_more, in_a_row_push}}
 use Rattle.sfv_writer.specs.declared.serialize_error.SerializeError.TheVariants as errors
-use Rattle.sfv_writer.proofs.Appended.{next, grows}
-use Rattle.sfv_writer.proofs.Checks.{at_exit, each_more, each_stops}
-use Rattle.sfv_writer.proofs.Room.{room_after, room_before}
-use Rattle.sfv_writer.proofs.Separated.{IsLed, in_a_row_more, in_a_row_push}
 
 module _ {A S Z : Type 0} (kind : PartKind A) (gives : S → Option A → S → Type 0) (from : S) (separator : List ℕ)
     (was_first : Bool) (old : String Z) where

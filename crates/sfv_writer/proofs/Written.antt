@@ -1,24 +1,15 @@
 -- A text is written run by run.
 use Rattle.std.proofs.Common.{◌≡◌, ℕ, Bool, true, false, cond, not, List, [], ◌∷◌, ◌++◌, length, take, refl, sym, ap}
-use Rattle.std.proofs.Common.{subst, ◌∙◌, append_assoc, arith, inl, inr, Result}
-use Rattle.std.specs.Prelude.{◌<◌, string_bytes, slice_index, IsUtf8, MatchResult}
-use Rattle.std.specs.Str.{IsCharBoundary}
-use Rattle.std.specs.declared.string.String.{String}
-use Rattle.std.specs.List.{flat_map, list_all}
+use Rattle.std.proofs.Common.{subst, ◌∙◌, append_assoc, arith, inl, inr, Result, ◌<◌, string_bytes, slice_index, IsUtf8}
+use Rattle.std.proofs.Common.{MatchResult, IsCharBoundary, flat_map, append-nil, length-append, take_at}
+use Rattle.std.specs.{List.list_all, declared.string.String.String}
 use Rattle.std.proofs.lemmas.Bool.{and_parts, and_cases, both_ways, not-true, not-false}
-use Rattle.std.proofs.lemmas.List.{append-nil, length-append, take_at}
-use Rattle.std.proofs.lemmas.List.Folds.{list_all-append}
-use Rattle.std.proofs.lemmas.Str.{IsUtf8-string_bytes, IsCharBoundary-from_take}
-use Rattle.sfv_spec.proofs.Marks.{backslash, is_plain_in_string}
-use Rattle.sfv_spec.specs.Texts.{RunOf}
-use Rattle.sfv_spec.specs.Classes.{is_string_byte}
-use Rattle.sfv_spec.specs.Strings.{is_escaped_in_string}
+use Rattle.std.proofs.lemmas.{List.Folds.list_all-append, Str.{IsUtf8-string_bytes, IsCharBoundary-from_take}}
+use Rattle.sfv_spec.specs.{Classes.is_string_byte, Strings.is_escaped_in_string, Texts.RunOf}
+use Rattle.sfv_spec.proofs.Marks.{backslash, is_plain_in_string, plain_of}
+use Rattle.sfv_writer.{specs.Quoted.piece_of, specs.Written.{Extends, IsTruncatedTo}, proofs.Appended.after}
 use Rattle.sfv_model.proofs.quoted.StringSteps as in_string
 use Rattle.sfv_model.proofs.quoted.DisplaySteps as in_display
-use Rattle.sfv_writer.specs.Written.{Extends, IsTruncatedTo}
-use Rattle.sfv_spec.proofs.Marks.{plain_of}
-use Rattle.sfv_writer.specs.Quoted.{piece_of}
-use Rattle.sfv_writer.proofs.Appended.{after}
 
 flat_map_append : (f : ℕ → List ℕ) (xs ys : List ℕ) → flat_map f (xs ++ ys) ≡ flat_map f xs ++ flat_map f ys
 flat_map_append f [] ys = refl

@@ -1,39 +1,23 @@
 -- The builder of a dictionary: after all events of a tree each key that it was given or that stands in the tree is
 -- there once, at its first place, with its last member.
 use Rattle.std.proofs.Common.{◌≡◌, ℕ, Bool, true, false, List, [], ◌∷◌, ◌++◌, map, refl, sym, ap, ◌∙◌, All}
-use Rattle.std.proofs.Common.{append_assoc, ◌⊎◌, inl, inr}
-use Rattle.std.specs.Prelude.{bytes_eq, fold, Option, Some, None, option_map, unwrap_or}
-use Rattle.std.proofs.lemmas.List.{append-nil, map-append}
-use Rattle.std.proofs.lemmas.List.Elements.{All-nil, All-same}
-use Rattle.std.proofs.lemmas.List.Sums.{fold-append}
+use Rattle.std.proofs.Common.{append_assoc, ◌⊎◌, inl, inr, bytes_eq, fold, Option, Some, None, option_map, unwrap_or}
+use Rattle.std.{proofs.Common.append-nil, specs.List.FoldsTo}
+use Rattle.std.proofs.lemmas.List.{map-append, Elements.{All-nil, All-same}, Sums.fold-append}
 use Rattle.indexmap.specs.IndexMap.{IndexMap, insert_entry}
-use Rattle.sfv_spec.specs.Values.{RawMember}
-use Rattle.sfv_spec.specs.declared.field_kind.FieldKind.TheVariants.{Dictionary as dictionary_field}
-use Rattle.sfv_spec.specs.declared.version.Version.{Version}
-use Rattle.sfv_spec.specs.Grammar.{IsFieldText}
 use Rattle.sfv_spec.specs.Events.{TreeEvent, member_events, events}
-use Rattle.sfv_spec.specs.Ordered.{last_of, without, collapse, ordered, ordered_member}
-use Rattle.sfv_spec.proofs.Repeats.{no_repeats, IsOrdered}
-use Rattle.sfv_spec.proofs.Marks.{keys}
-use Rattle.sfv_spec.specs.Statements.{IsParsedAs}
-use Rattle.std.specs.List.{FoldsTo}
-use Rattle.sfv_spec.proofs.Collapse.{collapse-push, collapse-distinct}
-use Rattle.sfv_spec.proofs.Last.{over, last_of-over}
-use Rattle.sfv_spec.proofs.Distinct.{ordered_same}
-use Rattle.sfv_spec.proofs.Runs.{runs_fold}
-use Rattle.sfv_tree.specs.Trees.{member_tree, dictionary_tree}
+use Rattle.sfv_spec.specs.{Grammar.IsFieldText, Ordered.{last_of, without, collapse, ordered, ordered_member}}
+use Rattle.sfv_spec.specs.{Statements.IsParsedAs, Values.RawMember}
+use Rattle.sfv_spec.proofs.{Collapse.{collapse-push, collapse-distinct}, Distinct.ordered_same}
+use Rattle.sfv_spec.proofs.{Last.{over, last_of-over}, Marks.keys, Repeats.{no_repeats, IsOrdered}, Runs.runs_fold}
 use Rattle.sfv_tree.specs.Builders.{MemberState, begun, item_head, item_parameters, inner_items, inner_head}
 use Rattle.sfv_tree.specs.Builders.{inner_parameters, list_parameters, ended, member_step, DictionaryState, settle_pair}
 use Rattle.sfv_tree.specs.Builders.{dictionary_step, complete, dictionary_state, DictionaryAddsUnder, DictionaryAdds}
-use Rattle.sfv_tree.specs.declared.parsed.ListEntry.{ListEntry}
-use Rattle.sfv_tree.specs.declared.visitor.dictionary_builder.DictionaryBuilder.{DictionaryBuilder}
-use Rattle.sfv.proofs.Relations.{Answers}
-use Rattle.sfv_tree.specs.declared.hash_seed.HashSeed.{HashSeed}
-use Rattle.sfv_tree.specs.Seeds.{MemberHasSeed, DictionaryHasSeed}
+use Rattle.sfv_tree.specs.{Seeds.{MemberHasSeed, DictionaryHasSeed}, Trees.{member_tree, dictionary_tree}}
 use Rattle.sfv_tree.proofs.Seeded.{AddsTo, adds_none, adds_more, adds_entered, adds_all}
-use Rattle.sfv.proofs.built.Seeded.{map_none, runs_grow, runs_stay, runs_weaker}
-use Rattle.sfv.proofs.built.Items.{insert_entry-entered}
-use Rattle.sfv.proofs.built.Members.{IsOpen, member_built}
+use Rattle.sfv.specs.Types.{dictionary_field, Version, ListEntry, DictionaryBuilder, HashSeed}
+use Rattle.sfv.proofs.{Relations.Answers, built.Items.insert_entry-entered}
+use Rattle.sfv.proofs.built.{Members.{IsOpen, member_built}, Seeded.{map_none, runs_grow, runs_stay, runs_weaker}}
 
 -- values that are changed one by one are collapsed before or after
 module _ {A B : Type 0} (f : A → B) where

@@ -1,28 +1,16 @@
 -- The builder of an item: after all events of a tree it has the ordered item.
-use Rattle.std.proofs.Common.{◌≡◌, ℕ, cond, List, [], ◌∷◌, ◌++◌, refl, sym, ap, ◌∙◌, append_assoc, inl, inr}
-use Rattle.std.specs.Prelude.{⊤, bytes_eq, IsTrue}
-use Rattle.std.proofs.lemmas.List.{append-nil}
+use Rattle.std.proofs.Common.{◌≡◌, ℕ, cond, List, [], ◌∷◌, ◌++◌, refl, sym, ap, ◌∙◌, append_assoc, inl, inr, bytes_eq}
+use Rattle.std.{proofs.Common.{IsTrue, append-nil}, specs.List.FoldsTo, specs.Prelude.⊤}
 use Rattle.indexmap.specs.IndexMap.{insert_entry}
-use Rattle.sfv_spec.specs.Values.{BareValue, RawParameters, RawItem, item}
-use Rattle.sfv_spec.specs.declared.field_kind.FieldKind.TheVariants.{Item as item_field}
-use Rattle.sfv_spec.specs.declared.version.Version.{Version}
 use Rattle.sfv_spec.specs.Events.{TreeEvent, bare_item, parameter, parameters_end, parameters_events, item_events}
-use Rattle.sfv_spec.specs.Ordered.{collapse, ordered_item}
-use Rattle.sfv_spec.specs.Statements.{IsParsedAs}
-use Rattle.std.specs.List.{FoldsTo}
-use Rattle.sfv_spec.proofs.Collapse.{entered, collapse-push}
-use Rattle.sfv_tree.specs.Trees.{item_tree}
-use Rattle.sfv_tree.specs.Builders.{MemberState, item_head, item_parameters, ended, member_step, item_state}
-use Rattle.sfv_tree.specs.Builders.{takes_memory, IsItemUnder}
+use Rattle.sfv_spec.specs.{Ordered.{collapse, ordered_item}, Statements.IsParsedAs}
+use Rattle.sfv_spec.{specs.Values.{BareValue, RawParameters, RawItem, item}, proofs.Collapse.{entered, collapse-push}}
 use Rattle.sfv_base.specs.declared.error.ParseError.TheVariants.{Visitor}
-use Rattle.sfv_tree.specs.declared.hash_seed.HashSeed.{HashSeed}
-use Rattle.sfv_tree.specs.Seeds.{ItemHasSeed}
-use Rattle.sfv.proofs.built.Seeded.{answer_seeded}
-use Rattle.sfv_tree.specs.declared.visitor.ItemFault.{ItemFault}
+use Rattle.sfv_tree.specs.Builders.{MemberState, item_head, item_parameters, ended, member_step, item_state}
+use Rattle.sfv_tree.specs.{Builders.{takes_memory, IsItemUnder}, Seeds.ItemHasSeed, Trees.item_tree}
+use Rattle.sfv.specs.Types.{item_field, Version, HashSeed, ItemFault, Item, ItemBuilder}
+use Rattle.sfv.proofs.{Relations.{Answers, FailsIn, HasVisitorError, item_failed}, built.Seeded.answer_seeded}
 use Rattle.sfv_tree.specs.declared.visitor.ItemFault.TheVariants as faults
-use Rattle.sfv_tree.specs.declared.parsed.Item.{Item}
-use Rattle.sfv_tree.specs.declared.visitor.item_builder.ItemBuilder.{ItemBuilder}
-use Rattle.sfv.proofs.Relations.{Answers, FailsIn, HasVisitorError, item_failed}
 
 -- what the builder does with an event, and with the end
 abbrev Steps : ItemBuilder → TreeEvent → ItemBuilder → Type 0

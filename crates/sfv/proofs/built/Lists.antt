@@ -1,32 +1,17 @@
 -- The builder of a list: after all events of a tree it has the ordered members after those that it was given.
 use Rattle.std.proofs.Common.{◌≡◌, ℕ, List, [], ◌∷◌, ◌++◌, map, refl, sym, ap, ◌∙◌, append_assoc, Option, ◌⊎◌, inl, inr}
-use Rattle.std.proofs.Common.{subst}
-use Rattle.std.specs.Prelude.{Some, None, fold}
-use Rattle.std.specs.declared.alloc.Global.{Global}
-use Rattle.std.specs.declared.vec.Vec.{Vec}
-use Rattle.std.proofs.lemmas.List.{append-nil}
-use Rattle.std.proofs.lemmas.List.Elements.{All-nil, All-cons, All-append, All-same}
-use Rattle.std.proofs.lemmas.List.Sums.{fold-append}
-use Rattle.sfv_spec.specs.Values.{RawMember}
-use Rattle.sfv_spec.specs.declared.field_kind.FieldKind.TheVariants.{List as list_field}
-use Rattle.sfv_spec.specs.declared.version.Version.{Version}
-use Rattle.sfv_spec.specs.Grammar.{IsFieldText}
-use Rattle.sfv_spec.specs.Events.{TreeEvent, member_events, events}
-use Rattle.sfv_spec.specs.Ordered.{ordered, ordered_member}
-use Rattle.sfv_spec.specs.Statements.{IsParsedAs}
-use Rattle.std.specs.List.{FoldsTo}
+use Rattle.std.{proofs.Common.{subst, Some, None, fold, append-nil}, specs.List.FoldsTo}
+use Rattle.std.specs.declared.{alloc.Global.Global, vec.Vec.Vec}
+use Rattle.std.proofs.lemmas.List.{Elements.{All-nil, All-cons, All-append, All-same}, Sums.fold-append}
+use Rattle.sfv_spec.specs.{Events.{TreeEvent, member_events, events}, Grammar.IsFieldText}
+use Rattle.sfv_spec.specs.{Ordered.{ordered, ordered_member}, Statements.IsParsedAs, Values.RawMember}
 use Rattle.sfv_spec.proofs.Runs.{runs_fold}
-use Rattle.sfv_tree.specs.Trees.{member_tree, list_tree}
 use Rattle.sfv_tree.specs.Builders.{MemberState, begun, item_head, item_parameters, inner_items, inner_head}
 use Rattle.sfv_tree.specs.Builders.{inner_parameters, list_parameters, ended, member_step, settle, list_step, complete}
 use Rattle.sfv_tree.specs.Builders.{list_state, ListAddsUnder, ListAdds}
-use Rattle.sfv_tree.specs.declared.parsed.ListEntry.{ListEntry}
-use Rattle.sfv_tree.specs.declared.visitor.list_builder.ListBuilder.{ListBuilder}
-use Rattle.sfv.proofs.Relations.{Answers}
-use Rattle.sfv_tree.specs.declared.hash_seed.HashSeed.{HashSeed}
-use Rattle.sfv_tree.specs.Seeds.{MemberHasSeed, ListHasSeed}
-use Rattle.sfv.proofs.built.Seeded.{map_none, runs_grow, runs_weaker}
-use Rattle.sfv.proofs.built.Members.{IsOpen, member_built}
+use Rattle.sfv_tree.specs.{Seeds.{MemberHasSeed, ListHasSeed}, Trees.{member_tree, list_tree}}
+use Rattle.sfv.{specs.Types.{list_field, Version, ListEntry, ListBuilder, HashSeed}, proofs.Relations.Answers}
+use Rattle.sfv.proofs.built.{Members.{IsOpen, member_built}, Seeded.{map_none, runs_grow, runs_weaker}}
 
 -- what the builder does with an event, and with the end
 abbrev Places : ListBuilder → TreeEvent → ListBuilder → Type 0

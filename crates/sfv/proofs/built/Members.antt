@@ -1,12 +1,10 @@
 -- A member that a builder reads: after all events of a member it has ended, as the ordered member.
-use Rattle.std.proofs.Common.{◌≡◌, ℕ, List, [], ◌∷◌, ◌++◌, map, refl, sym, ap, subst, ◌∙◌, append_assoc}
-use Rattle.std.specs.Prelude.{⊤, bytes_eq, fold, flat_map}
-use Rattle.std.proofs.lemmas.List.{append-nil}
+use Rattle.std.proofs.Common.{◌≡◌, ℕ, List, [], ◌∷◌, ◌++◌, map, refl, sym, ap, subst, ◌∙◌, append_assoc, bytes_eq, fold}
+use Rattle.std.{proofs.Common.{flat_map, append-nil}, specs.Prelude.⊤}
 use Rattle.indexmap.specs.IndexMap.{insert_entry}
-use Rattle.sfv_spec.specs.Values.{BareValue, RawParameters, RawItem, RawInnerList, RawMember, item, inner_list}
 use Rattle.sfv_spec.specs.Events.{TreeEvent, begins_item, parameter, parameters_end, inner_list_end, parameters_events}
-use Rattle.sfv_spec.specs.Events.{item_events, member_events}
-use Rattle.sfv_spec.specs.Ordered.{collapse, ordered_item, ordered_member}
+use Rattle.sfv_spec.specs.{Events.{item_events, member_events}, Ordered.{collapse, ordered_item, ordered_member}}
+use Rattle.sfv_spec.specs.Values.{BareValue, RawParameters, RawItem, RawInnerList, RawMember, item, inner_list}
 use Rattle.sfv_spec.proofs.Collapse.{collapse-push}
 use Rattle.sfv_tree.specs.Builders.{MemberState, begun, item_head, item_parameters, inner_items, inner_head}
 use Rattle.sfv_tree.specs.Builders.{inner_parameters, list_parameters, ended, member_step}

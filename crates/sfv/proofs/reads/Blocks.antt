@@ -1,21 +1,15 @@
 -- Vectors of symbols, of values and of groups, lane by lane.
 use Rattle.std.proofs.Common.{◌≡◌, ℕ, zero, suc, ◌+◌, ◌-◌, ◌*◌, ◌/◌, ◌%◌, ◌^◌, ◌<◌, Bool, true, cond, eqb, ltb, List}
 use Rattle.std.proofs.Common.{[], ◌∷◌, ◌++◌, map, take, length, get_or, replicate, refl, sym, ap, ap₂, ◌∙◌, arith, w8}
-use Rattle.std.proofs.Common.{Fits, T, inl, inr}
-use Rattle.std.specs.Prelude.{◌==◌}
-use Rattle.std.specs.List.{list_all}
-use Rattle.std.proofs.lemmas.Bool.{agree_below_at, eqb-true, and_parts, and_from, both_ways, cases_Bool, ltb-true}
-use Rattle.std.proofs.lemmas.Bool.{lt-ltb}
-use Rattle.std.proofs.lemmas.List.{get_or-map, length-map, ext_get_or}
-use Rattle.std.proofs.lemmas.List.Folds.{list_all_at}
+use Rattle.std.proofs.Common.{Fits, T, inl, inr, ◌==◌, eqb-true, ltb-true, lt-ltb, ext_get_or}
+use Rattle.std.{specs.List.list_all, proofs.lemmas.Bool.{agree_below_at, and_parts, and_from, both_ways, cases_Bool}}
+use Rattle.std.proofs.lemmas.List.{get_or-map, length-map, Folds.list_all_at}
 use Rattle.std.proofs.lemmas.Simd.{swz_l, SwzOk, SwzOk-from_below, Each1-get_or, length-swz_l, get_or-swz_l_below}
 use Rattle.std.proofs.lemmas.Simd.{get_or_narrower}
 use lib.Lanes.{zip2, sel_l, top, Each1, dots, products, pair_sums, all_below, number_l, digits_l, pick_l}
-use Rattle.sfv_spec.proofs.Marks.{is_symbol}
+use Rattle.sfv_spec.{specs.Base64.symbols, proofs.Marks.is_symbol}
 use Rattle.sfv_model.specs.Content.{symbol_value, bytes_from}
-use Rattle.sfv_model.proofs.base64.Bits.{is_value, head_value}
-use Rattle.sfv_model.proofs.base64.Shape.{symbol-value, value_within}
-use Rattle.sfv_spec.specs.Base64.{symbols}
+use Rattle.sfv_model.proofs.base64.{Bits.{is_value, head_value}, Shape.{symbol-value, value_within}}
 use Rattle.sfv.specs.parser.Base64.{group_numbers, bytes_of_groups, offset_index, AreOffsets}
 
 -- ---- values

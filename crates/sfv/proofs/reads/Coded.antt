@@ -1,10 +1,8 @@
 -- The bytes of symbols, group by group.
 use Rattle.std.proofs.Common.{◌≡◌, ℕ, ◌<◌, ◌≤◌, ◌+◌, ◌*◌, ◌/◌, ◌%◌, List, [], ◌∷◌, ◌++◌, length, map, append_assoc}
-use Rattle.std.proofs.Common.{take, drop, refl, sym, ◌∙◌, ap, true, arith, suc, take-take}
-use Rattle.std.specs.List.{list_all}
-use Rattle.std.proofs.lemmas.Bool.{and_parts, and_from}
-use Rattle.std.proofs.lemmas.List.{append-nil, length-map, length-take-le, length-drop, take-append-drop, map-append}
-use Rattle.std.proofs.lemmas.List.Folds.{list_all-append}
+use Rattle.std.proofs.Common.{take, drop, refl, sym, ◌∙◌, ap, true, arith, suc, take-take, append-nil, length-take-le}
+use Rattle.std.{proofs.Common.{length-drop, take-append-drop}, specs.List.list_all}
+use Rattle.std.proofs.lemmas.{Bool.{and_parts, and_from}, List.{length-map, map-append}, List.Folds.list_all-append}
 use Rattle.sfv_spec.proofs.Marks.{is_symbol}
 use Rattle.sfv_model.specs.Content.{symbol_value, bytes_from}
 use Rattle.sfv.specs.parser.Base64.{decoded_symbols}

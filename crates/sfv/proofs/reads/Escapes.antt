@@ -1,37 +1,24 @@
 -- The inside of strings and display strings, by what the code found out, and the errors that it tells of them.
 use Rattle.std.proofs.Common.{◌≡◌, ℕ, ◌<◌, ◌≤◌, ◌+◌, ◌*◌, Bool, true, false, not, List, [], ◌∷◌, ◌++◌, length, drop}
 use Rattle.std.proofs.Common.{Option, Some, None, Ok, Err, refl, sym, ap, subst, ◌∙◌, append_assoc, length-append}
-use Rattle.std.proofs.Common.{arith, inl, inr}
-use Rattle.std.specs.Prelude.{MatchOption, is_some, ◌==◌, ◌↔◌}
-use Rattle.std.specs.List.{concat}
-use Rattle.std.specs.declared.alloc.Global.{Global}
+use Rattle.std.proofs.Common.{arith, inl, inr, MatchOption, is_some, ◌==◌, ◌↔◌, eqb-true, append-nil}
+use Rattle.std.specs.{Char.digit_value as hexadecimal_value, List.concat, declared.alloc.Global.Global}
 use Rattle.std.proofs.lemmas.Bool.{and_parts, and_from, and_cases, or_parts, or_from, not-true, not_from_false}
-use Rattle.std.proofs.lemmas.Bool.{both_ways, eqb-true}
-use Rattle.std.proofs.lemmas.Bool.Decides.{nat_tests}
-use Rattle.std.proofs.lemmas.List.{append-nil}
-use Rattle.sfv_spec.proofs.Marks.{double_quote, percent_sign, backslash, plain_of}
-use Rattle.sfv_spec.specs.Texts.{RunOf}
+use Rattle.std.proofs.lemmas.Bool.{both_ways, Decides.nat_tests}
 use Rattle.sfv_spec.specs.Classes.{is_string_byte, is_lower_hexadecimal}
-use Rattle.sfv_spec.specs.Strings.{is_escaped_in_string, IsStringPiece, IsDisplayPiece}
-use Rattle.std.specs.Char.{digit_value as hexadecimal_value}
-use Rattle.sfv_base.specs.declared.error.Error.{Error}
-use Rattle.sfv_spec.specs.declared.error_kind.ErrorKind.{ErrorKind}
-use Rattle.sfv_spec.specs.declared.error_kind.ErrorKind.TheVariants.{UnterminatedEscapeSequence, InvalidEscapeSequence}
-use Rattle.sfv_base.specs.Digits.{digit_value}
-use Rattle.sfv_base.specs.Errors.{kind_of, index_of}
-use Rattle.sfv_model.specs.Reader.{Answer, first, byte, Apart}
+use Rattle.sfv_spec.specs.{Strings.{is_escaped_in_string, IsStringPiece, IsDisplayPiece}, Texts.RunOf}
+use Rattle.sfv_spec.proofs.Marks.{double_quote, percent_sign, backslash, plain_of}
 use Rattle.sfv_model.specs.Quoted.{after_bytes, string_from, outside, percent, digit, pieces_from, checked, display_at}
-use Rattle.sfv_model.specs.Quoted.{StringStops, DisplayStops, Traced}
-use Rattle.sfv_model.proofs.quoted.Pieces.{after_bytes_none, after_bytes_more, after_bytes_ok, step_string}
-use Rattle.sfv_model.proofs.quoted.Pieces.{step_display}
-use Rattle.sfv_model.proofs.quoted.Traces.{Ends, trace_of_string, trace_of_display}
+use Rattle.sfv_model.specs.{Quoted.{StringStops, DisplayStops, Traced}, Reader.{Answer, first, byte, Apart}}
+use Rattle.sfv_model.proofs.Types.{ErrorKind, UnterminatedEscapeSequence, InvalidEscapeSequence}
 use Rattle.sfv_model.proofs.quoted.DisplaySteps.{outside_byte}
-use Rattle.sfv.proofs.reads.Steps.{passed}
-use Rattle.sfv.specs.declared.parser.Parser.{Parser}
-use Rattle.sfv.specs.declared.parser.cursor.Cursor.{Cursor}
+use Rattle.sfv_model.proofs.quoted.Pieces.{after_bytes_none, after_bytes_more, after_bytes_ok, step_string}
+use Rattle.sfv_model.proofs.quoted.{Pieces.step_display, Traces.{Ends, trace_of_string, trace_of_display}}
+use Rattle.sfv_base.specs.{Digits.digit_value, Errors.{kind_of, index_of}, declared.error.Error.Error}
+use Rattle.sfv.specs.{Memory.IsRefusal, declared.parser.Parser.Parser, declared.parser.cursor.Cursor.Cursor}
 use Rattle.sfv.specs.parser.Cursor.{kept_input, rest, located, IsFaultOf, IsErrorOf, NextIs, TakesIf, Skips}
 use Rattle.sfv.specs.parser.Quoted.{mark_of, end_error_of, inside, after_mark, opening, HasNoMark, HasNoMarkInside}
-use Rattle.sfv.specs.Memory.{IsRefusal}
+use Rattle.sfv.proofs.reads.Steps.{passed}
 
 -- ---- one byte of a quoted text
 

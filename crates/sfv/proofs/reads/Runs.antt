@@ -1,19 +1,13 @@
 -- Loops over bytes of a class, and over digits.
 use Rattle.std.proofs.Common.{◌≡◌, ℕ, zero, suc, ◌+◌, ◌-◌, ◌*◌, ◌^◌, ◌<◌, ◌≤◌, Bool, true, false, List, [], ◌∷◌, ◌++◌}
 use Rattle.std.proofs.Common.{length, get_or, take, drop, Ok, refl, sym, ap, subst, ◌∙◌, arith, append_assoc, zero-add}
-use Rattle.std.proofs.Common.{add-one, inl, inr, length-append}
-use Rattle.std.proofs.Math.Nat.{pow-suc}
-use Rattle.std.proofs.lemmas.List.{take-append-drop, take_more, length-take, length-take-le, drop_more, drop_all}
-use Rattle.std.proofs.lemmas.List.Folds.{list_all-append}
-use Rattle.std.proofs.lemmas.Bool.{cases_lt, and_parts, and_from, or_from, or_left, or_right, leb-true}
-use Rattle.sfv_spec.specs.Texts.{RunOf}
-use Rattle.sfv_spec.proofs.Marks.{is_digit, is_space_or_tab, space, tab}
-use Rattle.sfv_spec.specs.Numbers.{place_value}
-use Rattle.sfv.specs.declared.parser.digits.Digits.{Digits}
-use Rattle.sfv.specs.parser.Values.{Spells}
+use Rattle.std.proofs.Common.{add-one, inl, inr, length-append, pow-suc, take-append-drop, length-take, length-take-le}
+use Rattle.std.proofs.{Common.leb-true, lemmas.Bool.{cases_lt, and_parts, and_from, or_from, or_left, or_right}}
+use Rattle.std.proofs.lemmas.List.{take_more, drop_more, drop_all, Folds.list_all-append}
+use Rattle.sfv_spec.{specs.Numbers.place_value, specs.Texts.RunOf, proofs.Marks.{is_digit, is_space_or_tab, space, tab}}
 use Rattle.sfv_model.specs.Reader.{Apart, byte, up_to, span}
-use Rattle.sfv.specs.parser.Cursor.{TakesIf}
 use Rattle.sfv_model.proofs.complete.Combinators.{Apart-nil, Apart-cons, up_to_taken, span_complete}
+use Rattle.sfv.specs.{declared.parser.digits.Digits.Digits, parser.Cursor.TakesIf, parser.Values.Spells}
 
 pub stops_at : (class : ℕ → Bool) (xs : List ℕ) (i : ℕ) → (i < length xs → class (get_or xs i 0) ≡ false)
     → Apart class (drop i xs)

@@ -1,40 +1,29 @@
 -- What a reader gives, by what the code found out.
 use Rattle.std.proofs.Common.{◌≡◌, ℕ, ◌+◌, ◌-◌, ◌*◌, ◌^◌, ◌≤◌, Bool, true, false, eqb, ltb, List, [], ◌∷◌, ◌++◌, length}
-use Rattle.std.proofs.Common.{Option, Some, None, Ok, Err, refl, sym, ap, subst, ◌∙◌, arith, drop}
-use Rattle.std.specs.Prelude.{IsTrue, ℤ, MatchOption}
-use Rattle.std.proofs.lemmas.Bool.{and_from, both_ways, eqb-true, ne_eqb}
-use Rattle.sfv_spec.proofs.Marks.{double_quote, percent_sign, digit_zero, colon, minus_sign, dot, digit_one, semicolon}
-use Rattle.sfv_spec.proofs.Marks.{equals_sign, question_mark, at_sign, is_digit, is_space}
-use Rattle.sfv_spec.specs.Texts.{RunOf}
+use Rattle.std.proofs.Common.{Option, Some, None, Ok, Err, refl, sym, ap, subst, ◌∙◌, arith, drop, IsTrue, ℤ}
+use Rattle.std.proofs.Common.{MatchOption, eqb-true, ne_eqb}
+use Rattle.std.{specs.declared.alloc.Global.Global, proofs.lemmas.Bool.{and_from, both_ways}}
 use Rattle.sfv_spec.specs.Classes.{is_key_start, is_key_inner, is_key, is_token_start, is_token_inner, is_token}
+use Rattle.sfv_spec.specs.{Events.bare_item, Numbers.{place_value, signed}, Texts.RunOf}
 use Rattle.sfv_spec.specs.Values.{RawParameters, RawItem, BareValue, integer, decimal, token, boolean, date}
 use Rattle.sfv_spec.specs.Values.{display_string, string, byte_sequence}
-use Rattle.sfv_spec.specs.declared.version.Version.{Version}
-use Rattle.sfv_spec.specs.declared.version.Version.TheVariants.{Rfc8941, Rfc9651}
-use Rattle.sfv_base.specs.declared.error.Error.{Error}
-use Rattle.std.specs.declared.alloc.Global.{Global}
-use Rattle.sfv_spec.specs.declared.error_kind.ErrorKind.{ErrorKind}
-use Rattle.sfv_spec.specs.Numbers.{place_value, signed}
-use Rattle.sfv_spec.specs.declared.error_kind.ErrorKind.TheVariants.{ExpectedQuote, Rfc8941DisplayString}
-use Rattle.sfv_spec.specs.declared.error_kind.ErrorKind.TheVariants.{ExpectedBoolean, Rfc8941Date, NonIntegerDate}
-use Rattle.sfv_spec.specs.declared.error_kind.ErrorKind.TheVariants.{ExpectedStartOfKey, ExpectedStartOfBareItem}
-use Rattle.sfv_spec.specs.declared.error_kind.ErrorKind.TheVariants.{ExpectedDigit, TooManyDigits}
-use Rattle.sfv_spec.specs.declared.error_kind.ErrorKind.TheVariants.{TooManyDigitsBeforeDecimalPoint}
-use Rattle.sfv_spec.specs.declared.error_kind.ErrorKind.TheVariants.{TooManyDigitsAfterDecimalPoint}
-use Rattle.sfv_spec.specs.declared.error_kind.ErrorKind.TheVariants.{TrailingDecimalPoint}
-use Rattle.sfv_model.specs.Reader.{Answer, Reader, led, give, fail, ruled, ◌>>=◌, branch, ahead, at_start}
-use Rattle.sfv_model.specs.Reader.{back, up_to, span, byte, Apart}
+use Rattle.sfv_spec.proofs.Marks.{double_quote, percent_sign, digit_zero, colon, minus_sign, dot, digit_one, semicolon}
+use Rattle.sfv_spec.proofs.Marks.{equals_sign, question_mark, at_sign, is_digit, is_space}
 use Rattle.sfv_model.specs.Bare.{is_number_start, bare_at, boolean_at, as_date, date_at, quoted_at, sign_at, long_at}
 use Rattle.sfv_model.specs.Bare.{decimal_at, fraction_at, point_at, whole_at, number_at, token_at}
+use Rattle.sfv_model.specs.{Content.bytes_at, Items.{key_at, value_at, parameter_at, parameters_at, item_of, item_at}}
 use Rattle.sfv_model.specs.Quoted.{string_at, display_at}
-use Rattle.sfv_model.specs.Content.{bytes_at}
-use Rattle.sfv_model.specs.Items.{key_at, value_at, parameter_at, parameters_at, item_of, item_at}
-use Rattle.sfv_spec.specs.Events.{bare_item}
+use Rattle.sfv_model.specs.Reader.{Answer, Reader, led, give, fail, ruled, ◌>>=◌, branch, ahead, at_start, back, up_to}
+use Rattle.sfv_model.specs.Reader.{span, byte, Apart}
+use Rattle.sfv_model.proofs.Types.{ExpectedQuote, Rfc8941DisplayString, ExpectedBoolean, Rfc8941Date, NonIntegerDate}
+use Rattle.sfv_model.proofs.Types.{ExpectedStartOfKey, ExpectedStartOfBareItem, ExpectedDigit, TooManyDigits}
+use Rattle.sfv_model.proofs.Types.{TooManyDigitsBeforeDecimalPoint, TooManyDigitsAfterDecimalPoint}
+use Rattle.sfv_model.proofs.Types.{TrailingDecimalPoint, Version, Rfc8941, Rfc9651, ErrorKind}
 use Rattle.sfv_model.proofs.complete.Combinators.{branch_past, branch_take, ahead_past, ahead_take, bind_complete}
 use Rattle.sfv_model.proofs.complete.Combinators.{led_complete, span_complete}
-use Rattle.sfv.proofs.reads.Errors.{fault_bind}
-use Rattle.sfv.specs.declared.parser.Parser.{Parser}
+use Rattle.sfv.specs.{Types.Error, declared.parser.Parser.Parser}
 use Rattle.sfv.specs.parser.Cursor.{kept_input, located, IsFaultOf, NextIs, TakesIf, Skips}
+use Rattle.sfv.proofs.reads.Errors.{fault_bind}
 
 pub ahead_true : {A : Type 0} (class : ℕ → Bool) (taken other : Reader A) (t : List ℕ) → NextIs class true t
     → ahead class taken other t ≡ taken t

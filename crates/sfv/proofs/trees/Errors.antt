@@ -1,34 +1,21 @@
 -- Errors of functions that build trees, as those of a visitor that takes every event, and that fails where memory may
 -- run out.
 use Rattle.std.proofs.Common.{◌≡◌, ℕ, List, [], ◌∷◌, ◌++◌, Option, Some, None, Ok, Err, map, refl, ap, inl, inr, subst}
-use Rattle.std.proofs.Common.{sym, arith}
-use Rattle.std.specs.Prelude.{⊤, IsTrue, MatchOption, flat_map}
-use Rattle.std.specs.List.{FoldsTo, Contains}
+use Rattle.std.{proofs.Common.{sym, arith, IsTrue, MatchOption, flat_map, Contains}, specs.List.FoldsTo}
+use Rattle.std.specs.{Prelude.⊤, declared.alloc.Global.Global, declared.borrow.CowStr.CowStr, declared.vec.Vec.Vec}
 use Rattle.std.proofs.lemmas.List.Elements.{Contains-append_left, Contains-append_right, Contains-append_cases}
 use Rattle.std.proofs.lemmas.List.Elements.{Contains-push, Contains-push_cases, Contains-get_or}
-use Rattle.std.specs.declared.alloc.Global.{Global}
-use Rattle.std.specs.declared.vec.Vec.{Vec}
-use Rattle.std.specs.declared.borrow.CowStr.{CowStr}
-use Rattle.sfv_spec.specs.declared.version.Version.{Version}
-use Rattle.sfv_spec.specs.Values.{RawParameters, RawItem, RawMember, item, inner_list}
 use Rattle.sfv_spec.specs.Events.{TreeEvent, keyed_entry, begins_item, begins_inner_list, bare_item, parameter}
 use Rattle.sfv_spec.specs.Events.{parameters_end, inner_list_end, parameters_events, item_events, inner_item_events}
 use Rattle.sfv_spec.specs.Events.{member_events, keyed_events}
-use Rattle.sfv_base.specs.declared.error.Error.{Error}
-use Rattle.sfv_base.specs.Errors.{index_of}
-use Rattle.sfv_base.specs.declared.error.ParseError.{ParseError}
-use Rattle.sfv_base.specs.declared.error.ParseError.TheVariants.{Syntax, Visitor}
-use Rattle.sfv_base.specs.declared.error.OutOfMemory.{OutOfMemory}
-use Rattle.sfv_values.specs.TokenText.{TokenRef}
-use Rattle.sfv_values.specs.declared.bare.GenericBareItem.{GenericBareItem}
-use Rattle.sfv_values.specs.declared.bare.GenericBareItem.TheVariants as bare
-use Rattle.sfv_values.specs.declared.bare.StringFromInput.{StringFromInput}
-use Rattle.sfv_values.specs.BareItems.{is_borrowed, is_text, input_value}
+use Rattle.sfv_spec.specs.Values.{RawParameters, RawItem, RawMember, item, inner_list}
 use Rattle.sfv_model.specs.Reader.{Answer, Reader, visited}
-use Rattle.sfv.specs.declared.parser.cursor.Cursor.{Cursor}
-use Rattle.sfv.specs.parser.Cursor.{kept, input, version, rest, IsErrorOf}
-use Rattle.sfv.specs.parser.Trees.{FailsAs, TakesMemory}
-use Rattle.sfv.specs.parser.Visits.{VisitsAnswer, TookAll, IsOfVisitor}
+use Rattle.sfv_base.specs.{Errors.index_of, declared.error.ParseError.TheVariants.{Syntax, Visitor}}
+use Rattle.sfv_values.specs.{BareItems.{is_borrowed, is_text, input_value}, TokenText.TokenRef}
+use Rattle.sfv.specs.Types.{Version, Error, ParseError, OutOfMemory, GenericBareItem, StringFromInput}
+use Rattle.sfv.specs.{declared.parser.cursor.Cursor.Cursor, parser.Cursor.{kept, input, version, rest, IsErrorOf}}
+use Rattle.sfv.specs.parser.{Trees.{FailsAs, TakesMemory}, Visits.{VisitsAnswer, TookAll, IsOfVisitor}}
+use Rattle.sfv_values.specs.declared.bare.GenericBareItem.TheVariants as bare
 
 abbrev pub Any : Unit {0} → TreeEvent → Unit {0} → Type 0
 Any s e t = ⊤

@@ -1,40 +1,23 @@
 -- Whole lists and dictionaries that are built.
 use Rattle.std.proofs.Common.{◌≡◌, ℕ, Bool, true, false, List, [], ◌∷◌, ◌++◌, Ok, Err, refl, sym, ap, ◌∙◌, inl, inr}
-use Rattle.std.specs.Prelude.{⊤, Result, flat_map, is_some, cond, not}
-use Rattle.std.specs.declared.alloc.Global.{Global}
-use Rattle.std.proofs.lemmas.Bool.{cases_Bool}
-use Rattle.std.proofs.lemmas.List.{map-append}
-use Rattle.std.proofs.lemmas.List.Elements.{Contains-append_right}
-use Rattle.sfv_spec.specs.Values.{RawMember, RawField}
-use Rattle.sfv_spec.proofs.Marks.{is_space}
-use Rattle.sfv_spec.specs.declared.field_kind.FieldKind.TheVariants.{List as list_field, Dictionary as dictionary_field}
-use Rattle.sfv_spec.specs.declared.version.Version.{Version}
-use Rattle.sfv_spec.specs.Events.{TreeEvent, entry, member_events, entry_events}
-use Rattle.sfv_spec.specs.Ordered.{collapse, ordered_member}
-use Rattle.sfv_spec.specs.Statements.{IsParsedAs}
-use Rattle.sfv_spec.proofs.Collapse.{collapse-push}
-use Rattle.sfv_base.specs.declared.error.Error.{Error}
-use Rattle.sfv_base.specs.declared.error.ParseError.{ParseError}
-use Rattle.sfv_base.specs.declared.error.ParseError.TheVariants.{Syntax}
-use Rattle.sfv_base.specs.declared.error.OutOfMemory.{OutOfMemory}
-use Rattle.sfv_model.specs.Reader.{Answer, Reader, and_then, first, give, span}
-use Rattle.sfv_model.specs.Members.{member_at, entry_at}
+use Rattle.std.proofs.Common.{Result, flat_map, is_some, cond, not}
+use Rattle.std.specs.{Prelude.⊤, declared.alloc.Global.Global}
+use Rattle.std.proofs.lemmas.{Bool.cases_Bool, List.map-append, List.Elements.Contains-append_right}
+use Rattle.sfv_spec.{specs.Ordered.collapse, proofs.Collapse.collapse-push, proofs.Marks.is_space}
 use Rattle.sfv_model.specs.Fields.{members_at, whole_field_at}
-use Rattle.sfv.specs.declared.parser.Parser.{Parser}
-use Rattle.sfv.specs.declared.parser.cursor.Cursor.{Cursor}
+use Rattle.sfv_model.specs.{Members.{member_at, entry_at}, Reader.{Answer, Reader, and_then, first, give, span}}
+use Rattle.sfv_base.specs.declared.error.{Error.Error, OutOfMemory.OutOfMemory}
+use Rattle.sfv_base.specs.declared.error.ParseError.{ParseError, TheVariants.Syntax}
+use Rattle.sfv.specs.Field.{RawMember, RawField, list_field, dictionary_field, Version, TreeEvent, entry, member_events}
+use Rattle.sfv.specs.Field.{entry_events, ordered_member, IsParsedAs, IsParseError}
+use Rattle.sfv.specs.declared.parser.{Parser.Parser, cursor.Cursor.Cursor}
 use Rattle.sfv.specs.parser.Cursor.{kept, kept_input, kept_version, rest, MayNeedMemory}
 use Rattle.sfv.specs.parser.Members.{MemberValue, member_parts, one_member_at, field_of}
 use Rattle.sfv.specs.parser.Trees.{Builds, FailsAs, ordered_pairs, ordered_members, with_member}
-use Rattle.sfv.proofs.trees.Errors.{Any, NoMemory, as_answer}
-use Rattle.sfv.specs.Parsers.{IsParseError}
-use Rattle.sfv.proofs.Memory.{first_in}
-use Rattle.sfv.proofs.Parsed.{parsed, parse_error}
-use Rattle.sfv.proofs.built.Items.{insert_entry-entered}
-use Rattle.sfv.proofs.built.Dictionaries.{collapse-over}
-use Rattle.sfv.proofs.trees.Parts.{led_builds}
-use Rattle.sfv.proofs.reads.Errors.{kept_reads}
-use Rattle.sfv.proofs.visits.Parts.{start_visits}
-use Rattle.sfv.proofs.visits.Fields.{whole_read, members_fail}
+use Rattle.sfv.proofs.{Memory.first_in, Parsed.{parsed, parse_error}}
+use Rattle.sfv.proofs.built.{Dictionaries.collapse-over, Items.insert_entry-entered}
+use Rattle.sfv.proofs.{reads.Errors.kept_reads, trees.Errors.{Any, NoMemory, as_answer}, trees.Parts.led_builds}
+use Rattle.sfv.proofs.visits.{Fields.{whole_read, members_fail}, Parts.start_visits}
 
 -- ---- one more member
 

@@ -1,27 +1,15 @@
 -- Whole items that are built.
-use Rattle.std.proofs.Common.{◌≡◌, ℕ, true, false, List, Some, Ok, refl, subst, ◌∙◌, inl, inr}
-use Rattle.std.specs.Prelude.{is_some}
+use Rattle.std.proofs.Common.{◌≡◌, ℕ, true, false, List, Some, Ok, refl, subst, ◌∙◌, inl, inr, is_some}
 use Rattle.std.specs.declared.alloc.Global.{Global}
+use Rattle.sfv_spec.specs.{Events.item_events, Ordered.ordered_item}
 use Rattle.sfv_spec.proofs.Marks.{backslash, percent_sign, colon, is_space}
-use Rattle.sfv_spec.specs.Values.{RawItem}
-use Rattle.sfv_spec.specs.Events.{item_events}
-use Rattle.sfv_spec.specs.Ordered.{ordered_item}
-use Rattle.sfv_spec.specs.Statements.{IsParsedAs}
-use Rattle.sfv_spec.specs.declared.field_kind.FieldKind.TheVariants.{Item as item_field}
-use Rattle.sfv_spec.specs.declared.error_kind.ErrorKind.TheVariants.{TrailingCharactersAfterParsedValue}
-use Rattle.sfv_base.specs.declared.error.Error.{Error}
-use Rattle.sfv_base.specs.declared.error.ParseError.TheVariants.{Syntax}
-use Rattle.sfv_base.specs.Errors.{error_of}
-use Rattle.sfv_model.specs.Reader.{first, span}
-use Rattle.sfv_model.specs.Items.{item_at}
-use Rattle.sfv.specs.declared.parser.Parser.{Parser}
-use Rattle.sfv.specs.declared.parser.cursor.Cursor.{Cursor}
+use Rattle.sfv_model.{specs.Items.item_at, specs.Reader.{first, span}, proofs.Types.TrailingCharactersAfterParsedValue}
+use Rattle.sfv_base.specs.{Errors.error_of, declared.error.Error.Error, declared.error.ParseError.TheVariants.Syntax}
+use Rattle.sfv.specs.{Field.{RawItem, IsParsedAs, item_field, NeedsMemory, IsParseError}, Memory.HoldsMark}
+use Rattle.sfv.specs.declared.parser.{Parser.Parser, cursor.Cursor.Cursor}
 use Rattle.sfv.specs.parser.Cursor.{kept, kept_input, kept_version, version, rest, IsErrorOf, MayNeedMemory}
 use Rattle.sfv.specs.parser.Trees.{FailsAs}
-use Rattle.sfv.specs.Memory.{HoldsMark, NeedsMemory}
-use Rattle.sfv.specs.Parsers.{IsParseError}
-use Rattle.sfv.proofs.Parsed.{parsed, parse_error}
-use Rattle.sfv.proofs.reads.Errors.{kept_reads, ErrorOf-same}
+use Rattle.sfv.proofs.{Parsed.{parsed, parse_error}, reads.Errors.{kept_reads, ErrorOf-same}}
 use Rattle.sfv.proofs.visits.Whole.{field_error, field_trailing_error, field_done}
 
 marked : (t : List ℕ) → HoldsMark t → MayNeedMemory item_field t

@@ -1,16 +1,11 @@
 -- Parts that are built one by one, each after a delimiter: the items of inner lists, and members.
 use Rattle.std.proofs.Common.{◌≡◌, true, false, List, [], ◌∷◌, ◌++◌, map, Ok, sym, ap, subst, ◌∙◌}
-use Rattle.std.proofs.lemmas.List.{map-append}
-use Rattle.sfv_spec.specs.Values.{RawItem}
-use Rattle.sfv_spec.specs.Ordered.{ordered_item}
-use Rattle.std.specs.declared.alloc.Global.{Global}
-use Rattle.sfv_tree.specs.declared.hash_seed.HashSeed.{HashSeed}
+use Rattle.std.{specs.declared.alloc.Global.Global, proofs.lemmas.List.map-append}
+use Rattle.sfv_spec.specs.{Ordered.ordered_item, Values.RawItem}
 use Rattle.sfv_model.specs.Reader.{Answer}
-use Rattle.sfv.specs.declared.parser.Parser.{Parser}
-use Rattle.sfv.specs.declared.parser.cursor.Cursor.{Cursor}
-use Rattle.sfv.specs.parser.Cursor.{kept, version, rest}
+use Rattle.sfv.specs.{Types.HashSeed, declared.parser.Parser.Parser, declared.parser.cursor.Cursor.Cursor}
+use Rattle.sfv.specs.parser.{Cursor.{kept, version, rest}, Visits.Visits}
 use Rattle.sfv.proofs.trees.Errors.{Any, NoMemory, any_run}
-use Rattle.sfv.specs.parser.Visits.{Visits}
 use Rattle.sfv.proofs.visits.Loops.{Loop, VisitedSoFar, Wants, IsFirst, begun, begun_at, more as visited_more, more_at}
 use Rattle.sfv.proofs.visits.Loops.{ended}
 

@@ -1,72 +1,48 @@
 -- The results of parsing functions with a visitor that receives the events as read: by the parts of a reading.
 use Rattle.std.proofs.Common.{◌≡◌, ℕ, true, false, Bool, List, [], ◌∷◌, ◌++◌, Result, Ok, Err, Some, None, refl, sym}
-use Rattle.std.proofs.Common.{ap, subst, ◌∙◌, ◌<◌, ◌+◌, cond, append_assoc, flat_map, length, inl, inr}
-use Rattle.std.specs.Prelude.{OnOk, IfOk, IfErr, ⊤, map, is_some}
-use Rattle.std.proofs.lemmas.List.{append-nil}
-use Rattle.std.specs.List.{FoldsTo}
-use Rattle.std.specs.declared.alloc.Global.{Global}
-use Rattle.sfv_spec.proofs.Marks.{semicolon, equals_sign, left_parenthesis, is_space}
-use Rattle.sfv_spec.specs.Values.{boolean, RawField}
-use Rattle.sfv_spec.specs.declared.field_kind.FieldKind.{FieldKind}
-use Rattle.sfv_spec.specs.declared.field_kind.FieldKind.TheVariants.{Item as item_field}
-use Rattle.sfv_spec.specs.declared.version.Version.{Version}
+use Rattle.std.proofs.Common.{ap, subst, ◌∙◌, ◌<◌, ◌+◌, cond, append_assoc, flat_map, length, inl, inr, OnOk, IfOk}
+use Rattle.std.proofs.Common.{IfErr, map, is_some, append-nil}
+use Rattle.std.specs.{List.FoldsTo, Prelude.⊤, declared.alloc.Global.Global}
 use Rattle.sfv_spec.specs.Events.{TreeEvent, bare_item, parameters_end, begins_item, begins_inner_list, keyed_entry}
 use Rattle.sfv_spec.specs.Events.{inner_list_end, parameters_events, item_events, inner_item_events, member_events}
-use Rattle.sfv_spec.specs.Events.{keyed_events, events}
-use Rattle.sfv_spec.proofs.Structure.{one_field_lem}
-use Rattle.sfv_base.specs.declared.error.Error.{Error}
-use Rattle.sfv_spec.specs.declared.error_kind.ErrorKind.TheVariants.{UnterminatedInnerList}
-use Rattle.sfv_spec.specs.declared.error_kind.ErrorKind.TheVariants.{TrailingCharactersAfterParsedValue}
-use Rattle.sfv_base.specs.declared.error.ParseError.{ParseError}
-use Rattle.sfv_base.specs.declared.error.ParseError.TheVariants.{Syntax, Visitor}
-use Rattle.sfv_base.specs.Errors.{error_of}
-use Rattle.sfv_values.specs.KeyText.{KeyRef}
-use Rattle.sfv_values.specs.CheckedTexts.{text_of}
-use Rattle.sfv_values.specs.BareItems.{input_value}
-use Rattle.sfv_values.specs.declared.bare.GenericBareItem.TheVariants as bare
-use Rattle.sfv_tree.specs.declared.visitor.Event.{Event}
-use Rattle.sfv_tree.specs.declared.visitor.Event.TheVariants as event
-use Rattle.sfv_tree.specs.declared.visitor.Visitor.{Ghosts}
-use Rattle.sfv_tree.specs.Events.{event_of}
-use Rattle.sfv_tree.specs.ProvidedVisitors.{ReadBareItem}
-use Rattle.sfv_model.specs.Reader.{Answer, Reader, byte, first, led, span}
-use Rattle.sfv_model.specs.Bare.{bare_at}
+use Rattle.sfv_spec.specs.{Events.{keyed_events, events}, Values.{boolean, RawField}}
+use Rattle.sfv_spec.proofs.{Marks.{semicolon, equals_sign, left_parenthesis, is_space}, Structure.one_field_lem}
+use Rattle.sfv_model.specs.{Bare.bare_at, Fields.{members_at, read_field}}
 use Rattle.sfv_model.specs.Items.{key_at, parameter_at, parameters_at, item_at}
 use Rattle.sfv_model.specs.Members.{inner_items_at, inner_at, member_at, member_value_at, keyed_at}
-use Rattle.sfv_model.specs.Fields.{members_at}
-use Rattle.sfv_model.specs.Fields.{read_field}
-use Rattle.sfv_model.proofs.LongestBareItem.{bare_is_exact}
-use Rattle.sfv_model.proofs.sound.Combinators.{sound_at}
-use Rattle.sfv_model.proofs.sound.Items.{Sound-key}
-use Rattle.sfv_model.proofs.Theorems.{read_is_accepted}
-use Rattle.sfv.specs.declared.parser.Parser.{Parser}
-use Rattle.sfv.specs.declared.parser.cursor.Cursor.{Cursor}
-use Rattle.sfv.specs.declared.parser.item.ReadParameter.{ReadParameter}
+use Rattle.sfv_model.specs.Reader.{Answer, Reader, byte, first, led, span}
+use Rattle.sfv_model.proofs.{LongestBareItem.bare_is_exact, Theorems.read_is_accepted}
+use Rattle.sfv_model.proofs.Types.{UnterminatedInnerList, TrailingCharactersAfterParsedValue}
+use Rattle.sfv_model.proofs.sound.{Combinators.sound_at, Items.Sound-key}
+use Rattle.sfv_base.specs.{Errors.error_of, declared.error.ParseError.TheVariants.{Syntax, Visitor}}
+use Rattle.sfv_values.specs.{BareItems.input_value, CheckedTexts.text_of, KeyText.KeyRef}
+use Rattle.sfv_tree.specs.{Events.event_of, ProvidedVisitors.ReadBareItem}
+use Rattle.sfv_tree.specs.declared.visitor.{Event.Event, Visitor.Ghosts}
 use Rattle.sfv.specs.Parsers.{version_of, input_of, HasNoQuote, AreReadFrom, IsEventText, Receives, ReceivesAsReadBy}
+use Rattle.sfv.specs.Types.{FieldKind, item_field, Version, Error, ParseError}
+use Rattle.sfv.specs.declared.parser.{Parser.Parser, cursor.Cursor.Cursor, item.ReadParameter.ReadParameter}
 use Rattle.sfv.specs.parser.AsRead.{Passes, IsNextValue, IsNextParameter, IsNextEvent, TakesNext, FailsNext}
 use Rattle.sfv.specs.parser.AsRead.{VisitsAsRead, VisitsFieldAsRead}
 use Rattle.sfv.specs.parser.Cursor.{kept, kept_version, version, rest, input, ReadsOrOutOfMemory, TakesIf, IsErrorOf}
 use Rattle.sfv.specs.parser.Cursor.{IsFaultOf}
 use Rattle.sfv.specs.parser.Members.{after_begin, member_parts, one_member_at, field_of, MemberValue}
-use Rattle.sfv.specs.parser.Quoted.{IsBorrowedUnlessEscaped}
-use Rattle.sfv.specs.parser.Values.{read_pair}
+use Rattle.sfv.specs.parser.{Quoted.IsBorrowedUnlessEscaped, Values.read_pair}
 use Rattle.sfv.specs.parser.Visits.{Visits, VisitsAnswer, IsOfVisitor}
+use Rattle.sfv.proofs.{reads.Delimiters.at_end, visits.BorrowedBareItem.lent_front}
+use Rattle.sfv.proofs.visits.Fields.{item_fails, finish_failed, finished_at, took_whole, members_fail, members_finish}
 use Rattle.sfv.proofs.visits.InnerLists.{inner_list_visits, list_member_visits, item_member_visits, items_fail}
 use Rattle.sfv.proofs.visits.InnerLists.{end_fails, list_begin_fails, item_begin_fails}
 use Rattle.sfv.proofs.visits.Keyed.{value_visits, true_visits, keyed_visits, true_begin_fails, true_bare_fails}
 use Rattle.sfv.proofs.visits.Keyed.{key_fails, keyed_fails}
-use Rattle.sfv.proofs.visits.BorrowedBareItem.{lent_front}
 use Rattle.sfv.proofs.visits.Loops.{Loop, VisitedSoFar, Wants, IsFirst, begun, more, ended as loop_ended, all_events}
 use Rattle.sfv.proofs.visits.Loops.{first_fails, one_fails, delimiter_fails, shorter, members_loop, turn_shortens}
 use Rattle.sfv.proofs.visits.Parameters.{VisitedParameters, visited_none, visited_more, visited_error, end_visits}
 use Rattle.sfv.proofs.visits.Parameters.{parameter_failed, of_visitor, item_visits, bare_faulty, bare_failed}
 use Rattle.sfv.proofs.visits.Parts.{led_visits, led_fails, start_visits}
-use Rattle.sfv.proofs.visits.Taken.{no_items_visited}
-use Rattle.sfv.proofs.visits.Fields.{item_fails, finish_failed, finished_at, took_whole, members_fail, members_finish}
-use Rattle.sfv.proofs.visits.Whole.{field_done, field_trailing_error}
-use Rattle.sfv.proofs.reads.Delimiters.{at_end}
 use Rattle.sfv.proofs.visits.Passed.{Passing, passes, passes_none, passes_same, passes_then, passes_if, then_if}
-use Rattle.sfv.proofs.visits.Passed.{passes_spaces}
+use Rattle.sfv.proofs.visits.{Passed.passes_spaces, Taken.no_items_visited, Whole.{field_done, field_trailing_error}}
+use Rattle.sfv_values.specs.declared.bare.GenericBareItem.TheVariants as bare
+use Rattle.sfv_tree.specs.declared.visitor.Event.TheVariants as event
 
 -- ---- the text of a value
 

@@ -1,43 +1,31 @@
 -- The first events of items and members, whatever follows.
 use Rattle.std.proofs.Common.{◌≡◌, ℕ, ◌≤◌, eqb, true, false, List, [], ◌∷◌, ◌++◌, length, Some, None, Ok, Err, refl}
-use Rattle.std.proofs.Common.{sym, ap, subst, ◌∙◌, append_assoc, arith, inl, inr}
-use Rattle.std.proofs.lemmas.List.{append-nil, length-append}
-use Rattle.std.proofs.lemmas.Bool.{or_parts, and_parts, or_cases, eqb-true, not-true, true≢false, cases_Bool}
-use Rattle.std.specs.Prelude.{Bool, map, flat_map, ◌||◌, codes, not, ◌==◌}
-use Rattle.std.specs.List.{list_all}
+use Rattle.std.proofs.Common.{sym, ap, subst, ◌∙◌, append_assoc, arith, inl, inr, append-nil, length-append, eqb-true}
+use Rattle.std.proofs.Common.{true≢false, Bool, map, flat_map, ◌||◌, codes, not, ◌==◌}
+use Rattle.std.{specs.List.list_all, proofs.lemmas.Bool.{or_parts, and_parts, or_cases, not-true, cases_Bool}}
+use Rattle.sfv_spec.specs.{Classes.{is_key_inner, is_token_inner, is_one_of}, Events.{item_events, inner_item_events}}
+use Rattle.sfv_spec.specs.Grammar.{IsKeyText, IsValueText, IsEnded, IsItemText, IsMemberText, IsDictionaryMemberText}
+use Rattle.sfv_spec.{specs.Grammar.{IsParametersText, IsMemberValueText}, specs.Texts.RunOf, proofs.Bare.is_bare_start}
 use Rattle.sfv_spec.proofs.Marks.{space, tab, equals_sign, semicolon, left_parenthesis, right_parenthesis, true_with}
-use Rattle.sfv_spec.proofs.Marks.{is_space, is_space_or_tab}
-use Rattle.sfv_spec.proofs.Bare.{is_bare_start}
-use Rattle.sfv_spec.specs.Texts.{RunOf}
-use Rattle.sfv_spec.specs.Classes.{is_key_inner, is_token_inner, is_one_of}
-use Rattle.sfv_spec.specs.Values.{BareValue, boolean, RawParameters, RawItem, RawMember, RawInnerList, item, inner_list}
-use Rattle.sfv_spec.specs.declared.version.Version.{Version}
-use Rattle.sfv_spec.specs.Grammar.{IsKeyText, IsValueText, IsEnded, IsItemText}
-use Rattle.sfv_spec.proofs.Marks.{IsParameterText}
-use Rattle.sfv_spec.specs.Grammar.{IsMemberText, IsDictionaryMemberText, IsParametersText, IsMemberValueText}
-use Rattle.sfv_spec.specs.Events.{TreeEvent, entry, keyed_entry, begins_item, begins_inner_list, bare_item, parameter}
-use Rattle.sfv_spec.specs.Events.{parameters_end, inner_list_end, parameters_events, item_events, inner_item_events}
-use Rattle.sfv_spec.specs.Events.{member_events, entry_events, keyed_events}
-use Rattle.sfv_spec.proofs.Settled.{joining-nil, joining-cons}
-use Rattle.sfv_model.specs.Reader.{Answer, Apart, visited, and_then, give, ◌>>=◌, bind, led, led_answer, many}
-use Rattle.sfv_model.specs.Reader.{branch, go_on}
+use Rattle.sfv_spec.proofs.{Marks.{is_space, is_space_or_tab, IsParameterText}, Settled.{joining-nil, joining-cons}}
 use Rattle.sfv_model.specs.Items.{value_at, parameter_at, parameter_event, parameters_at, item_of, item_at}
 use Rattle.sfv_model.specs.Members.{inner_item_at, next_item_at, inner_items_at, inner_at, inner_of, closed_events}
 use Rattle.sfv_model.specs.Members.{member_at, entry_at, member_value_at, keyed_at}
-use Rattle.sfv_model.proofs.sound.Combinators.{Begins, begins_after, begins_longer, run_head, run_tail}
-use Rattle.sfv_model.proofs.sound.Items.{Consumes-parameter}
-use Rattle.sfv_model.proofs.sound.Many.{many_is, many_complete}
-use Rattle.sfv_model.proofs.sound.Members.{IsClosed, IsNextItem, IsItems, Consumes-next_item}
+use Rattle.sfv_model.specs.Reader.{Answer, Apart, visited, and_then, give, ◌>>=◌, bind, led, led_answer, many, branch}
+use Rattle.sfv_model.{specs.Reader.go_on, proofs.complete.Bare.bare_complete}
 use Rattle.sfv_model.proofs.complete.Combinators.{Apart-nil, Apart-cons, Apart-part, branch_past, branch_take}
 use Rattle.sfv_model.proofs.complete.Combinators.{ahead_any, bind_complete, led_complete, span_complete}
-use Rattle.sfv_model.proofs.complete.Bare.{bare_complete}
 use Rattle.sfv_model.proofs.complete.Items.{lengthens, lengthens_item, key_complete, item_no, item_begun, begun_some}
 use Rattle.sfv_model.proofs.complete.Items.{key_apart, equals_apart, space_ends}
-use Rattle.sfv_model.proofs.texts.Joining.{joining_none}
 use Rattle.sfv_model.proofs.complete.Members.{inner_item_complete, next_item_complete, inner_parts, keyed_fresh}
-use Rattle.sfv_model.proofs.visits.EventsBeforeRuleAlike.{begins_all}
-use Rattle.sfv.proofs.visits.Chained.{put_events}
-use Rattle.sfv.specs.Parsers.{first_event}
+use Rattle.sfv_model.proofs.sound.Combinators.{Begins, begins_after, begins_longer, run_head, run_tail}
+use Rattle.sfv_model.proofs.sound.{Items.Consumes-parameter, Many.{many_is, many_complete}}
+use Rattle.sfv_model.proofs.sound.Members.{IsClosed, IsNextItem, IsItems, Consumes-next_item}
+use Rattle.sfv_model.proofs.{texts.Joining.joining_none, visits.EventsBeforeRuleAlike.begins_all}
+use Rattle.sfv.specs.Field.{BareValue, boolean, RawParameters, RawItem, RawMember, RawInnerList, item, inner_list}
+use Rattle.sfv.specs.Field.{Version, TreeEvent, entry, keyed_entry, begins_item, begins_inner_list, bare_item}
+use Rattle.sfv.specs.Field.{parameter, parameters_end, inner_list_end, parameters_events, member_events, entry_events}
+use Rattle.sfv.{specs.Field.keyed_events, specs.Parsers.first_event, proofs.visits.Chained.put_events}
 
 pub no_space : (q : List ℕ) → Apart is_space_or_tab q → Apart is_space q
 no_space q h = record { apart = λ c e. (or_parts (is_space c) (eqb c tab) (h.apart c e)).0 }

@@ -1,36 +1,20 @@
 -- The text of a bare item that a visitor received as it was parsed.
 use Rattle.std.proofs.Common.{◌≡◌, ℕ, List, [], ◌∷◌, ◌++◌, map, drop, Ok, refl, sym, ap, subst, ◌∙◌, append_assoc, Bool}
-use Rattle.std.proofs.Common.{inl, inr}
-use Rattle.std.specs.Prelude.{not, ◌==◌}
-use Rattle.std.specs.Cow.{cow_str_bytes}
-use Rattle.std.proofs.lemmas.List.{append_cancel_right}
-use Rattle.std.specs.List.{FoldsTo}
-use Rattle.sfv_spec.specs.Ascii.{byte}
+use Rattle.std.proofs.Common.{inl, inr, not, ◌==◌}
+use Rattle.std.{specs.Cow.cow_str_bytes, specs.List.FoldsTo, proofs.lemmas.List.append_cancel_right}
+use Rattle.sfv_spec.specs.{Ascii.byte, Events.item_events, Grammar.{IsBareText, BeginsWithLongest}, Texts.RunOf}
 use Rattle.sfv_spec.proofs.Marks.{double_quote, percent_sign, is_space}
-use Rattle.sfv_spec.specs.Texts.{RunOf}
-use Rattle.sfv_spec.specs.Values.{BareValue, RawItem}
-use Rattle.sfv_spec.specs.Grammar.{IsBareText, IsFieldText, BeginsWithLongest}
-use Rattle.sfv_spec.specs.declared.field_kind.FieldKind.TheVariants.{Item as item_field}
-use Rattle.sfv_spec.specs.declared.version.Version.{Version}
-use Rattle.sfv_spec.specs.Events.{TreeEvent, bare_item, parameters_events, item_events, events}
-use Rattle.sfv_values.specs.BareItems.{input_value, read_text}
-use Rattle.sfv_values.specs.declared.bare.GenericBareItem.TheVariants as bare
-use Rattle.sfv_tree.specs.declared.visitor.Event.{Event}
-use Rattle.sfv_tree.specs.declared.visitor.Event.TheVariants as event
-use Rattle.sfv_tree.specs.Events.{event_of}
-use Rattle.sfv_tree.specs.ProvidedVisitors.{ReadBareItem}
-use Rattle.sfv_model.specs.Reader.{Answer, Apart, span, visited}
-use Rattle.sfv_model.specs.Quoted.{string_at, display_at}
-use Rattle.sfv_model.proofs.complete.Combinators.{span_complete, Apart-cons}
+use Rattle.sfv_model.specs.{Quoted.{string_at, display_at}, Reader.{Answer, Apart, span, visited}}
+use Rattle.sfv_model.proofs.{Types.{item_field, Version}, complete.Combinators.{span_complete, Apart-cons}}
 use Rattle.sfv_model.proofs.complete.Quoted.{string_complete, display_complete}
-use Rattle.sfv.specs.declared.parser.cursor.Cursor.{Cursor}
-use Rattle.sfv.specs.parser.Cursor.{rest}
-use Rattle.sfv.specs.parser.Quoted.{IsBorrowedUnlessEscaped}
-use Rattle.sfv.specs.Parsers.{HasNoQuote, IsBorrowedIfPlain, IsReadAs, AreReadFrom}
+use Rattle.sfv_tree.specs.{Events.event_of, ProvidedVisitors.ReadBareItem, declared.visitor.Event.Event}
+use Rattle.sfv.specs.Field.{BareValue, RawItem, IsFieldText, TreeEvent, bare_item, parameters_events, events}
+use Rattle.sfv.specs.{Field.{input_value, read_text}, Parsers.{HasNoQuote, IsBorrowedIfPlain, IsReadAs, AreReadFrom}}
+use Rattle.sfv.specs.{declared.parser.cursor.Cursor.Cursor, parser.Cursor.rest, parser.Quoted.IsBorrowedUnlessEscaped}
 use Rattle.sfv.proofs.Relations.{folded, HasBorrowed, HasEventsRead}
-use Rattle.sfv.proofs.visits.Fields.{whole_accepted}
-use Rattle.sfv.proofs.visits.First.{visited_first, same_rest}
-use Rattle.sfv.proofs.visits.Passed.{run_apart, both_apart}
+use Rattle.sfv.proofs.visits.{Fields.whole_accepted, First.{visited_first, same_rest}, Passed.{run_apart, both_apart}}
+use Rattle.sfv_values.specs.declared.bare.GenericBareItem.TheVariants as bare
+use Rattle.sfv_tree.specs.declared.visitor.Event.TheVariants as event
 
 abbrev no_quote_byte : ℕ → Bool
 no_quote_byte c = not (c == byte "\"")

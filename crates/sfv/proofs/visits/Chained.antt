@@ -1,18 +1,12 @@
 -- Values with separators: the events of complete values, and the first events of the next one.
 use Rattle.std.proofs.Common.{◌≡◌, ℕ, List, [], ◌∷◌, ◌++◌, Option, Some, Ok, Err, refl, sym, ap, subst, ◌∙◌}
-use Rattle.std.proofs.Common.{append_assoc}
-use Rattle.std.proofs.lemmas.List.{append-nil}
-use Rattle.std.specs.Prelude.{flat_map}
-use Rattle.sfv_spec.specs.Texts.{◌⨾◌, IsJoining, IsSeparated}
-use Rattle.sfv_spec.specs.Events.{TreeEvent}
+use Rattle.std.proofs.Common.{append_assoc, append-nil, flat_map}
+use Rattle.sfv_spec.specs.{Events.TreeEvent, Texts.{◌⨾◌, IsJoining, IsSeparated}}
 use Rattle.sfv_spec.proofs.Settled.{joining-nil, joining-cons}
 use Rattle.sfv_model.specs.Reader.{Answer, Reader, Apart, visited, and_then, give, ◌>>=◌, bind, led, led_answer, many}
-use Rattle.sfv_model.specs.Reader.{go_on, one_and_more}
-use Rattle.sfv_model.proofs.sound.Combinators.{Begins, begins_after}
-use Rattle.sfv_model.proofs.sound.Many.{Consumes, many_is}
-use Rattle.sfv_model.proofs.complete.Combinators.{bind_complete}
-use Rattle.sfv_model.proofs.complete.Items.{lengthens_item}
-use Rattle.sfv_model.proofs.texts.Joining.{joining_none, joining_into, in_turn}
+use Rattle.sfv_model.{specs.Reader.{go_on, one_and_more}, proofs.complete.Combinators.bind_complete}
+use Rattle.sfv_model.proofs.{complete.Items.lengthens_item, sound.Combinators.{Begins, begins_after}}
+use Rattle.sfv_model.proofs.{sound.Many.{Consumes, many_is}, texts.Joining.{joining_none, joining_into, in_turn}}
 
 pub put_events : {A : Type 0} (parts : A → List TreeEvent) (m : A) (a : Answer (List A))
     → visited (λ ms. flat_map parts ms) (led_answer (parts m) (and_then a (λ vs. give (m ∷ vs))))

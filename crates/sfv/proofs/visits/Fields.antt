@@ -1,55 +1,32 @@
 -- What is visited of a whole field.
 use Rattle.std.proofs.Common.{◌≡◌, ℕ, ◌≤◌, List, [], ◌∷◌, ◌++◌, length, take, drop, Option, Some, None, Result, Ok, Err}
-use Rattle.std.proofs.Common.{refl, sym, ap, subst, ◌∙◌, append_assoc, inl, inr}
-use Rattle.std.proofs.lemmas.List.{append_cancel_right, take-append-drop}
-use Rattle.std.specs.Prelude.{⊤, Bool, true, false, MatchOption, IfOk, IfErr, flat_map, ◌⊎◌, codes}
-use Rattle.std.specs.declared.alloc.Global.{Global}
-use Rattle.sfv_spec.proofs.Marks.{is_space}
-use Rattle.sfv_spec.specs.Values.{RawField, RawItem, IsFieldValue}
-use Rattle.sfv_spec.specs.declared.field_kind.FieldKind.{FieldKind}
-use Rattle.sfv_spec.specs.declared.field_kind.FieldKind.TheVariants.{Item as item_field, List as list_field}
-use Rattle.sfv_spec.specs.declared.field_kind.FieldKind.TheVariants.{Dictionary as dictionary_field}
-use Rattle.sfv_spec.specs.declared.version.Version.{Version}
-use Rattle.sfv_spec.specs.declared.error_kind.ErrorKind.{ErrorKind}
-use Rattle.sfv_spec.specs.declared.error_kind.ErrorKind.TheVariants.{TrailingCharactersAfterParsedValue}
-use Rattle.sfv_spec.specs.Grammar.{IsFieldText, IsAccepted, HasField}
-use Rattle.sfv_spec.specs.Reach.{IsReach}
+use Rattle.std.proofs.Common.{refl, sym, ap, subst, ◌∙◌, append_assoc, inl, inr, take-append-drop, Bool, true, false}
+use Rattle.std.{proofs.Common.{MatchOption, IfOk, IfErr, flat_map, ◌⊎◌, codes}, specs.List.FoldsTo}
+use Rattle.std.{specs.Prelude.⊤, specs.declared.alloc.Global.Global, proofs.lemmas.List.append_cancel_right}
 use Rattle.sfv_spec.specs.Events.{TreeEvent, events, item_events}
-use Rattle.std.specs.List.{FoldsTo}
-use Rattle.sfv_spec.proofs.Valid.{accepted_is_value_lem}
-use Rattle.sfv_spec.proofs.Structure.{one_field_lem}
-use Rattle.sfv_spec.proofs.Versions.{one_reach_lem}
-use Rattle.sfv_base.specs.declared.error.Error.{Error}
-use Rattle.sfv_base.specs.Errors.{error_of, kind_of, index_of, out_of_memory}
-use Rattle.sfv_base.specs.declared.error.ParseError.{ParseError}
-use Rattle.sfv_base.specs.declared.error.ParseError.TheVariants.{Syntax, Visitor}
-use Rattle.sfv_model.specs.Reader.{Answer, Fault, and_then, bind, give, span, visited, ◌>>=◌}
-use Rattle.sfv_model.specs.Items.{item_at}
-use Rattle.sfv_model.specs.Fields.{members_at, whole_field_at, ending, read_field}
-use Rattle.sfv_model.specs.Judgements.{Reached}
-use Rattle.sfv_model.specs.Visits.{VisitorFails}
-use Rattle.sfv_model.proofs.complete.Combinators.{bind_complete}
-use Rattle.sfv_model.proofs.sound.Combinators.{Somewhere, Begins}
-use Rattle.sfv_model.proofs.sound.Fields.{FieldGoes, Sound-field}
-use Rattle.sfv_model.proofs.Theorems.{read_is_accepted, fault_is_placed}
-use Rattle.sfv_model.proofs.TrailingBytes.{read_before}
+use Rattle.sfv_spec.specs.{Faults.IsWantedAt, Grammar.{IsFieldText, IsAccepted, HasField}, Reach.IsReach}
+use Rattle.sfv_spec.{specs.Values.{RawField, RawItem, IsFieldValue}, proofs.Marks.is_space}
+use Rattle.sfv_spec.proofs.{Structure.one_field_lem, Valid.accepted_is_value_lem, Versions.one_reach_lem}
+use Rattle.sfv_model.specs.{Fields.{members_at, whole_field_at, ending, read_field}, Items.item_at, Judgements.Reached}
+use Rattle.sfv_model.specs.{Reader.{Answer, Fault, and_then, bind, give, span, visited, ◌>>=◌}, Visits.VisitorFails}
+use Rattle.sfv_model.proofs.{Theorems.{read_is_accepted, fault_is_placed}, TrailingBytes.read_before}
+use Rattle.sfv_model.proofs.Types.{FieldKind, item_field, list_field, dictionary_field, Version, ErrorKind}
+use Rattle.sfv_model.proofs.{Types.TrailingCharactersAfterParsedValue, complete.Combinators.bind_complete}
+use Rattle.sfv_model.proofs.sound.{Combinators.{Somewhere, Begins}, Fields.{FieldGoes, Sound-field}}
 use Rattle.sfv_model.proofs.visits.EventsExpected.{expected_events, delimited_events}
-use Rattle.sfv.specs.declared.parser.Parser.{Parser}
-use Rattle.sfv.specs.declared.parser.cursor.Cursor.{Cursor}
+use Rattle.sfv_base.specs.Errors.{error_of, kind_of, index_of, out_of_memory}
+use Rattle.sfv_base.specs.declared.error.{Error.Error, ParseError.ParseError, ParseError.TheVariants.{Syntax, Visitor}}
+use Rattle.sfv_tree.specs.declared.visitor.Visitor.{Ghosts}
+use Rattle.sfv.specs.Memory.{IsRefusal}
+use Rattle.sfv.specs.Parsers.{version_of, input_of, IsParseError, Returns, IsAnswerBy, IsSyntaxErrorBy, HasEvents}
+use Rattle.sfv.specs.Parsers.{AreBefore, Takes, ReceivesUpTo, ReceivesBeforeErrorBy}
+use Rattle.sfv.specs.declared.parser.{Parser.Parser, cursor.Cursor.Cursor}
 use Rattle.sfv.specs.parser.Cursor.{kept_input, located, IsErrorOf, located_whole}
 use Rattle.sfv.specs.parser.Members.{MemberValue, member_parts, one_member_at, field_of}
-use Rattle.sfv_tree.specs.declared.visitor.Visitor.{Ghosts}
 use Rattle.sfv.specs.parser.Visits.{VisitsAnswer, IsOfVisitor, VisitsField, IsFinishedAt, IsAskedThere, ReturnsAfter}
-use Rattle.sfv.specs.parser.Visits.{TookAllOf, TookAll}
-use Rattle.sfv.specs.Parsers.{version_of, input_of, IsParseError, Returns, IsAnswerBy, IsSyntaxErrorBy}
-use Rattle.sfv_spec.specs.Faults.{IsWantedAt}
-use Rattle.sfv.specs.Parsers.{HasEvents, AreBefore, Takes, ReceivesUpTo, ReceivesBeforeErrorBy}
-use Rattle.sfv.proofs.visits.Whole.{spaced, field_error, ending_located}
-use Rattle.sfv.proofs.Parsed.{located_fault, parse_error}
-use Rattle.sfv.proofs.reads.Delimiters.{span_total}
-use Rattle.sfv.proofs.visits.Taken.{split_run}
-use Rattle.sfv.proofs.visits.Received.{visited_whole, visited_open_list, visited_begun}
-use Rattle.sfv.specs.Memory.{IsRefusal}
+use Rattle.sfv.{specs.parser.Visits.{TookAllOf, TookAll}, proofs.Parsed.{located_fault, parse_error}}
+use Rattle.sfv.proofs.{reads.Delimiters.span_total, visits.Received.{visited_whole, visited_open_list, visited_begun}}
+use Rattle.sfv.proofs.visits.{Taken.split_run, Whole.{spaced, field_error, ending_located}}
 
 whole_is : (version : Version) (t s r : List ℕ) → span is_space t ≡ Ok (s, r)
     → whole_field_at version item_field t ≡ spaced version r

@@ -1,30 +1,19 @@
 -- An inner list and its parameters, and how they are visited.
 use Rattle.std.proofs.Common.{◌≡◌, ℕ, true, false, List, [], ◌∷◌, ◌++◌, Ok, Err, refl, sym, ap, subst, ◌∙◌}
-use Rattle.std.proofs.Common.{append_assoc, flat_map}
-use Rattle.std.specs.Prelude.{Result}
-use Rattle.std.specs.declared.alloc.Global.{Global}
-use Rattle.sfv_spec.proofs.Marks.{left_parenthesis}
-use Rattle.sfv_spec.specs.Values.{RawParameters, RawItem, RawMember, item, inner_list}
-use Rattle.sfv_spec.specs.declared.version.Version.{Version}
-use Rattle.sfv_spec.specs.Events.{TreeEvent, begins_item, begins_inner_list, inner_list_end, parameters_events}
-use Rattle.sfv_spec.specs.Events.{item_events, member_events, inner_item_events}
-use Rattle.std.specs.List.{FoldsTo}
-use Rattle.sfv_base.specs.declared.error.ParseError.{ParseError}
-use Rattle.sfv_base.specs.declared.error.ParseError.TheVariants.{Syntax, Visitor}
-use Rattle.sfv_model.specs.Reader.{Answer, Reader, byte, led_answer, led, give, and_then, bind, ◌>>=◌}
+use Rattle.std.{proofs.Common.{append_assoc, flat_map, Result}, specs.List.FoldsTo, specs.declared.alloc.Global.Global}
+use Rattle.sfv_spec.{specs.Events.{item_events, inner_item_events}, proofs.Marks.left_parenthesis}
 use Rattle.sfv_model.specs.Items.{parameters_at, item_at}
 use Rattle.sfv_model.specs.Members.{inner_items_at, inner_of, closed_events, inner_at, member_at}
+use Rattle.sfv_model.specs.Reader.{Answer, Reader, byte, led_answer, led, give, and_then, bind, ◌>>=◌}
 use Rattle.sfv_model.specs.Visits.{VisitorFails}
-use Rattle.sfv.specs.declared.parser.Parser.{Parser}
-use Rattle.sfv.specs.declared.parser.cursor.Cursor.{Cursor}
-use Rattle.sfv.specs.parser.Cursor.{TakesIf, kept_input}
-use Rattle.sfv.specs.parser.Members.{after_begin}
-use Rattle.sfv.specs.parser.Visits.{VisitsAnswer, IsOfVisitor}
-use Rattle.sfv.proofs.reads.Steps.{branch_true, branch_false}
-use Rattle.sfv.proofs.visits.Taken.{runs_on, took_part}
-use Rattle.sfv.proofs.visits.Parameters.{of_visitor}
+use Rattle.sfv_base.specs.declared.error.ParseError.{ParseError, TheVariants.{Syntax, Visitor}}
+use Rattle.sfv.specs.Field.{RawParameters, RawItem, RawMember, item, inner_list, Version, TreeEvent, begins_item}
+use Rattle.sfv.specs.Field.{begins_inner_list, inner_list_end, parameters_events, member_events}
+use Rattle.sfv.specs.declared.parser.{Parser.Parser, cursor.Cursor.Cursor}
+use Rattle.sfv.specs.parser.{Cursor.{TakesIf, kept_input}, Members.after_begin, Visits.{VisitsAnswer, IsOfVisitor}}
+use Rattle.sfv.proofs.{reads.Steps.{branch_true, branch_false}, visits.Parameters.of_visitor}
 use Rattle.sfv.proofs.visits.Parts.{visits_as, map_visits, then_visits, first_failed, failed_longer, failed_after}
-use Rattle.sfv.proofs.visits.Parts.{led_visits, led_fails}
+use Rattle.sfv.proofs.visits.{Parts.{led_visits, led_fails}, Taken.{runs_on, took_part}}
 
 -- the parameters after the items
 list_parameters : RawMember → List TreeEvent

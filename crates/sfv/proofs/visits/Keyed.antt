@@ -1,26 +1,18 @@
 -- A member of a dictionary, and how it is visited.
-use Rattle.std.proofs.Common.{◌≡◌, ℕ, true, false, List, [], ◌∷◌, ◌++◌, Ok, Err, refl, sym, ap, ◌∙◌}
-use Rattle.std.specs.Prelude.{Result}
+use Rattle.std.proofs.Common.{◌≡◌, ℕ, true, false, List, [], ◌∷◌, ◌++◌, Ok, Err, refl, sym, ap, ◌∙◌, Result}
 use Rattle.std.specs.declared.alloc.Global.{Global}
-use Rattle.sfv_spec.proofs.Marks.{equals_sign, true_with}
-use Rattle.sfv_spec.specs.Values.{boolean, RawParameters, RawMember}
-use Rattle.sfv_spec.specs.declared.version.Version.{Version}
 use Rattle.sfv_spec.specs.Events.{TreeEvent, keyed_entry, begins_item, bare_item, parameters_events, member_events}
-use Rattle.sfv_spec.specs.Events.{keyed_events}
-use Rattle.sfv_base.specs.declared.error.Error.{Error}
-use Rattle.sfv_base.specs.declared.error.ParseError.{ParseError}
+use Rattle.sfv_spec.specs.{Events.keyed_events, Values.{boolean, RawParameters, RawMember}}
+use Rattle.sfv_spec.proofs.Marks.{equals_sign, true_with}
+use Rattle.sfv_model.specs.{Items.{key_at, parameters_at}, Members.{member_at, member_value_at, keyed_at}}
 use Rattle.sfv_model.specs.Reader.{Answer, Reader, byte, visited, led_answer, led, give, and_then, bind, ◌>>=◌}
-use Rattle.sfv_model.specs.Items.{key_at, parameters_at}
-use Rattle.sfv_model.specs.Members.{member_at, member_value_at, keyed_at}
 use Rattle.sfv_model.proofs.visits.Parts.{visited_then}
-use Rattle.sfv.specs.declared.parser.Parser.{Parser}
-use Rattle.sfv.specs.declared.parser.cursor.Cursor.{Cursor}
-use Rattle.sfv.specs.parser.Cursor.{TakesIf, kept_input, IsErrorOf}
-use Rattle.sfv.specs.parser.Visits.{VisitsAnswer, TookAll, IsOfVisitor}
+use Rattle.sfv.specs.Types.{Version, Error, ParseError}
+use Rattle.sfv.specs.declared.parser.{Parser.Parser, cursor.Cursor.Cursor}
+use Rattle.sfv.specs.parser.{Cursor.{TakesIf, kept_input, IsErrorOf}, Visits.{VisitsAnswer, TookAll, IsOfVisitor}}
 use Rattle.sfv.proofs.reads.Steps.{branch_true, branch_false}
+use Rattle.sfv.proofs.visits.{Parameters.of_visitor, Parts.{visits_as, map_visits, then_visits, led_visits, led_fails}}
 use Rattle.sfv.proofs.visits.Taken.{took_part, took_none, key_quiet}
-use Rattle.sfv.proofs.visits.Parameters.{of_visitor}
-use Rattle.sfv.proofs.visits.Parts.{visits_as, map_visits, then_visits, led_visits, led_fails}
 
 -- the pair of a key and what stands after it
 abbrev pair_at : Version → List ℕ → Reader (List ℕ × RawMember)

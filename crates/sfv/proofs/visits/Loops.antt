@@ -1,39 +1,26 @@
 -- Readings one by one, each after a delimiter: the loops of inner lists and of members.
 use Rattle.std.proofs.Common.{◌≡◌, ℕ, ◌<◌, Bool, true, false, List, [], ◌∷◌, ◌++◌, length, Option, Some, None, Ok, Err}
-use Rattle.std.proofs.Common.{refl, sym, ap, subst, ◌∙◌, ◌≤◌, ◌+◌, cond, arith, length-append}
-use Rattle.std.specs.Prelude.{flat_map}
-use Rattle.std.specs.declared.alloc.Global.{Global}
-use Rattle.std.proofs.lemmas.List.{append-nil}
-use Rattle.std.proofs.lemmas.List.Concat.{flat_map-append}
-use Rattle.sfv_spec.specs.Values.{RawItem}
-use Rattle.sfv_spec.specs.declared.version.Version.{Version}
-use Rattle.sfv_spec.specs.Grammar.{IsMemberText, IsDictionaryMemberText}
-use Rattle.sfv_spec.specs.Events.{TreeEvent, inner_item_events, entry_events, keyed_events}
-use Rattle.std.specs.List.{FoldsTo}
-use Rattle.sfv_base.specs.declared.error.Error.{Error}
-use Rattle.sfv_model.specs.Reader.{Answer, Reader, Fault, after_events, visited, and_then, bind, give, led, many, ◌>>=◌}
+use Rattle.std.proofs.Common.{refl, sym, ap, subst, ◌∙◌, ◌≤◌, ◌+◌, cond, arith, length-append, flat_map, append-nil}
+use Rattle.std.{specs.List.FoldsTo, specs.declared.alloc.Global.Global, proofs.lemmas.List.Concat.flat_map-append}
+use Rattle.sfv_spec.specs.{Events.inner_item_events, Grammar.{IsMemberText, IsDictionaryMemberText}}
+use Rattle.sfv_model.specs.{Fields.next_at, Judgements.{Sound, Reached}}
 use Rattle.sfv_model.specs.Members.{inner_item_at, next_item_at, entry_at, keyed_at}
-use Rattle.sfv_model.specs.Fields.{next_at}
+use Rattle.sfv_model.specs.Reader.{Answer, Reader, Fault, after_events, visited, and_then, bind, give, led, many, ◌>>=◌}
 use Rattle.sfv_model.specs.Visits.{VisitorFails}
-use Rattle.sfv_model.proofs.sound.Members.{Consumes-next_item, Sound-entry, Sound-keyed}
-use Rattle.sfv_model.proofs.sound.Separated.{Consumes-next}
-use Rattle.sfv_model.proofs.sound.Combinators.{Sound-give}
-use Rattle.sfv_model.specs.Judgements.{Sound, Reached}
+use Rattle.sfv_model.proofs.{complete.Combinators.bind_complete, sound.Combinators.Sound-give}
 use Rattle.sfv_model.proofs.sound.Many.{Consumes, put, in_front, starts, regroup, many_is, goes_on, is_done, is_faulty}
+use Rattle.sfv_model.proofs.sound.{Members.{Consumes-next_item, Sound-entry, Sound-keyed}, Separated.Consumes-next}
 use Rattle.sfv_model.proofs.visits.Parts.{failed_within}
-use Rattle.sfv_model.proofs.complete.Combinators.{bind_complete}
-use Rattle.sfv_base.specs.declared.error.ParseError.{ParseError}
-use Rattle.sfv_base.specs.declared.error.ParseError.TheVariants.{Syntax, Visitor}
-use Rattle.sfv.specs.declared.parser.Parser.{Parser}
-use Rattle.sfv.specs.declared.parser.cursor.Cursor.{Cursor}
+use Rattle.sfv_base.specs.declared.error.{Error.Error, ParseError.ParseError, ParseError.TheVariants.{Syntax, Visitor}}
+use Rattle.sfv.specs.Field.{RawItem, Version, TreeEvent, entry_events, keyed_events}
+use Rattle.sfv.specs.declared.parser.{Parser.Parser, cursor.Cursor.Cursor}
 use Rattle.sfv.specs.parser.Cursor.{kept, kept_input, version, input, rest, IsFaultOf, IsErrorOf}
 use Rattle.sfv.specs.parser.Members.{item_delimiter_at, member_delimiter_at, MemberValue, member_parts, one_member_at}
 use Rattle.sfv.specs.parser.Visits.{VisitsAnswer, Visits, TookAll}
-use Rattle.sfv.proofs.reads.Errors.{ErrorOf-fault, kept_reads}
+use Rattle.sfv.proofs.reads.Delimiters.{one_if, first_of, next_item_is, next_member_is}
+use Rattle.sfv.proofs.{reads.Errors.{ErrorOf-fault, kept_reads}, visits.Parts.{kept_visits, first_failed}}
 use Rattle.sfv.proofs.visits.Taken.{runs_on, took_after, took_part, took_none, IsQuiet, item_delimiter_quiet}
 use Rattle.sfv.proofs.visits.Taken.{member_delimiter_quiet}
-use Rattle.sfv.proofs.reads.Delimiters.{one_if, first_of, next_item_is, next_member_is}
-use Rattle.sfv.proofs.visits.Parts.{kept_visits, first_failed}
 
 -- the values of a front, and then what is read
 visited_in_front : {A : Type 0} (parts : A → List TreeEvent) (front : List A) (a : Answer (List A))

@@ -1,30 +1,19 @@
 -- The loop over parameters: the visitor has taken those that were read.
 use Rattle.std.proofs.Common.{◌≡◌, ℕ, List, [], ◌∷◌, ◌++◌, Some, None, Result, Ok, Err, refl, sym, ap, subst, ◌∙◌}
-use Rattle.std.proofs.Common.{append_assoc}
-use Rattle.std.specs.Prelude.{OnOk, IfErr, map, flat_map}
-use Rattle.std.specs.declared.alloc.Global.{Global}
-use Rattle.std.proofs.lemmas.List.{map-append}
-use Rattle.sfv_spec.specs.Values.{BareValue, RawParameters, RawItem}
-use Rattle.sfv_spec.specs.declared.version.Version.{Version}
+use Rattle.std.proofs.Common.{append_assoc, OnOk, IfErr, map, flat_map}
+use Rattle.std.{specs.List.FoldsTo, specs.declared.alloc.Global.Global, proofs.lemmas.List.map-append}
 use Rattle.sfv_spec.specs.Events.{TreeEvent, parameter, parameters_end, parameters_events, bare_item, item_events}
-use Rattle.std.specs.List.{FoldsTo}
-use Rattle.sfv_base.specs.declared.error.Error.{Error}
+use Rattle.sfv_spec.specs.{Values.{BareValue, RawParameters, RawItem}, declared.version.Version.Version}
+use Rattle.sfv_model.specs.{Bare.bare_at, Items.{parameter_event, parameter_at, parameters_at, item_at, item_of}}
 use Rattle.sfv_model.specs.Reader.{Answer, Fault, after_events, visited, and_then, bind, give, led, led_answer, ◌>>=◌}
-use Rattle.sfv_model.proofs.complete.Combinators.{bind_complete}
-use Rattle.sfv_model.specs.Bare.{bare_at}
-use Rattle.sfv_model.specs.Items.{parameter_event, parameter_at, parameters_at, item_at, item_of}
 use Rattle.sfv_model.specs.Visits.{VisitorFails}
-use Rattle.sfv_model.proofs.sound.Many.{in_front, starts, goes_on, is_done, is_faulty}
-use Rattle.sfv_model.proofs.sound.Items.{Consumes-parameter}
-use Rattle.sfv_model.proofs.visits.Parts.{visited_then}
-use Rattle.sfv_base.specs.declared.error.ParseError.{ParseError}
-use Rattle.sfv_base.specs.declared.error.ParseError.TheVariants.{Syntax, Visitor}
-use Rattle.sfv.specs.declared.parser.Parser.{Parser}
-use Rattle.sfv.specs.declared.parser.cursor.Cursor.{Cursor}
+use Rattle.sfv_model.proofs.{complete.Combinators.bind_complete, sound.Items.Consumes-parameter}
+use Rattle.sfv_model.proofs.{sound.Many.{in_front, starts, goes_on, is_done, is_faulty}, visits.Parts.visited_then}
+use Rattle.sfv_base.specs.declared.error.{Error.Error, ParseError.ParseError, ParseError.TheVariants.{Syntax, Visitor}}
+use Rattle.sfv.specs.declared.parser.{Parser.Parser, cursor.Cursor.Cursor}
 use Rattle.sfv.specs.parser.Cursor.{kept, kept_input, kept_version, rest, IsErrorOf}
-use Rattle.sfv.specs.parser.Visits.{VisitsAnswer, TookAll, IsOfVisitor}
+use Rattle.sfv.{specs.parser.Visits.{VisitsAnswer, TookAll, IsOfVisitor}, proofs.reads.Steps.item_some}
 use Rattle.sfv.proofs.visits.Taken.{runs_on, took_after, took_part, took_none, bare_quiet, parameter_quiet}
-use Rattle.sfv.proofs.reads.Steps.{item_some}
 
 -- an error of the visitor, which fails at one of the events
 pub of_visitor : {A S E : Type 0} (takes : S → TreeEvent → S → Type 0) (fails : S → TreeEvent → E → Type 0) (parts : A

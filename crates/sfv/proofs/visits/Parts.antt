@@ -1,23 +1,13 @@
 -- Visiting the events of a reading, by the parts of the reading.
-use Rattle.std.proofs.Common.{◌≡◌, ℕ, List, [], ◌∷◌, ◌++◌, Ok, Err, refl, sym, ap, subst, ◌∙◌, append_assoc}
-use Rattle.std.specs.Prelude.{Result}
-use Rattle.std.specs.declared.alloc.Global.{Global}
-use Rattle.std.proofs.lemmas.List.{append-nil}
-use Rattle.sfv_spec.specs.declared.version.Version.{Version}
-use Rattle.sfv_spec.specs.Events.{TreeEvent}
-use Rattle.std.specs.List.{FoldsTo}
-use Rattle.sfv_base.specs.declared.error.ParseError.{ParseError}
-use Rattle.sfv_base.specs.declared.error.ParseError.TheVariants.{Syntax, Visitor}
+use Rattle.std.proofs.Common.{◌≡◌, ℕ, List, [], ◌∷◌, ◌++◌, Ok, Err, refl, sym, ap, subst, ◌∙◌, append_assoc, Result}
+use Rattle.std.{proofs.Common.append-nil, specs.List.FoldsTo, specs.declared.alloc.Global.Global}
 use Rattle.sfv_model.specs.Reader.{Answer, Reader, visited, and_then, bind, give, led_answer, led, ◌>>=◌}
-use Rattle.sfv_model.specs.Visits.{VisitorFails}
+use Rattle.sfv_model.{specs.Visits.VisitorFails, proofs.complete.Combinators.{bind_complete, led_complete}}
 use Rattle.sfv_model.proofs.visits.Parts.{visited_then, visited_first, failed_within}
-use Rattle.sfv_model.proofs.complete.Combinators.{bind_complete, led_complete}
-use Rattle.sfv.specs.declared.parser.Parser.{Parser}
-use Rattle.sfv.specs.declared.parser.cursor.Cursor.{Cursor}
-use Rattle.sfv.specs.parser.Cursor.{kept, kept_input, kept_version, rest}
-use Rattle.sfv.specs.parser.Visits.{Visits, VisitsAnswer, IsOfVisitor}
-use Rattle.sfv.proofs.visits.Taken.{runs_on, took_after, took_part, took_same}
-use Rattle.sfv.proofs.visits.Parameters.{of_visitor}
+use Rattle.sfv_base.specs.declared.error.ParseError.{ParseError, TheVariants.{Syntax, Visitor}}
+use Rattle.sfv.specs.{Field.{Version, TreeEvent}, declared.parser.Parser.Parser, declared.parser.cursor.Cursor.Cursor}
+use Rattle.sfv.specs.parser.{Cursor.{kept, kept_input, kept_version, rest}, Visits.{Visits, VisitsAnswer, IsOfVisitor}}
+use Rattle.sfv.proofs.visits.{Parameters.of_visitor, Taken.{runs_on, took_after, took_part, took_same}}
 
 visited_as : {A : Type 0} (parts parts' : A → List TreeEvent) (a : Answer A)
     → ((v : A) (s : List ℕ) → a ≡ Ok (v, s) → parts' v ≡ parts v) → visited parts' a ≡ visited parts a

@@ -1,52 +1,41 @@
 -- The events of a field that are visited before its text continues, and before its last inner list is closed.
 use Rattle.std.proofs.Common.{◌≡◌, ℕ, ◌≤◌, Bool, eqb, true, false, List, [], ◌∷◌, ◌++◌, length, Some, Ok, Err, refl}
-use Rattle.std.proofs.Common.{sym, ap, subst, ◌∙◌, append_assoc, arith, inl, inr, ◌⊎◌}
-use Rattle.std.proofs.lemmas.List.{append-nil, append_cancel_right, length-append}
-use Rattle.std.proofs.lemmas.Bool.{or_cases, or_parts, eqb-true, not-true, true≢false, cases_Bool}
-use Rattle.std.specs.Prelude.{IsTrue, IsFalse, flat_map, not, ◌||◌, codes}
-use Rattle.sfv_spec.proofs.Marks.{comma, space, tab, equals_sign, semicolon, left_parenthesis, right_parenthesis}
-use Rattle.sfv_spec.proofs.Marks.{true_with, is_space, is_space_or_tab}
-use Rattle.sfv_spec.proofs.Bare.{is_bare_start}
-use Rattle.sfv_spec.specs.Texts.{RunOf, begins_with, ◌⨾◌, IsJoining, IsSeparated}
+use Rattle.std.proofs.Common.{sym, ap, subst, ◌∙◌, append_assoc, arith, inl, inr, ◌⊎◌, append-nil, length-append}
+use Rattle.std.proofs.Common.{eqb-true, true≢false, IsTrue, IsFalse, flat_map, not, ◌||◌, codes}
+use Rattle.std.proofs.lemmas.{Bool.{or_cases, or_parts, not-true, cases_Bool}, List.append_cancel_right}
 use Rattle.sfv_spec.specs.Classes.{is_key_inner}
-use Rattle.sfv_spec.specs.Values.{boolean, RawParameters, RawItem, RawMember, item, inner_list, RawField}
-use Rattle.sfv_spec.specs.declared.field_kind.FieldKind.{FieldKind}
-use Rattle.sfv_spec.specs.declared.field_kind.FieldKind.TheVariants.{Item as item_field, List as list_field}
-use Rattle.sfv_spec.specs.declared.field_kind.FieldKind.TheVariants.{Dictionary as dictionary_field}
-use Rattle.sfv_spec.specs.declared.version.Version.{Version}
-use Rattle.sfv_spec.specs.Grammar.{Spaces, Comma, IsKeyText, IsEnded, IsItemText}
-use Rattle.sfv_spec.proofs.Marks.{SomeSpaces}
-use Rattle.sfv_spec.specs.Grammar.{AreInnerItemsText, IsMemberText, IsDictionaryMemberText, IsMemberValueText}
-use Rattle.sfv_spec.specs.Grammar.{AreMembersText, IsFieldText, IsAccepted}
 use Rattle.sfv_spec.specs.Events.{TreeEvent, entry, keyed_entry, begins_item, begins_inner_list, bare_item, parameter}
-use Rattle.sfv_spec.specs.Events.{parameters_end, parameters_events, inner_list_end, item_events, inner_item_events, member_events}
-use Rattle.sfv_spec.specs.Events.{entry_events, keyed_events, events}
-use Rattle.sfv_model.specs.Reader.{Answer, Reader, Apart, visited, and_then, give, ◌>>=◌, bind, one_and_more}
+use Rattle.sfv_spec.specs.Events.{parameters_end, parameters_events, inner_list_end, item_events, inner_item_events}
+use Rattle.sfv_spec.specs.Events.{member_events, entry_events, keyed_events, events}
+use Rattle.sfv_spec.specs.Grammar.{Spaces, Comma, IsKeyText, IsEnded, IsItemText, AreInnerItemsText, IsMemberText}
+use Rattle.sfv_spec.specs.Grammar.{IsDictionaryMemberText, IsMemberValueText, AreMembersText, IsFieldText, IsAccepted}
+use Rattle.sfv_spec.specs.Texts.{RunOf, begins_with, ◌⨾◌, IsJoining, IsSeparated}
+use Rattle.sfv_spec.specs.Values.{boolean, RawParameters, RawItem, RawMember, item, inner_list, RawField}
+use Rattle.sfv_spec.proofs.Bare.{is_bare_start}
+use Rattle.sfv_spec.proofs.Marks.{comma, space, tab, equals_sign, semicolon, left_parenthesis, right_parenthesis}
+use Rattle.sfv_spec.proofs.Marks.{true_with, is_space, is_space_or_tab, SomeSpaces}
 use Rattle.sfv_spec.proofs.Settled.{joining-nil, joining-cons}
-use Rattle.sfv_model.specs.Reader.{byte, span, led, led_answer}
-use Rattle.sfv_model.specs.Items.{parameters_at, item_at}
+use Rattle.sfv_model.specs.{Fields.{next_at, members_at, whole_field_at}, Items.{parameters_at, item_at}}
 use Rattle.sfv_model.specs.Members.{inner_item_at, next_item_at, inner_items_at, inner_of, member_at, entry_at}
 use Rattle.sfv_model.specs.Members.{member_value_at, keyed_at}
-use Rattle.sfv_model.specs.Fields.{next_at, members_at, whole_field_at}
-use Rattle.sfv_model.proofs.sound.Combinators.{Begins, Reads, Goes, begins_after, run_head, run_tail, Steady-span}
-use Rattle.sfv_model.proofs.sound.Separated.{Consumes-next, comma_complete}
-use Rattle.sfv_model.proofs.sound.Members.{Consumes-next_item, Sound-entry, Sound-keyed}
-use Rattle.sfv_model.proofs.complete.Combinators.{Apart-nil, Apart-cons, branch_past, branch_take}
-use Rattle.sfv_model.proofs.complete.Combinators.{ahead_take, ahead_any, bind_complete, span_complete}
+use Rattle.sfv_model.specs.Reader.{Answer, Reader, Apart, visited, and_then, give, ◌>>=◌, bind, one_and_more, byte}
+use Rattle.sfv_model.specs.Reader.{span, led, led_answer}
+use Rattle.sfv_model.proofs.complete.Combinators.{Apart-nil, Apart-cons, branch_past, branch_take, ahead_take}
+use Rattle.sfv_model.proofs.complete.{Combinators.{ahead_any, bind_complete, span_complete}, Fields.comma_ends}
 use Rattle.sfv_model.proofs.complete.Items.{lengthens, lengthens_item, blank_ends, space_ends, item_no, item_begun}
 use Rattle.sfv_model.proofs.complete.Items.{item_complete, begun_some}
-use Rattle.sfv_model.proofs.complete.Fields.{comma_ends}
 use Rattle.sfv_model.proofs.complete.Members.{inner_item_complete, entry_complete, entry_fresh, keyed_complete}
-use Rattle.sfv_model.proofs.complete.Members.{keyed_fresh}
+use Rattle.sfv_model.proofs.{complete.Members.keyed_fresh, faults.BetweenInnerItems.open_longer}
+use Rattle.sfv_model.proofs.sound.Combinators.{Begins, Reads, Goes, begins_after, run_head, run_tail, Steady-span}
+use Rattle.sfv_model.proofs.sound.Members.{Consumes-next_item, Sound-entry, Sound-keyed}
+use Rattle.sfv_model.proofs.sound.Separated.{Consumes-next, comma_complete}
 use Rattle.sfv_model.proofs.texts.Joining.{in_turn, events_push, joining_none, joining_into}
-use Rattle.sfv_model.proofs.faults.BetweenInnerItems.{open_longer}
 use Rattle.sfv_model.proofs.visits.EventsBeforeRuleAlike.{begins_all, begins_trans}
-use Rattle.sfv.proofs.visits.Chained.{Parted, parted_of, fresh_after, each_begun}
+use Rattle.sfv.specs.Parsers.{first_event, IsBeforeMember, BeginsMember, list_member, dictionary_key, dictionary_value}
+use Rattle.sfv.specs.{Parsers.AreBefore, Types.{FieldKind, item_field, list_field, dictionary_field, Version}}
 use Rattle.sfv.proofs.visits.Begun.{no_space, ended_of, Pairs, item_told, inner_item_told, open_events, member_open}
 use Rattle.sfv.proofs.visits.Begun.{member_told, value_told, open_told, first_told, entry_begins, keyed_begins}
-use Rattle.sfv.proofs.visits.Begun.{true_of_key}
-use Rattle.sfv.specs.Parsers.{first_event, IsBeforeMember, BeginsMember, list_member, dictionary_key, dictionary_value}
-use Rattle.sfv.specs.Parsers.{AreBefore}
+use Rattle.sfv.proofs.visits.{Begun.true_of_key, Chained.{Parted, parted_of, fresh_after, each_begun}}
 
 -- ---- what may follow
 

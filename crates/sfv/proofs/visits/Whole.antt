@@ -1,25 +1,15 @@
 -- What a whole field gives, by what the code found out.
 use Rattle.std.proofs.Common.{◌≡◌, ℕ, ◌≤◌, true, false, List, [], ◌∷◌, length, drop, Option, Some, None, Ok, Err, refl}
-use Rattle.std.proofs.Common.{ap, subst, ◌∙◌}
-use Rattle.std.specs.Prelude.{MatchOption, is_some}
-use Rattle.std.specs.declared.alloc.Global.{Global}
-use Rattle.sfv_spec.proofs.Marks.{is_space}
-use Rattle.sfv_spec.specs.Values.{RawItem}
-use Rattle.sfv_spec.specs.declared.field_kind.FieldKind.TheVariants.{Item as item_field}
-use Rattle.sfv_spec.specs.declared.version.Version.{Version}
-use Rattle.sfv_spec.specs.Events.{TreeEvent, events}
-use Rattle.sfv_base.specs.declared.error.Error.{Error}
-use Rattle.sfv_spec.specs.declared.error_kind.ErrorKind.{ErrorKind}
-use Rattle.sfv_spec.specs.declared.error_kind.ErrorKind.TheVariants.{TrailingCharactersAfterParsedValue}
-use Rattle.sfv_model.specs.Reader.{Answer, Reader, first, give, ◌>>=◌, span}
-use Rattle.sfv_model.specs.Items.{item_at}
+use Rattle.std.{proofs.Common.{ap, subst, ◌∙◌, MatchOption, is_some}, specs.declared.alloc.Global.Global}
+use Rattle.sfv_spec.{specs.Events.{TreeEvent, events}, specs.Values.RawItem, proofs.Marks.is_space}
 use Rattle.sfv_model.specs.Fields.{whole_field_at, ending, read_field}
+use Rattle.sfv_model.specs.{Items.item_at, Reader.{Answer, Reader, first, give, ◌>>=◌, span}}
+use Rattle.sfv_model.proofs.Types.{item_field, Version, ErrorKind, TrailingCharactersAfterParsedValue}
 use Rattle.sfv_model.proofs.complete.Combinators.{bind_complete}
-use Rattle.sfv.specs.declared.parser.Parser.{Parser}
-use Rattle.sfv.specs.declared.parser.cursor.Cursor.{Cursor}
+use Rattle.sfv_base.specs.declared.error.Error.{Error}
+use Rattle.sfv.specs.{Memory.IsRefusal, declared.parser.Parser.Parser, declared.parser.cursor.Cursor.Cursor}
 use Rattle.sfv.specs.parser.Cursor.{kept, kept_input, rest, located, IsErrorOf, located_whole}
 use Rattle.sfv.proofs.reads.Errors.{fault_bind}
-use Rattle.sfv.specs.Memory.{IsRefusal}
 
 -- an item and the spaces after it
 unfoldable pub spaced : Version → Reader RawItem

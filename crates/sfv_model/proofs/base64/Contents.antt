@@ -1,25 +1,16 @@
 -- What a content stands for, and where one that stands for nothing is at fault.
-use Rattle.std.proofs.lemmas.Bool.Decides.{nat_tests}
 use Rattle.std.proofs.Common.{◌≡◌, ℕ, zero, suc, ◌<◌, ◌≤◌, ◌+◌, ◌-◌, ◌*◌, ◌%◌, List, [], ◌∷◌, ◌++◌, length, map, take}
 use Rattle.std.proofs.Common.{replicate, refl, sym, ◌∙◌, ap, subst, Bool, true, false, append_assoc, arith, inl, inr}
-use Rattle.std.proofs.Common.{Some, None}
-use Rattle.std.specs.Prelude.{◌==◌, not, ◌&&◌, flat_map}
-use Rattle.std.specs.List.{list_all}
-use Rattle.std.proofs.lemmas.Bool.{and_parts, eqb-true, eqb-false, not-true, both_ways, eq-eqb, ne_eqb, cases_Bool}
-use Rattle.std.proofs.lemmas.List.{length-append, length-map, length-replicate, append-nil, nil_from_length, take_at}
-use Rattle.std.proofs.lemmas.List.{length-take-le}
-use Rattle.std.proofs.lemmas.List.Folds.{list_all-append}
-use Rattle.sfv_spec.proofs.Lengths.{length-all_bits}
-use Rattle.sfv_spec.proofs.Marks.{colon, equals_sign, upper_a, is_symbol}
-use Rattle.sfv_spec.specs.Texts.{IsLongestBeginning}
-use Rattle.sfv_spec.specs.Base64.{symbol, bits, IsBase64Text}
-use Rattle.sfv_spec.proofs.Marks.{BeginsBase64}
-use Rattle.sfv_spec.proofs.Settled.{NotBegun}
-use Rattle.sfv_spec.proofs.Bytes.{bytes_settle}
-use Rattle.sfv_model.specs.Content.{symbol_value, most_padding, valid_from, values_in, bytes_from, bytes_of}
-use Rattle.sfv_model.specs.Content.{fault_place}
+use Rattle.std.proofs.Common.{Some, None, ◌==◌, not, ◌&&◌, flat_map, eqb-true, eq-eqb, ne_eqb, length-append}
+use Rattle.std.{proofs.Common.{append-nil, take_at, length-take-le}, specs.List.list_all}
+use Rattle.std.proofs.lemmas.Bool.{and_parts, eqb-false, not-true, both_ways, cases_Bool, Decides.nat_tests}
+use Rattle.std.proofs.lemmas.List.{length-map, length-replicate, nil_from_length, Folds.list_all-append}
+use Rattle.sfv_spec.specs.{Base64.{symbol, bits, IsBase64Text}, Texts.IsLongestBeginning}
+use Rattle.sfv_spec.proofs.{Bytes.bytes_settle, Lengths.length-all_bits}
+use Rattle.sfv_spec.proofs.{Marks.{colon, equals_sign, upper_a, is_symbol, BeginsBase64}, Settled.NotBegun}
 use Rattle.sfv_model.specs.Claims.{GivesTheBytes}
-use Rattle.sfv_model.proofs.base64.Bits.{spare_of, same_bits, spare_length, bytes_within}
+use Rattle.sfv_model.specs.Content.{symbol_value, most_padding, valid_from, values_in, bytes_from, bytes_of}
+use Rattle.sfv_model.{specs.Content.fault_place, proofs.base64.Bits.{spare_of, same_bits, spare_length, bytes_within}}
 use Rattle.sfv_model.proofs.base64.Shape.{shape_of, shape_valid, are_symbols, are_values, symbols-values}
 use Rattle.sfv_model.proofs.base64.Shape.{values-symbols, valid_local, valid_run, padding-padded, padding-nil}
 

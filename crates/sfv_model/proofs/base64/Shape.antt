@@ -1,14 +1,9 @@
 -- A text is symbols, padding, and what no Base64 text goes on with.
-use Rattle.std.proofs.lemmas.Bool.Decides.{nat_tests}
 use Rattle.std.proofs.Common.{◌≡◌, ℕ, zero, suc, ◌<◌, ◌≤◌, ◌+◌, List, [], ◌∷◌, ◌++◌, length, map, take, replicate, refl}
-use Rattle.std.proofs.Common.{sym, ◌∙◌, ap, Bool, true, arith, ◌⊎◌, inl, inr}
-use Rattle.std.specs.Prelude.{◌==◌}
-use Rattle.sfv_spec.proofs.Marks.{equals_sign, is_symbol}
-use Rattle.std.specs.List.{list_all}
-use Rattle.std.proofs.lemmas.Bool.{and_parts, eqb-true, ltb-true, cases_Bool}
+use Rattle.std.proofs.Common.{sym, ◌∙◌, ap, Bool, true, arith, ◌⊎◌, inl, inr, ◌==◌, eqb-true, ltb-true}
+use Rattle.std.{specs.List.list_all, proofs.lemmas.Bool.{and_parts, cases_Bool}, proofs.lemmas.Bool.Decides.nat_tests}
 use Rattle.sfv_spec.specs.Base64.{symbol}
-use Rattle.sfv_spec.proofs.Settled.{NotBegun}
-use Rattle.sfv_spec.proofs.Parts.{implied}
+use Rattle.sfv_spec.proofs.{Marks.{equals_sign, is_symbol}, Parts.implied, Settled.NotBegun}
 use Rattle.sfv_model.specs.Content.{symbol_value, most_padding, padding_in, valid_from, values_in}
 use Rattle.sfv_model.proofs.base64.Bits.{is_value}
 

@@ -1,13 +1,10 @@
 -- What a reader gives on a text of its kind, by what follows.
 use Rattle.std.proofs.Common.{◌≡◌, ℕ, zero, suc, ◌<◌, ◌≤◌, Bool, true, false, List, [], ◌∷◌, ◌++◌, length, Option, Some}
 use Rattle.std.proofs.Common.{Ok, refl, ap, ◌∙◌, arith}
-use Rattle.sfv_spec.specs.Texts.{RunOf}
-use Rattle.sfv_spec.specs.Events.{TreeEvent}
+use Rattle.sfv_spec.specs.{Events.TreeEvent, Texts.RunOf, declared.error_kind.ErrorKind.ErrorKind}
 use Rattle.sfv_model.specs.Reader.{Apart, any, Reader, give, ◌>>=◌, bind, led_answer, led, branch, ahead, at_start}
 use Rattle.sfv_model.specs.Reader.{back, up_to, span}
-use Rattle.sfv_model.proofs.sound.Combinators.{run_head, run_tail}
-use Rattle.sfv_model.proofs.local.Combinators.{untaken}
-use Rattle.sfv_spec.specs.declared.error_kind.ErrorKind.{ErrorKind}
+use Rattle.sfv_model.proofs.{local.Combinators.untaken, sound.Combinators.{run_head, run_tail}}
 
 pub Apart-nil : (class : ℕ → Bool) → Apart class []
 Apart-nil class = record { apart = λ c e. absurd cc }

@@ -1,25 +1,14 @@
 -- A text of a field is read, as that field.
-use Rattle.std.proofs.Common.{◌≡◌, ℕ, List, [], ◌∷◌, ◌++◌, Ok, refl, sym, ap, ◌∙◌, append_assoc}
-use Rattle.std.proofs.lemmas.List.{append-nil}
-use Rattle.std.proofs.lemmas.Bool.{eqb-true}
-use Rattle.sfv_spec.proofs.Marks.{space, comma, is_space}
-use Rattle.sfv_spec.specs.Texts.{RunOf}
-use Rattle.sfv_spec.specs.Values.{RawField, RawItem}
-use Rattle.sfv_spec.specs.declared.field_kind.FieldKind.{FieldKind}
-use Rattle.sfv_spec.specs.declared.field_kind.FieldKind.TheVariants.{Item as item_field, List as list_field}
-use Rattle.sfv_spec.specs.declared.field_kind.FieldKind.TheVariants.{Dictionary as dictionary_field}
-use Rattle.sfv_spec.specs.declared.version.Version.{Version}
-use Rattle.sfv_spec.specs.Grammar.{IsMemberText, IsDictionaryMemberText, IsFieldText}
+use Rattle.std.proofs.Common.{◌≡◌, ℕ, List, [], ◌∷◌, ◌++◌, Ok, refl, sym, ap, ◌∙◌, append_assoc, append-nil, eqb-true}
 use Rattle.sfv_spec.specs.Events.{entry_events, keyed_events}
-use Rattle.sfv_model.specs.Reader.{Apart, give}
-use Rattle.sfv_model.specs.Members.{entry_at, keyed_at}
-use Rattle.sfv_model.specs.Fields.{whole_field_at}
-use Rattle.sfv_model.proofs.sound.Combinators.{run_head}
+use Rattle.sfv_spec.specs.{Grammar.{IsMemberText, IsDictionaryMemberText, IsFieldText}, Texts.RunOf}
+use Rattle.sfv_spec.{specs.Values.{RawField, RawItem}, proofs.Marks.{space, comma, is_space}}
+use Rattle.sfv_model.specs.{Fields.whole_field_at, Members.{entry_at, keyed_at}, Reader.{Apart, give}}
+use Rattle.sfv_model.proofs.Types.{FieldKind, item_field, list_field, dictionary_field, Version}
 use Rattle.sfv_model.proofs.complete.Combinators.{Apart-nil, Apart-cons, bind_complete, span_complete}
-use Rattle.sfv_model.proofs.sound.Members.{Sound-entry, Sound-keyed}
-use Rattle.sfv_model.proofs.sound.Separated.{members_complete}
 use Rattle.sfv_model.proofs.complete.Items.{lengthens_item, item_complete, item_no, blank_ends, space_ends}
 use Rattle.sfv_model.proofs.complete.Members.{entry_complete, entry_fresh, keyed_complete, keyed_fresh}
+use Rattle.sfv_model.proofs.sound.{Combinators.run_head, Members.{Sound-entry, Sound-keyed}, Separated.members_complete}
 
 pub spaces_end : (s q : List ℕ) → RunOf is_space s → Apart lengthens_item q → Apart lengthens_item (s ++ q)
 spaces_end [] q each f = f

@@ -1,26 +1,18 @@
 -- A text of parameters, an item, a member is read, as that.
-use Rattle.std.proofs.lemmas.Bool.Decides.{nat_tests}
 use Rattle.std.proofs.Common.{◌≡◌, ℕ, ◌≤◌, Bool, true, false, eqb, ◌||◌, List, [], ◌∷◌, ◌++◌, length, Some, None, Ok}
-use Rattle.std.proofs.Common.{refl, sym, ap, ◌∙◌, append_assoc, arith, inl, inr}
-use Rattle.std.specs.List.{list_all}
-use Rattle.std.proofs.lemmas.Bool.{or_parts, ne_eqb, and_parts, true≢false}
-use Rattle.sfv_spec.proofs.Marks.{space, equals_sign, semicolon, is_space, is_space_or_tab}
-use Rattle.sfv_spec.specs.Texts.{Exactly, ◌⨾◌}
+use Rattle.std.proofs.Common.{refl, sym, ap, ◌∙◌, append_assoc, arith, inl, inr, ne_eqb, true≢false}
+use Rattle.std.{specs.List.list_all, proofs.lemmas.Bool.{or_parts, and_parts}, proofs.lemmas.Bool.Decides.nat_tests}
 use Rattle.sfv_spec.specs.Classes.{is_key_start, is_key_inner, is_token_inner}
-use Rattle.sfv_spec.specs.Values.{BareValue, RawParameters, RawItem}
-use Rattle.sfv_spec.specs.declared.version.Version.{Version}
-use Rattle.sfv_spec.specs.Grammar.{IsKeyText, IsValueText, IsParametersText, IsItemText}
-use Rattle.sfv_spec.proofs.Marks.{IsParameterText}
-use Rattle.sfv_spec.proofs.Settled.{begins, begins-append}
+use Rattle.sfv_spec.specs.{Grammar.{IsKeyText, IsValueText, IsParametersText, IsItemText}, Texts.{Exactly, ◌⨾◌}}
+use Rattle.sfv_spec.specs.{Values.{BareValue, RawParameters, RawItem}, declared.version.Version.Version}
 use Rattle.sfv_spec.proofs.Bare.{is_bare_start, bare_begins}
-use Rattle.sfv_model.specs.Reader.{Apart, byte, give}
+use Rattle.sfv_spec.proofs.Marks.{space, equals_sign, semicolon, is_space, is_space_or_tab, IsParameterText}
+use Rattle.sfv_spec.proofs.Settled.{begins, begins-append}
 use Rattle.sfv_model.specs.Items.{key_at, value_at, parameter_at, parameter_event, parameters_at, item_at}
+use Rattle.sfv_model.{specs.Reader.{Apart, byte, give}, proofs.complete.Bare.bare_complete}
 use Rattle.sfv_model.proofs.complete.Combinators.{Apart-cons, Apart-part, branch_past, branch_take, bind_complete}
 use Rattle.sfv_model.proofs.complete.Combinators.{led_complete, span_complete}
-use Rattle.sfv_model.proofs.texts.Joining.{end_joined}
-use Rattle.sfv_model.proofs.sound.Many.{many_complete}
-use Rattle.sfv_model.proofs.complete.Bare.{bare_complete}
-use Rattle.sfv_model.proofs.sound.Items.{Consumes-parameter}
+use Rattle.sfv_model.proofs.{sound.Items.Consumes-parameter, sound.Many.many_complete, texts.Joining.end_joined}
 
 -- what would lengthen a bare item, a key, or a parameter, and an item
 abbrev pub lengthens : ℕ → Bool

@@ -1,30 +1,22 @@
 -- A text of an inner list, or of a member, is read, as that.
 use Rattle.std.proofs.Common.{◌≡◌, ℕ, ◌≤◌, List, [], ◌∷◌, ◌++◌, length, Some, None, Ok, refl, sym, ap, ◌∙◌}
-use Rattle.std.proofs.Common.{append_assoc, arith, inl, inr}
-use Rattle.std.proofs.lemmas.List.{length-append}
-use Rattle.std.proofs.lemmas.Bool.{eqb-true, true≢false}
+use Rattle.std.proofs.Common.{append_assoc, arith, inl, inr, length-append, eqb-true, true≢false}
+use Rattle.sfv_spec.specs.{Classes.is_key_inner, Events.inner_item_events}
+use Rattle.sfv_spec.specs.Grammar.{IsKeyText, IsParametersText, IsItemText, IsMemberText, IsMemberValueText}
+use Rattle.sfv_spec.specs.{Grammar.IsDictionaryMemberText, Texts.RunOf}
+use Rattle.sfv_spec.specs.Values.{RawParameters, RawItem, RawMember, item, inner_list}
+use Rattle.sfv_spec.{specs.declared.version.Version.Version, proofs.Bare.is_bare_start}
 use Rattle.sfv_spec.proofs.Marks.{tab, space, equals_sign, left_parenthesis, right_parenthesis, is_space}
 use Rattle.sfv_spec.proofs.Marks.{is_space_or_tab}
-use Rattle.sfv_spec.specs.Texts.{RunOf}
-use Rattle.sfv_spec.specs.Classes.{is_key_inner}
-use Rattle.sfv_spec.specs.Values.{RawParameters, RawItem, RawMember, item, inner_list}
-use Rattle.sfv_spec.specs.declared.version.Version.{Version}
-use Rattle.sfv_spec.specs.Grammar.{IsKeyText, IsParametersText, IsItemText, IsMemberText, IsMemberValueText}
-use Rattle.sfv_spec.specs.Grammar.{IsDictionaryMemberText}
-use Rattle.sfv_spec.proofs.Bare.{is_bare_start}
-use Rattle.sfv_model.specs.Reader.{Apart, give}
-use Rattle.sfv_spec.specs.Events.{inner_item_events}
 use Rattle.sfv_model.specs.Members.{inner_item_at, next_item_at, inner_items_at, inner_of, inner_at, member_at}
-use Rattle.sfv_model.specs.Members.{entry_at, member_value_at, keyed_at}
-use Rattle.sfv_model.proofs.sound.Combinators.{run_head, run_tail}
+use Rattle.sfv_model.specs.{Members.{entry_at, member_value_at, keyed_at}, Reader.{Apart, give}}
 use Rattle.sfv_model.proofs.complete.Combinators.{Apart-cons, branch_past, branch_take, ahead_any, bind_complete}
 use Rattle.sfv_model.proofs.complete.Combinators.{led_complete, span_complete}
-use Rattle.sfv_model.proofs.texts.Joining.{joined_split, in_turn}
-use Rattle.sfv_model.proofs.sound.Many.{many_complete}
-use Rattle.sfv_model.proofs.sound.Members.{IsClosed, IsNextItem, IsItems, Consumes-next_item}
 use Rattle.sfv_model.proofs.complete.Items.{lengthens_item, key_apart, equals_apart, key_complete, key_no}
 use Rattle.sfv_model.proofs.complete.Items.{parameters_complete, item_complete, item_begun, item_no, begun_some}
-use Rattle.sfv_model.proofs.complete.Items.{space_ends}
+use Rattle.sfv_model.proofs.{complete.Items.space_ends, sound.Combinators.{run_head, run_tail}}
+use Rattle.sfv_model.proofs.sound.{Many.many_complete, Members.{IsClosed, IsNextItem, IsItems, Consumes-next_item}}
+use Rattle.sfv_model.proofs.texts.Joining.{joined_split, in_turn}
 
 -- ---- inner items
 

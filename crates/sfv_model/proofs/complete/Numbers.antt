@@ -1,13 +1,12 @@
 -- A text of a number is read, as that number.
 use Rattle.std.proofs.Common.{◌≡◌, ℕ, ◌<◌, ◌≤◌, Bool, true, false, eqb, leb, ◌||◌, ℤ, List, [], ◌∷◌, ◌++◌, length, Some}
-use Rattle.std.proofs.Common.{Ok, refl, sym, ap, ◌∙◌, append_assoc, arith}
-use Rattle.std.proofs.lemmas.Bool.{and_parts, or_parts, leb-true, ne_eqb, le-ltb}
-use Rattle.sfv_spec.proofs.Marks.{digit_zero, digit_nine, minus_sign, dot, is_digit, minus_text}
-use Rattle.sfv_spec.specs.Texts.{RunOf}
-use Rattle.sfv_spec.specs.Values.{integer, decimal}
+use Rattle.std.proofs.Common.{Ok, refl, sym, ap, ◌∙◌, append_assoc, arith, leb-true, ne_eqb, le-ltb}
+use Rattle.std.proofs.lemmas.Bool.{and_parts, or_parts}
 use Rattle.sfv_spec.specs.Numbers.{AreDigits, signed, IsIntegerText, IsDecimalText}
-use Rattle.sfv_model.specs.Reader.{Apart, byte, give}
+use Rattle.sfv_spec.specs.{Texts.RunOf, Values.{integer, decimal}}
+use Rattle.sfv_spec.proofs.Marks.{digit_zero, digit_nine, minus_sign, dot, is_digit, minus_text}
 use Rattle.sfv_model.specs.Bare.{sign_at, decimal_at, fraction_at, point_at, whole_at, number_at}
+use Rattle.sfv_model.specs.Reader.{Apart, byte, give}
 use Rattle.sfv_model.proofs.complete.Combinators.{Apart-cons, branch_past, branch_take, ahead_past, ahead_take}
 use Rattle.sfv_model.proofs.complete.Combinators.{bind_complete, back_complete, up_to_taken, up_to_complete}
 use Rattle.sfv_model.proofs.sound.Numbers.{thousandths}

@@ -1,9 +1,6 @@
 -- A text of a String or a Display String is read, as its bytes.
-use Rattle.std.proofs.Common.{◌≡◌, ℕ, List, [], ◌∷◌, ◌++◌, Ok, refl, ap, ◌∙◌, append_assoc}
-use Rattle.std.specs.Prelude.{IsUtf8}
-use Rattle.std.specs.List.{concat}
-use Rattle.std.proofs.lemmas.List.{append-nil}
-use Rattle.std.proofs.lemmas.Str.{is_utf8-from_IsUtf8}
+use Rattle.std.proofs.Common.{◌≡◌, ℕ, List, [], ◌∷◌, ◌++◌, Ok, refl, ap, ◌∙◌, append_assoc, IsUtf8, append-nil}
+use Rattle.std.{specs.List.concat, proofs.lemmas.Str.is_utf8-from_IsUtf8}
 use Rattle.sfv_spec.proofs.Marks.{double_quote}
 use Rattle.sfv_model.specs.Quoted.{IsStringEnd, IsDisplayEnd, string_at, outside, pieces_from, checked, display_at}
 use Rattle.sfv_model.proofs.quoted.Pieces.{past_string, past_display, quote_string, quote_display}

@@ -1,36 +1,27 @@
 -- Each row of the table of faults is given by the reader of bare items.
 use Rattle.std.proofs.Common.{◌≡◌, ℕ, suc, ◌+◌, ◌≤◌, Bool, true, false, not, ◌||◌, List, [], ◌∷◌, ◌++◌, length, drop}
-use Rattle.std.proofs.Common.{Err, refl, sym, ap, ◌∙◌, append_assoc, arith}
-use Rattle.std.specs.Prelude.{◌==◌, codes}
-use Rattle.std.proofs.lemmas.Bool.{true≢false, or_parts, not-true, not_from_false, ne_eqb}
-use Rattle.sfv_spec.proofs.Marks.{colon, backslash, minus_sign, dot, at_sign, is_digit, minus_text, at_text}
-use Rattle.sfv_spec.specs.Texts.{begins_with, RunOf}
+use Rattle.std.proofs.Common.{Err, refl, sym, ap, ◌∙◌, append_assoc, arith, ◌==◌, codes, true≢false, ne_eqb}
+use Rattle.std.proofs.lemmas.Bool.{or_parts, not-true, not_from_false}
 use Rattle.sfv_spec.specs.Classes.{is_string_byte}
-use Rattle.sfv_spec.specs.Values.{BareValue, string, byte_sequence}
-use Rattle.sfv_spec.specs.declared.version.Version.{Version}
-use Rattle.sfv_spec.specs.declared.version.Version.TheVariants.{Rfc8941, Rfc9651}
-use Rattle.sfv_spec.specs.Strings.{is_escaped_in_string}
-use Rattle.sfv_spec.specs.declared.error_kind.ErrorKind.{ErrorKind}
-use Rattle.sfv_spec.specs.declared.error_kind.ErrorKind.TheVariants.{NonIntegerDate, ExpectedDigit, InvalidByteSequence}
 use Rattle.sfv_spec.specs.Faults.{BareItemFault, no_boolean, old_date, old_display, no_quote, no_digit, no_number}
 use Rattle.sfv_spec.specs.Faults.{IsNumberSign, OpensString, long_integer, late_point, long_decimal, open_string}
 use Rattle.sfv_spec.specs.Faults.{wrong_string_byte, open_string_escape, wrong_string_escape, wrong_bytes}
-use Rattle.sfv_model.specs.Reader.{Fault, Answer, byte, give, fail, and_then, at_start, at_reach}
-use Rattle.sfv_model.specs.Content.{valid_from, fault_place, bytes_at}
-use Rattle.sfv_model.specs.Quoted.{string_at, StringStops}
+use Rattle.sfv_spec.specs.{Strings.is_escaped_in_string, Texts.{begins_with, RunOf}}
+use Rattle.sfv_spec.specs.Values.{BareValue, string, byte_sequence}
+use Rattle.sfv_spec.proofs.Marks.{colon, backslash, minus_sign, dot, at_sign, is_digit, minus_text, at_text}
+use Rattle.sfv_spec.proofs.Versions.{one_longest}
 use Rattle.sfv_model.specs.Bare.{is_number_start, number_at, date_at, quoted_at, as_date, bare_at}
-use Rattle.sfv_model.specs.BareFaults.{BareRowIsGiven}
-use Rattle.sfv_model.proofs.base64.Contents.{longest_valid, rejected_at}
+use Rattle.sfv_model.specs.{BareFaults.BareRowIsGiven, Content.{valid_from, fault_place, bytes_at}}
+use Rattle.sfv_model.specs.Quoted.{string_at, StringStops}
+use Rattle.sfv_model.specs.Reader.{Fault, Answer, byte, give, fail, and_then, at_start, at_reach}
+use Rattle.sfv_model.proofs.Types.{Version, Rfc8941, Rfc9651, ErrorKind, NonIntegerDate, ExpectedDigit}
+use Rattle.sfv_model.proofs.{Types.InvalidByteSequence, base64.Contents.{longest_valid, rejected_at}}
 use Rattle.sfv_model.proofs.complete.Bare.{bare_boolean, bare_quote, bare_colon, bare_at_sign, bare_percent, front}
 use Rattle.sfv_model.proofs.complete.Bare.{number_from}
-use Rattle.sfv_model.proofs.sound.ByteSequences.{read_fault, fault_at}
-use Rattle.sfv_spec.proofs.Versions.{one_longest}
-use Rattle.sfv_model.proofs.faults.Quoted.{string_faulty, traced}
-use Rattle.sfv_model.proofs.faults.PiecesToFault.{bind_met}
+use Rattle.sfv_model.proofs.faults.{BareFaultIsRow.{boolean_fault, quote_fault}, NumberFaultIsRow.date_read}
 use Rattle.sfv_model.proofs.faults.NumberShapes.{next_of, NumberShape, no_digits, sixteen_digits, point_too_late}
-use Rattle.sfv_model.proofs.faults.NumberShapes.{long_fraction, shape_read}
-use Rattle.sfv_model.proofs.faults.NumberFaultIsRow.{date_read}
-use Rattle.sfv_model.proofs.faults.BareFaultIsRow.{boolean_fault, quote_fault}
+use Rattle.sfv_model.proofs.faults.{NumberShapes.{long_fraction, shape_read}, PiecesToFault.bind_met}
+use Rattle.sfv_model.proofs.{faults.Quoted.{string_faulty, traced}, sound.ByteSequences.{read_fault, fault_at}}
 
 -- ---- numbers and Dates
 

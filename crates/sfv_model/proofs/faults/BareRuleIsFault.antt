@@ -1,30 +1,17 @@
 -- Each rule of the table of faults is given by the reader of bare items, but for the trailing comma.
 use Rattle.std.proofs.Common.{◌≡◌, ℕ, true, List, ◌∷◌, ◌++◌, length, Err, refl, ap, ◌∙◌, suc, ◌≤◌, append_assoc, arith}
-use Rattle.std.proofs.Common.{inl, inr}
-use Rattle.std.specs.Prelude.{codes}
-use Rattle.std.specs.List.{concat}
-use Rattle.std.proofs.lemmas.Bool.{eq-eqb}
-use Rattle.std.proofs.lemmas.List.{length-append, length-drop}
-use Rattle.sfv_spec.proofs.Marks.{double_quote, percent_sign, colon, dot, minus_text}
-use Rattle.sfv_spec.specs.Values.{display_string}
-use Rattle.sfv_spec.specs.declared.version.Version.{Version}
-use Rattle.sfv_spec.specs.declared.version.Version.TheVariants.{Rfc9651}
+use Rattle.std.{proofs.Common.{inl, inr, codes, eq-eqb, length-append, length-drop}, specs.List.concat}
 use Rattle.sfv_spec.specs.Faults.{RuledItemFault, bare, comma, point, decimal_date, long_decimal_date, open_bytes}
-use Rattle.sfv_spec.specs.Faults.{lone_symbol, display}
-use Rattle.sfv_spec.specs.declared.error_kind.ErrorKind.{ErrorKind}
-use Rattle.sfv_model.proofs.faults.TrailingCommas.{has_many}
-use Rattle.sfv_model.specs.Reader.{give, and_then, by_rule}
-use Rattle.sfv_model.specs.Bare.{bare_at}
-use Rattle.sfv_model.specs.BareFaults.{RuledIsGiven}
-use Rattle.sfv_model.proofs.complete.Bare.{bare_percent}
-use Rattle.sfv_model.proofs.faults.DisplayRuleIsFault.{faults_ruled}
-use Rattle.sfv_model.proofs.faults.Quoted.{display_faulty}
-use Rattle.sfv_model.proofs.faults.NumberShapes.{no_fraction, long_fraction, a_decimal, shape_read}
-use Rattle.sfv_model.proofs.faults.BareFaultIsRow.{quoted_read, display_short}
-use Rattle.sfv_model.proofs.faults.BareRowIsFault.{date_given, signed_given, bytes_given}
-use Rattle.sfv_model.specs.Content.{valid_from, fault_place, HasNoColon}
+use Rattle.sfv_spec.specs.{Faults.{lone_symbol, display}, Values.display_string}
+use Rattle.sfv_spec.proofs.Marks.{double_quote, percent_sign, colon, dot, minus_text}
+use Rattle.sfv_model.specs.{Bare.bare_at, BareFaults.RuledIsGiven, Content.{valid_from, fault_place, HasNoColon}}
+use Rattle.sfv_model.{specs.Reader.{give, and_then, by_rule}, proofs.Types.{Version, Rfc9651, ErrorKind}}
 use Rattle.sfv_model.proofs.base64.Lone.{is_left_over, symbols_of_run, leaves_one_over}
-use Rattle.sfv_model.proofs.faults.ByteSequences.{no_colon_any}
+use Rattle.sfv_model.proofs.{complete.Bare.bare_percent, faults.BareFaultIsRow.{quoted_read, display_short}}
+use Rattle.sfv_model.proofs.faults.BareRowIsFault.{date_given, signed_given, bytes_given}
+use Rattle.sfv_model.proofs.faults.{ByteSequences.no_colon_any, DisplayRuleIsFault.faults_ruled}
+use Rattle.sfv_model.proofs.faults.NumberShapes.{no_fraction, long_fraction, a_decimal, shape_read}
+use Rattle.sfv_model.proofs.faults.{Quoted.display_faulty, TrailingCommas.has_many}
 use Rattle.sfv_model.proofs.sound.ByteSequences.{read_unclosed, read_fault, symbols_apart}
 
 item_given : (version : Version) (s there : List ℕ) (k : ErrorKind) → RuledItemFault version s there k

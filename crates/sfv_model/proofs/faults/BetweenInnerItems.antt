@@ -1,41 +1,30 @@
 -- Where the faults between the bare items of an inner list stand.
 use Rattle.std.proofs.Common.{◌≡◌, ℕ, true, List, [], ◌∷◌, ◌++◌, Option, refl, sym, ap, subst, ◌∙◌, append_assoc, rules}
-use Rattle.std.specs.Prelude.{⊤, codes, flat_map}
-use Rattle.std.proofs.lemmas.List.{append-nil}
-use Rattle.std.proofs.lemmas.Bool.{eqb-true}
-use Rattle.sfv_spec.proofs.Marks.{space, equals_sign, left_parenthesis, right_parenthesis, comma, is_space}
-use Rattle.sfv_spec.proofs.Marks.{is_space_or_tab}
-use Rattle.sfv_spec.specs.Texts.{RunOf, IsJoining, ◌⨾◌}
-use Rattle.sfv_spec.specs.Values.{boolean, RawItem}
-use Rattle.sfv_spec.specs.declared.version.Version.{Version}
-use Rattle.sfv_spec.specs.Grammar.{IsItemText, IsMemberText, IsMemberValueText, IsDictionaryMemberText}
-use Rattle.sfv_spec.proofs.Marks.{IsParameterText}
-use Rattle.sfv_spec.specs.Grammar.{IsKeyText}
+use Rattle.std.{proofs.Common.{codes, flat_map, append-nil, eqb-true}, specs.Prelude.⊤}
 use Rattle.sfv_spec.specs.Events.{TreeEvent, entry, keyed_entry, begins_inner_list, inner_list_end, parameters_end}
 use Rattle.sfv_spec.specs.Events.{inner_item_events, member_events, entry_events, keyed_events}
-use Rattle.sfv_spec.specs.declared.error_kind.ErrorKind.{ErrorKind}
-use Rattle.sfv_spec.specs.declared.error_kind.ErrorKind.TheVariants.{TrailingCharactersAfterMember, TrailingComma}
-use Rattle.sfv_spec.specs.declared.error_kind.ErrorKind.TheVariants.{TrailingCharactersAfterParsedValue}
-use Rattle.sfv_spec.specs.declared.error_kind.ErrorKind.TheVariants.{ExpectedInnerListDelimiter, UnterminatedInnerList}
-use Rattle.sfv_spec.proofs.Settled.{joining-nil}
-use Rattle.sfv_model.specs.Reader.{Fault, Reader, many, any}
+use Rattle.sfv_spec.specs.Grammar.{IsItemText, IsMemberText, IsMemberValueText, IsDictionaryMemberText, IsKeyText}
+use Rattle.sfv_spec.specs.{Texts.{RunOf, IsJoining, ◌⨾◌}, Values.{boolean, RawItem}}
+use Rattle.sfv_spec.proofs.Marks.{space, equals_sign, left_parenthesis, right_parenthesis, comma, is_space}
+use Rattle.sfv_spec.proofs.{Marks.{is_space_or_tab, IsParameterText}, Settled.joining-nil}
 use Rattle.sfv_model.specs.Items.{key_at, item_of}
 use Rattle.sfv_model.specs.Members.{inner_item_at, next_item_at, inner_items_at, inner_of, inner_at, member_at}
-use Rattle.sfv_model.specs.Members.{entry_at, member_value_at, keyed_at}
+use Rattle.sfv_model.specs.{Members.{entry_at, member_value_at, keyed_at}, Reader.{Fault, Reader, many, any}}
 use Rattle.sfv_model.proofs.TrailingBytes.{IsOther, Shuns, Shuns-item, Shuns-key, Shuns-parameters, Shuns-led}
 use Rattle.sfv_model.proofs.TrailingBytes.{Shuns-bind, Shuns-give, Shuns-branch, Shuns-span}
+use Rattle.sfv_model.proofs.Types.{Version, ErrorKind, TrailingCharactersAfterMember, TrailingComma}
+use Rattle.sfv_model.proofs.Types.{TrailingCharactersAfterParsedValue, ExpectedInnerListDelimiter}
+use Rattle.sfv_model.proofs.Types.{UnterminatedInnerList}
+use Rattle.sfv_model.proofs.faults.Combinators.{Rules, Rules-give, Rules-span, Rules-led, Rules-bind, Rules-branch}
+use Rattle.sfv_model.proofs.faults.Combinators.{Rules-ahead, Rules-any, Rules-weaker, fail_at}
+use Rattle.sfv_model.proofs.faults.InnerListCutOff.{joining_last}
+use Rattle.sfv_model.proofs.faults.ItemEnds.{IsTight, tight_after, item_tight, outer_space, second_longer, tight_both}
+use Rattle.sfv_model.proofs.faults.{ItemEnds.{joining_tight, after_front}, Many.Rules-many}
 use Rattle.sfv_model.proofs.sound.Items.{Sound-key, parameter_of, true_value}
 use Rattle.sfv_model.proofs.sound.Members.{IsClosed, IsNextItem, Sound-inner_item, Sound-next_item, Consumes-next_item}
 use Rattle.sfv_model.proofs.sound.Members.{IsItems, items_with, bracket, Sound-items, inner_text, given}
-use Rattle.sfv_model.proofs.sound.Members.{Sound-member_value, keyed}
-use Rattle.sfv_model.proofs.sound.Steps.{Sound-steps}
+use Rattle.sfv_model.proofs.sound.{Members.{Sound-member_value, keyed}, Steps.Sound-steps}
 use Rattle.sfv_model.proofs.texts.Joining.{joining_none, joining_push, joined_split}
-use Rattle.sfv_model.proofs.faults.Combinators.{Rules, Rules-give, Rules-span, Rules-led, Rules-bind, Rules-branch}
-use Rattle.sfv_model.proofs.faults.Combinators.{Rules-ahead, Rules-any, Rules-weaker, fail_at}
-use Rattle.sfv_model.proofs.faults.Many.{Rules-many}
-use Rattle.sfv_model.proofs.faults.InnerListCutOff.{joining_last}
-use Rattle.sfv_model.proofs.faults.ItemEnds.{IsTight, tight_after, item_tight, outer_space, second_longer, tight_both}
-use Rattle.sfv_model.proofs.faults.ItemEnds.{joining_tight, after_front}
 
 -- front ends in an inner list, where a parenthesis can stand, and, after an item, a parameter too. The events `es` come
 -- before its end

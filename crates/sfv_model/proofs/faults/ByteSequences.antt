@@ -1,16 +1,11 @@
 -- The faults of Byte Sequences, and what shows that there are no others.
 use Rattle.std.proofs.Common.{◌≡◌, ℕ, ◌+◌, List, [], ◌∷◌, ◌++◌, drop, refl, sym, ◌∙◌, ap, subst, false, inl, inr}
-use Rattle.std.proofs.Common.{Option, Some, None, Ok, Err}
-use Rattle.std.specs.Prelude.{not}
-use Rattle.std.specs.List.{list_all, list_any}
-use Rattle.std.proofs.lemmas.Bool.{and_parts, cases_Bool, not-true}
-use Rattle.std.proofs.lemmas.List.{drop-drop}
-use Rattle.sfv_spec.proofs.Marks.{colon}
-use Rattle.sfv_spec.specs.declared.error_kind.ErrorKind.TheVariants.{UnterminatedByteSequence}
-use Rattle.sfv_model.specs.Reader.{Fault, by_rule}
-use Rattle.sfv_model.specs.Content.{bytes_of, fault_place, is_colon, HasNoColon, content_in, content_fault, closed_by}
-use Rattle.sfv_model.specs.Content.{bytes_at, IsBytesAt, IsInvalidAt}
+use Rattle.std.proofs.Common.{Option, Some, None, Ok, Err, not, drop-drop}
+use Rattle.std.{specs.List.{list_all, list_any}, proofs.lemmas.Bool.{and_parts, cases_Bool, not-true}}
+use Rattle.sfv_spec.{specs.declared.error_kind.ErrorKind.TheVariants.UnterminatedByteSequence, proofs.Marks.colon}
 use Rattle.sfv_model.specs.Claims.{IsBytesFault}
+use Rattle.sfv_model.specs.Content.{bytes_of, fault_place, is_colon, HasNoColon, content_in, content_fault, closed_by}
+use Rattle.sfv_model.specs.{Content.{bytes_at, IsBytesAt, IsInvalidAt}, Reader.{Fault, by_rule}}
 use Rattle.sfv_model.proofs.sound.ByteSequences.{no_colon, content_split, read_closed, read_value, read_fault}
 use Rattle.sfv_model.proofs.sound.ByteSequences.{read_unclosed}
 

@@ -1,29 +1,18 @@
 -- A fault of a Display String is the one that its rule says.
 use Rattle.std.proofs.Common.{◌≡◌, ℕ, zero, suc, ◌≤◌, ◌+◌, ◌-◌, not, ◌||◌, List, [], ◌∷◌, ◌++◌, length, take, drop}
-use Rattle.std.proofs.Common.{refl, sym, ap, subst, ◌∙◌, append_assoc, arith, inl, inr}
-use Rattle.std.specs.Prelude.{◌==◌, codes}
-use Rattle.std.specs.List.{concat, AllZip}
-use Rattle.std.specs.Str.Lossy.{utf8_valid_len}
-use Rattle.std.proofs.lemmas.Bool.{and_parts, or_parts, not-true, both_ways}
-use Rattle.std.proofs.lemmas.List.{length-append, take_at}
-use Rattle.std.proofs.Math.Seq.{take-append-add}
-use Rattle.std.proofs.lemmas.Str.{utf8_valid_len_le}
-use Rattle.sfv_spec.proofs.Marks.{double_quote, percent_sign, AreDisplayPieces}
-use Rattle.sfv_spec.specs.Texts.{begins_with, IsLongestBeginning}
+use Rattle.std.proofs.Common.{refl, sym, ap, subst, ◌∙◌, append_assoc, arith, inl, inr, ◌==◌, codes, length-append}
+use Rattle.std.proofs.Common.{take_at}
+use Rattle.std.{specs.List.{concat, AllZip}, specs.Str.Lossy.utf8_valid_len, proofs.Math.Seq.take-append-add}
+use Rattle.std.proofs.lemmas.{Bool.{and_parts, or_parts, not-true, both_ways}, Str.utf8_valid_len_le}
 use Rattle.sfv_spec.specs.Classes.{is_string_byte, is_lower_hexadecimal}
-use Rattle.sfv_spec.specs.declared.field_kind.FieldKind.{FieldKind}
-use Rattle.sfv_spec.specs.declared.version.Version.{Version}
-use Rattle.sfv_spec.specs.declared.version.Version.TheVariants.{Rfc9651}
-use Rattle.sfv_spec.specs.Strings.{IsDisplayPiece}
-use Rattle.sfv_spec.specs.declared.error_kind.ErrorKind.{ErrorKind}
-use Rattle.sfv_spec.specs.declared.error_kind.ErrorKind.TheVariants.{UnterminatedEscapeSequence, InvalidEscapeSequence}
-use Rattle.sfv_spec.specs.declared.error_kind.ErrorKind.TheVariants.{InvalidUtf8InDisplayString}
-use Rattle.sfv_spec.specs.declared.error_kind.ErrorKind.TheVariants.{InvalidDisplayStringCharacter}
-use Rattle.sfv_spec.specs.declared.error_kind.ErrorKind.TheVariants.{UnterminatedDisplayString}
-use Rattle.sfv_spec.specs.Faults.{DisplayFault, open_display, open_escape, wrong_escape, wrong_byte}
-use Rattle.sfv_spec.proofs.Marks.{WantsBetween}
-use Rattle.sfv_spec.specs.Faults.{wrong_utf8, RuledFault, bare, display}
+use Rattle.sfv_spec.specs.Faults.{DisplayFault, open_display, open_escape, wrong_escape, wrong_byte, wrong_utf8}
+use Rattle.sfv_spec.specs.Faults.{RuledFault, bare, display}
+use Rattle.sfv_spec.specs.{Strings.IsDisplayPiece, Texts.{begins_with, IsLongestBeginning}}
+use Rattle.sfv_spec.proofs.Marks.{double_quote, percent_sign, AreDisplayPieces, WantsBetween}
 use Rattle.sfv_model.specs.Quoted.{outside, after_pieces, DisplayStops, IsDisplayFault}
+use Rattle.sfv_model.proofs.Types.{FieldKind, Version, Rfc9651, ErrorKind, UnterminatedEscapeSequence}
+use Rattle.sfv_model.proofs.Types.{InvalidEscapeSequence, InvalidUtf8InDisplayString, InvalidDisplayStringCharacter}
+use Rattle.sfv_model.proofs.Types.{UnterminatedDisplayString}
 use Rattle.sfv_model.proofs.quoted.Pieces.{closed, closed_past, closed_pieces, IsStuck, stuck, stuck_quote}
 use Rattle.sfv_model.proofs.texts.Utf8.{longest_text}
 

@@ -1,26 +1,15 @@
 -- A rule for a Display String holds only where the reader gives that fault, at that place.
 use Rattle.std.proofs.Common.{◌≡◌, ℕ, ◌≤◌, ◌+◌, ◌*◌, ◌&&◌, List, [], ◌∷◌, ◌++◌, length, take, refl, sym, ap, subst, ◌∙◌}
-use Rattle.std.proofs.Common.{append_assoc, arith, inr}
-use Rattle.std.specs.Prelude.{not}
-use Rattle.std.specs.List.{concat, AllZip, list_all}
-use Rattle.std.specs.Str.Lossy.{utf8_valid_len}
-use Rattle.std.proofs.lemmas.Bool.{and_parts, and_from, not-true}
-use Rattle.std.proofs.lemmas.List.{length-append, append-nil, take_at}
-use Rattle.std.proofs.lemmas.Str.{utf8_valid_len_le}
-use Rattle.sfv_spec.proofs.Marks.{percent_sign, AreDisplayPieces}
-use Rattle.sfv_spec.specs.Texts.{RunOf, IsLongestBeginning}
+use Rattle.std.proofs.Common.{append_assoc, arith, inr, not, length-append, append-nil, take_at}
+use Rattle.std.specs.{Char.digit_value as hexadecimal_value, List.{concat, AllZip, list_all}, Str.Lossy.utf8_valid_len}
+use Rattle.std.proofs.lemmas.{Bool.{and_parts, and_from, not-true}, Str.utf8_valid_len_le}
 use Rattle.sfv_spec.specs.Classes.{is_string_byte, is_lower_hexadecimal}
-use Rattle.sfv_spec.specs.Strings.{IsDisplayPiece}
-use Rattle.std.specs.Char.{digit_value as hexadecimal_value}
-use Rattle.sfv_spec.proofs.Versions.{one_longest}
 use Rattle.sfv_spec.specs.Faults.{DisplayFault, open_display, open_escape, wrong_escape, wrong_byte, wrong_utf8}
-use Rattle.sfv_spec.specs.declared.error_kind.ErrorKind.{ErrorKind}
-use Rattle.sfv_model.specs.Quoted.{IsDisplayFault}
-use Rattle.sfv_model.proofs.faults.Quoted.{traced}
-use Rattle.sfv_model.proofs.sound.Quoted.{zip_more, concat_more}
-use Rattle.sfv_model.proofs.faults.NumberShapes.{next_of}
-use Rattle.sfv_model.proofs.faults.DisplayFaultIsRule.{after_drop}
-use Rattle.sfv_model.proofs.texts.Utf8.{longest_text}
+use Rattle.sfv_spec.specs.{Strings.IsDisplayPiece, Texts.{RunOf, IsLongestBeginning}}
+use Rattle.sfv_spec.proofs.{Marks.{percent_sign, AreDisplayPieces}, Versions.one_longest}
+use Rattle.sfv_model.{specs.Quoted.IsDisplayFault, proofs.Types.ErrorKind}
+use Rattle.sfv_model.proofs.faults.{DisplayFaultIsRule.after_drop, NumberShapes.next_of, Quoted.traced}
+use Rattle.sfv_model.proofs.{sound.Quoted.{zip_more, concat_more}, texts.Utf8.longest_text}
 
 -- no piece more can be read of what is left
 abbrev IsLongest : List (List ℕ) → List ℕ → Type 0

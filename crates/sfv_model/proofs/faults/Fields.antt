@@ -1,40 +1,27 @@
 -- Where the faults between the members of a field stand.
 use Rattle.std.proofs.Common.{◌≡◌, ℕ, List, [], ◌∷◌, ◌++◌, Option, Some, None, Ok, refl, sym, ap, subst, ◌∙◌}
-use Rattle.std.proofs.Common.{append_assoc}
-use Rattle.std.proofs.lemmas.List.{append-nil}
-use Rattle.std.proofs.lemmas.Bool.{eqb-true}
-use Rattle.sfv_spec.proofs.Marks.{comma, is_space, is_space_or_tab}
-use Rattle.sfv_spec.specs.Texts.{RunOf, IsJoining}
-use Rattle.sfv_spec.specs.Values.{RawField, HasMember}
-use Rattle.sfv_spec.specs.declared.field_kind.FieldKind.{FieldKind}
-use Rattle.sfv_spec.specs.declared.field_kind.FieldKind.TheVariants.{Item as item_field, List as list_field}
-use Rattle.sfv_spec.specs.declared.field_kind.FieldKind.TheVariants.{Dictionary as dictionary_field}
-use Rattle.sfv_spec.specs.declared.version.Version.{Version}
-use Rattle.sfv_spec.specs.Grammar.{OptionalWhitespace, IsMemberText, IsDictionaryMemberText, IsFieldText}
-use Rattle.sfv_spec.specs.Grammar.{AreMembersText}
-use Rattle.std.specs.Prelude.{flat_map}
+use Rattle.std.proofs.Common.{append_assoc, append-nil, eqb-true, flat_map}
 use Rattle.sfv_spec.specs.Events.{TreeEvent, entry_events, keyed_events, events}
-use Rattle.sfv_model.specs.Commas.{HasManyMembers}
-use Rattle.sfv_spec.specs.declared.error_kind.ErrorKind.TheVariants.{TrailingComma, TrailingCharactersAfterMember}
-use Rattle.sfv_model.specs.Reader.{Fault, Reader, by_rule, byte, any, ahead, back, many, ◌>>=◌, give}
-use Rattle.sfv_model.specs.Fields.{comma_at, next_at, members_at, whole_field_at}
+use Rattle.sfv_spec.specs.Grammar.{OptionalWhitespace, IsMemberText, IsDictionaryMemberText, IsFieldText}
+use Rattle.sfv_spec.specs.{Grammar.AreMembersText, Texts.{RunOf, IsJoining}, Values.{RawField, HasMember}}
+use Rattle.sfv_spec.proofs.Marks.{comma, is_space, is_space_or_tab}
+use Rattle.sfv_model.specs.{Commas.HasManyMembers, Fields.{comma_at, next_at, members_at, whole_field_at}}
 use Rattle.sfv_model.specs.Members.{entry_at, keyed_at}
-use Rattle.sfv_model.proofs.sound.Combinators.{Sound-back, Steady-span, Reads, Somewhere, Goes}
-use Rattle.sfv_model.proofs.complete.Combinators.{branch_take, bind_complete}
-use Rattle.sfv_model.proofs.texts.Joining.{joined_split}
-use Rattle.sfv_model.proofs.sound.Steps.{Sound-steps}
-use Rattle.sfv_model.proofs.sound.Members.{Sound-entry, Sound-keyed}
-use Rattle.sfv_model.proofs.sound.Separated.{IsComma, Sound-comma, IsNext, Sound-next, Consumes-next}
-use Rattle.sfv_model.proofs.sound.Separated.{dictionary_members_text}
+use Rattle.sfv_model.specs.Reader.{Fault, Reader, by_rule, byte, any, ahead, back, many, ◌>>=◌, give}
 use Rattle.sfv_model.proofs.TrailingBytes.{Shuns-item, Shuns-bind, Shuns-span, Shuns-give}
-use Rattle.sfv_model.proofs.faults.Combinators.{Rules, Rules-give, Rules-span, Rules-led, Rules-bind, Rules-branch}
-use Rattle.sfv_model.proofs.faults.Combinators.{Rules-back, Rules-ahead, Rules-any, Rules-weaker, fail_at, no_fault}
-use Rattle.sfv_model.proofs.faults.Combinators.{ahead_at}
-use Rattle.sfv_model.proofs.faults.Many.{Rules-many}
-use Rattle.sfv_model.proofs.faults.InnerListCutOff.{put, put_events, spaces, members}
-use Rattle.sfv_model.proofs.faults.ItemEnds.{parted}
+use Rattle.sfv_model.proofs.Types.{FieldKind, item_field, list_field, dictionary_field, Version, TrailingComma}
+use Rattle.sfv_model.proofs.{Types.TrailingCharactersAfterMember, complete.Combinators.{branch_take, bind_complete}}
 use Rattle.sfv_model.proofs.faults.BetweenInnerItems.{Stands, HasNone, stands_within, Rules-other, entry_rules}
 use Rattle.sfv_model.proofs.faults.BetweenInnerItems.{keyed_rules}
+use Rattle.sfv_model.proofs.faults.Combinators.{Rules, Rules-give, Rules-span, Rules-led, Rules-bind, Rules-branch}
+use Rattle.sfv_model.proofs.faults.Combinators.{Rules-back, Rules-ahead, Rules-any, Rules-weaker, fail_at, no_fault}
+use Rattle.sfv_model.proofs.faults.{Combinators.ahead_at, InnerListCutOff.{put, put_events, spaces, members}}
+use Rattle.sfv_model.proofs.faults.{ItemEnds.parted, Many.Rules-many}
+use Rattle.sfv_model.proofs.sound.Combinators.{Sound-back, Steady-span, Reads, Somewhere, Goes}
+use Rattle.sfv_model.proofs.sound.Members.{Sound-entry, Sound-keyed}
+use Rattle.sfv_model.proofs.sound.Separated.{IsComma, Sound-comma, IsNext, Sound-next, Consumes-next}
+use Rattle.sfv_model.proofs.sound.{Separated.dictionary_members_text, Steps.Sound-steps}
+use Rattle.sfv_model.proofs.texts.Joining.{joined_split}
 
 -- no member after the comma: the text ends
 comma_none : (r q : List ℕ) → comma_at (comma ∷ r) ≡ Ok (None, q) → RunOf is_space_or_tab r

@@ -1,44 +1,37 @@
 -- Where the end cuts an inner list off, that is the fault.
 use Rattle.std.proofs.Common.{◌≡◌, ℕ, ◌≤◌, Bool, true, false, eqb, List, [], ◌∷◌, ◌++◌, length, Ok, Err, refl, sym, ap}
-use Rattle.std.proofs.Common.{subst, ◌∙◌, append_assoc, arith, inl, inr, ◌⊎◌, flat_map}
-use Rattle.std.proofs.lemmas.List.{append-nil, append_cancel_right, length-append, nil_from_length}
-use Rattle.std.proofs.lemmas.Bool.{true≢false, eqb-true, both_ways, or_parts}
-use Rattle.sfv_spec.proofs.Marks.{space, equals_sign, left_parenthesis, right_parenthesis, comma, is_space}
-use Rattle.sfv_spec.proofs.Marks.{is_space_or_tab, tab}
-use Rattle.sfv_spec.specs.Texts.{RunOf, IsJoining, ◌⨾◌}
+use Rattle.std.proofs.Common.{subst, ◌∙◌, append_assoc, arith, inl, inr, ◌⊎◌, flat_map, append-nil, length-append}
+use Rattle.std.proofs.Common.{true≢false, eqb-true}
+use Rattle.std.proofs.lemmas.{Bool.{both_ways, or_parts}, List.{append_cancel_right, nil_from_length}}
 use Rattle.sfv_spec.specs.Classes.{is_key_inner}
-use Rattle.sfv_spec.specs.Values.{RawField, RawItem, RawInnerList, RawMember, item, inner_list}
-use Rattle.sfv_spec.specs.declared.field_kind.FieldKind.{FieldKind}
-use Rattle.sfv_spec.specs.declared.field_kind.FieldKind.TheVariants.{Item as item_field, List as list_field}
-use Rattle.sfv_spec.specs.declared.field_kind.FieldKind.TheVariants.{Dictionary as dictionary_field}
-use Rattle.sfv_spec.specs.declared.version.Version.{Version}
 use Rattle.sfv_spec.specs.Events.{TreeEvent, entry, keyed_entry, begins_inner_list, inner_item_events, entry_events}
 use Rattle.sfv_spec.specs.Events.{keyed_events, events}
 use Rattle.sfv_spec.specs.Grammar.{IsKeyText, IsMemberValueText, IsMemberText, IsDictionaryMemberText, AreMembersText}
-use Rattle.sfv_spec.specs.Grammar.{IsFieldText, Comma}
-use Rattle.sfv_spec.specs.declared.error_kind.ErrorKind.TheVariants.{UnterminatedInnerList}
-use Rattle.sfv_spec.proofs.Settled.{joining-nil, joining-cons}
+use Rattle.sfv_spec.specs.{Grammar.{IsFieldText, Comma}, Texts.{RunOf, IsJoining, ◌⨾◌}}
+use Rattle.sfv_spec.specs.Values.{RawField, RawItem, RawInnerList, RawMember, item, inner_list}
+use Rattle.sfv_spec.proofs.Bare.{is_bare_start}
+use Rattle.sfv_spec.proofs.Marks.{space, equals_sign, left_parenthesis, right_parenthesis, comma, is_space}
+use Rattle.sfv_spec.proofs.{Marks.{is_space_or_tab, tab}, Settled.{joining-nil, joining-cons}}
+use Rattle.sfv_model.specs.Fields.{next_at, members_at, whole_field_at, ending, read_field}
+use Rattle.sfv_model.specs.Members.{next_item_at, inner_items_at, inner_at, member_at, entry_at, member_value_at}
+use Rattle.sfv_model.specs.{Members.keyed_at, Places.OpenListIsRead}
 use Rattle.sfv_model.specs.Reader.{Fault, Reader, Apart, at_reach, after_events, fail, give, ◌>>=◌, led, branch, ahead}
 use Rattle.sfv_model.specs.Reader.{many}
-use Rattle.sfv_model.specs.Members.{next_item_at, inner_items_at, inner_at, member_at, entry_at, member_value_at}
-use Rattle.sfv_model.specs.Members.{keyed_at}
-use Rattle.sfv_model.specs.Fields.{next_at, members_at, whole_field_at, ending, read_field}
-use Rattle.sfv_model.proofs.sound.Combinators.{run_head, run_tail, Reads, Goes}
-use Rattle.sfv_model.proofs.sound.Separated.{IsNext, comma_complete, members_met, blank_ends}
-use Rattle.sfv_model.proofs.complete.Items.{blank_ends as blank_ends_item, lengthens_item, key_complete, item_no}
-use Rattle.sfv_model.proofs.complete.Items.{item_begun, begun_some}
-use Rattle.sfv_model.proofs.complete.Fields.{comma_ends}
+use Rattle.sfv_model.proofs.Types.{FieldKind, item_field, list_field, dictionary_field, Version, UnterminatedInnerList}
 use Rattle.sfv_model.proofs.complete.Combinators.{ahead_take, Apart-nil, Apart-cons, Apart-part, branch_past}
 use Rattle.sfv_model.proofs.complete.Combinators.{branch_take, ahead_any, bind_complete, span_complete}
-use Rattle.sfv_model.proofs.sound.Members.{IsClosed, IsNextItem, Consumes-next_item, IsItems, Sound-entry, Sound-keyed}
-use Rattle.sfv_model.proofs.texts.Joining.{events_push, split_joined, joining_none, joining_into, joining_push}
+use Rattle.sfv_model.proofs.complete.Fields.{comma_ends}
+use Rattle.sfv_model.proofs.complete.Items.{blank_ends as blank_ends_item, lengthens_item, key_complete, item_no}
+use Rattle.sfv_model.proofs.complete.Items.{item_begun, begun_some}
 use Rattle.sfv_model.proofs.complete.Members.{inner_item_complete, next_item_complete, inner_parts, entry_complete}
 use Rattle.sfv_model.proofs.complete.Members.{entry_fresh, keyed_complete, keyed_fresh}
-use Rattle.sfv_model.specs.Places.{OpenListIsRead}
-use Rattle.sfv_spec.proofs.Bare.{is_bare_start}
-use Rattle.sfv_model.proofs.faults.PiecesToFault.{bind_met, led_met, many_met}
 use Rattle.sfv_model.proofs.faults.ItemEnds.{parted, tight_after, not_last, outer_parenthesis, item_tight}
 use Rattle.sfv_model.proofs.faults.ItemEnds.{parameters_tight, key_tight, tight_both}
+use Rattle.sfv_model.proofs.faults.PiecesToFault.{bind_met, led_met, many_met}
+use Rattle.sfv_model.proofs.sound.Combinators.{run_head, run_tail, Reads, Goes}
+use Rattle.sfv_model.proofs.sound.Members.{IsClosed, IsNextItem, Consumes-next_item, IsItems, Sound-entry, Sound-keyed}
+use Rattle.sfv_model.proofs.sound.Separated.{IsNext, comma_complete, members_met, blank_ends}
+use Rattle.sfv_model.proofs.texts.Joining.{events_push, split_joined, joining_none, joining_into, joining_push}
 
 abbrev pub IsCut : Fault → Type 0
 IsCut e = (e.kind ≡ UnterminatedInnerList) × (e.rest ≡ []) × (e.exact ≡ true)

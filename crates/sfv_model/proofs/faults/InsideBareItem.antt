@@ -1,34 +1,24 @@
 -- What can stand in a bare item in place of a question mark or an asterisk.
 use Rattle.std.proofs.Common.{◌≡◌, ℕ, zero, suc, ◌<◌, Bool, true, false, ◌||◌, ℤ, List, [], ◌∷◌, ◌++◌, length, map}
-use Rattle.std.proofs.Common.{replicate, refl, sym, ap, subst, ◌∙◌, append_assoc, arith, inl, inr}
-use Rattle.std.specs.Prelude.{not, ◌==◌, ◌⊎◌, IsTrue, IsUtf8, codes}
+use Rattle.std.proofs.Common.{replicate, refl, sym, ap, subst, ◌∙◌, append_assoc, arith, inl, inr, not, ◌==◌, ◌⊎◌}
+use Rattle.std.proofs.Common.{IsTrue, IsUtf8, codes, true≢false, leb-true, append-nil, length-append, take_at}
 use Rattle.std.specs.List.{list_all}
-use Rattle.std.proofs.Math.Seq.{get_or-append_seam}
-use Rattle.std.proofs.lemmas.Bool.{and_parts, and_from, true≢false, both_ways, or_left, and_right, leb-true}
-use Rattle.std.proofs.lemmas.List.{append-nil, length-append, take_at}
-use Rattle.std.proofs.lemmas.List.Folds.{list_all-append}
-use Rattle.std.proofs.lemmas.Str.{IsUtf8-take, IsUtf8-append, IsCharBoundary-before_ascii}
+use Rattle.std.proofs.{Math.Seq.get_or-append_seam, lemmas.Bool.{and_parts, and_from, both_ways, or_left, and_right}}
+use Rattle.std.proofs.lemmas.{List.Folds.list_all-append, Str.{IsUtf8-take, IsUtf8-append, IsCharBoundary-before_ascii}}
+use Rattle.sfv_spec.specs.Base64.{symbol}
+use Rattle.sfv_spec.specs.Classes.{is_token_start, is_token_inner, is_token, is_string_byte, is_lower_hexadecimal}
+use Rattle.sfv_spec.specs.{Grammar.IsBareText, Numbers.{signed, place_value, IsIntegerText, IsDecimalText}}
+use Rattle.sfv_spec.specs.{Strings.{IsStringPiece, is_plain_in_display, IsDisplayPiece}, Texts.{RunOf, IsJoining}}
+use Rattle.sfv_spec.specs.Values.{BareValue, integer, decimal, string, token, byte_sequence, boolean, date}
+use Rattle.sfv_spec.specs.{Values.display_string, declared.version.Version.Version}
 use Rattle.sfv_spec.proofs.Marks.{double_quote, percent_sign, asterisk, colon, minus_sign, dot, question_mark, at_sign}
 use Rattle.sfv_spec.proofs.Marks.{backslash, equals_sign, is_digit, minus_text, is_symbol, is_plain_in_string}
-use Rattle.sfv_spec.specs.Texts.{RunOf, IsJoining}
-use Rattle.sfv_spec.specs.Classes.{is_token_start, is_token_inner, is_token, is_string_byte, is_lower_hexadecimal}
-use Rattle.sfv_spec.specs.Values.{BareValue, integer, decimal, string, token, byte_sequence, boolean, date}
-use Rattle.sfv_spec.specs.Values.{display_string}
-use Rattle.sfv_spec.specs.declared.version.Version.{Version}
-use Rattle.sfv_spec.specs.Numbers.{signed, place_value, IsIntegerText, IsDecimalText}
-use Rattle.sfv_spec.specs.Base64.{symbol}
-use Rattle.sfv_spec.specs.Strings.{IsStringPiece, is_plain_in_display, IsDisplayPiece}
-use Rattle.sfv_spec.specs.Grammar.{IsBareText}
 use Rattle.sfv_spec.proofs.Settled.{joining-nil, joining-cons}
-use Rattle.sfv_model.proofs.faults.ItemEnds.{parted}
-use Rattle.sfv_model.specs.Content.{IsBytesEnd}
-use Rattle.sfv_model.specs.Quoted.{IsStringEnd, IsDisplayEnd}
 use Rattle.sfv_model.specs.BareFaults.{MarkInside, AsteriskInside}
-use Rattle.sfv_model.proofs.base64.Shape.{are_symbols}
-use Rattle.sfv_model.proofs.quoted.DisplaySteps.{plain_utf8}
+use Rattle.sfv_model.specs.{Content.IsBytesEnd, Quoted.{IsStringEnd, IsDisplayEnd}}
+use Rattle.sfv_model.proofs.{base64.Shape.are_symbols, faults.ItemEnds.parted, quoted.DisplaySteps.plain_utf8}
 use Rattle.sfv_model.proofs.sound.Combinators.{run_cons, run_head}
-use Rattle.sfv_model.proofs.texts.Joining.{joining_none, joining_into, joining_append, joining_run}
-use Rattle.sfv_model.proofs.texts.Ranges.{run_weaker}
+use Rattle.sfv_model.proofs.texts.{Joining.{joining_none, joining_into, joining_append, joining_run}, Ranges.run_weaker}
 
 -- ---- a byte in a run
 

@@ -1,22 +1,15 @@
 -- The text of an item ends with no space, and with no parenthesis.
 use Rattle.std.proofs.Common.{◌≡◌, ℕ, ◌≤◌, Bool, true, false, eqb, List, [], ◌∷◌, ◌++◌, length, refl, sym, ap, subst}
-use Rattle.std.proofs.Common.{◌∙◌, append_assoc, arith, inl, inr, ◌⊎◌}
-use Rattle.std.specs.Prelude.{codes}
-use Rattle.std.specs.List.{list_all}
-use Rattle.std.proofs.lemmas.List.{append-nil, length-append}
-use Rattle.std.proofs.lemmas.Bool.{and_parts, both_ways, eq-eqb, true≢false}
-use Rattle.sfv_spec.proofs.Marks.{space, double_quote, colon, digit_zero, right_parenthesis, digit_one, is_digit}
-use Rattle.sfv_spec.specs.Texts.{IsJoining, RunOf, ◌⨾◌, Exactly}
+use Rattle.std.proofs.Common.{◌∙◌, append_assoc, arith, inl, inr, ◌⊎◌, codes, append-nil, length-append, eq-eqb}
+use Rattle.std.{proofs.Common.true≢false, specs.List.list_all, proofs.lemmas.Bool.{and_parts, both_ways}}
 use Rattle.sfv_spec.specs.Classes.{is_token_start, is_token_inner, is_key_start, is_key_inner}
-use Rattle.sfv_spec.specs.Values.{BareValue, integer, decimal, string, token, byte_sequence, boolean, date}
-use Rattle.sfv_spec.specs.Values.{display_string, RawParameters, RawItem}
-use Rattle.sfv_spec.specs.declared.version.Version.{Version}
-use Rattle.sfv_spec.specs.Numbers.{IsIntegerText, AreDigits}
 use Rattle.sfv_spec.specs.Grammar.{IsBareText, IsKeyText, IsValueText, IsParametersText, IsItemText}
-use Rattle.sfv_spec.proofs.Marks.{IsParameterText}
-use Rattle.sfv_spec.proofs.Settled.{joining-nil, joining-cons}
-use Rattle.sfv_model.proofs.sound.Combinators.{run_head, run_tail}
-use Rattle.sfv_model.proofs.complete.Bare.{apart_from}
+use Rattle.sfv_spec.specs.{Numbers.{IsIntegerText, AreDigits}, Texts.{IsJoining, RunOf, ◌⨾◌, Exactly}}
+use Rattle.sfv_spec.specs.Values.{BareValue, integer, decimal, string, token, byte_sequence, boolean, date}
+use Rattle.sfv_spec.specs.{Values.{display_string, RawParameters, RawItem}, declared.version.Version.Version}
+use Rattle.sfv_spec.proofs.Marks.{space, double_quote, colon, digit_zero, right_parenthesis, digit_one, is_digit}
+use Rattle.sfv_spec.proofs.{Marks.IsParameterText, Settled.{joining-nil, joining-cons}}
+use Rattle.sfv_model.proofs.{complete.Bare.apart_from, sound.Combinators.{run_head, run_tail}}
 
 -- a text in two parts
 abbrev pub parted : {P Q : List ℕ → Type 0} (a b t : List ℕ) → t ≡ a ++ b → P a → Q b → (P ⨾ Q) t

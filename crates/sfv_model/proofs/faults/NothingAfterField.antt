@@ -1,36 +1,20 @@
 -- A parameter and a parenthesis stand nowhere after a whole field with a member.
 use Rattle.std.proofs.Common.{◌≡◌, ℕ, true, eqb, List, [], ◌∷◌, ◌++◌, refl, sym, ap, subst, ◌∙◌, append_assoc, inl, inr}
-use Rattle.std.specs.Prelude.{codes}
-use Rattle.std.proofs.lemmas.List.{append-nil}
-use Rattle.std.proofs.lemmas.Bool.{or_left, and_from}
-use Rattle.std.proofs.lemmas.List.Folds.{list_all-append}
-use Rattle.sfv_spec.proofs.Marks.{tab, semicolon, is_space, is_space_or_tab, true_with}
-use Rattle.sfv_spec.specs.Texts.{RunOf, ◌⨾◌}
-use Rattle.sfv_spec.specs.Values.{RawField, RawMember, item, inner_list, boolean, RawParameters, RawItem, HasMember}
-use Rattle.sfv_spec.specs.declared.field_kind.FieldKind.{FieldKind}
-use Rattle.sfv_spec.specs.declared.field_kind.FieldKind.TheVariants.{Item as item_field, List as list_field}
-use Rattle.sfv_spec.specs.declared.field_kind.FieldKind.TheVariants.{Dictionary as dictionary_field}
-use Rattle.sfv_spec.specs.declared.version.Version.{Version}
-use Rattle.sfv_spec.specs.Grammar.{IsParametersText, IsMemberText, IsMemberValueText}
-use Rattle.sfv_spec.proofs.Marks.{IsParameterText}
-use Rattle.sfv_spec.specs.Grammar.{IsDictionaryMemberText, AreMembersText, IsItemText, Spaces, IsFieldText, IsAccepted}
-use Rattle.sfv_model.specs.Commas.{HasManyMembers}
-use Rattle.sfv_spec.specs.declared.error_kind.ErrorKind.TheVariants.{TrailingCharactersAfterMember}
-use Rattle.sfv_model.specs.Reader.{Apart, Reader, at_reach}
-use Rattle.sfv_model.specs.Members.{inner_of, entry_at, keyed_at}
-use Rattle.sfv_model.specs.Fields.{next_at, whole_field_at}
-use Rattle.sfv_model.proofs.sound.Combinators.{run_head}
-use Rattle.sfv_model.proofs.sound.Members.{inner_text}
-use Rattle.sfv_model.proofs.texts.Joining.{joining_push}
-use Rattle.sfv_model.proofs.complete.Combinators.{Apart-cons}
-use Rattle.sfv_model.proofs.complete.Items.{lengthens_item, blank_ends}
-use Rattle.sfv_model.proofs.complete.Members.{inner_parts}
-use Rattle.sfv_model.proofs.complete.Fields.{item_field_complete, field_complete}
-use Rattle.sfv_model.proofs.faults.BetweenInnerItems.{parameter_a, item_longer}
-use Rattle.sfv_model.proofs.faults.InnerListCutOff.{IsLast, last_of, put}
-use Rattle.sfv_model.proofs.faults.ItemEnds.{parted, second_longer}
+use Rattle.std.proofs.{Common.{codes, append-nil}, lemmas.Bool.{or_left, and_from}, lemmas.List.Folds.list_all-append}
 use Rattle.sfv_spec.specs.Events.{TreeEvent, entry_events, keyed_events}
-use Rattle.sfv_model.proofs.faults.TrailingCommas.{met, byte_met, not_bracketed}
+use Rattle.sfv_spec.specs.Grammar.{IsParametersText, IsMemberText, IsMemberValueText, IsDictionaryMemberText}
+use Rattle.sfv_spec.specs.{Grammar.{AreMembersText, IsItemText, Spaces, IsFieldText, IsAccepted}, Texts.{RunOf, ◌⨾◌}}
+use Rattle.sfv_spec.specs.Values.{RawField, RawMember, item, inner_list, boolean, RawParameters, RawItem, HasMember}
+use Rattle.sfv_spec.proofs.Marks.{tab, semicolon, is_space, is_space_or_tab, true_with, IsParameterText}
+use Rattle.sfv_model.specs.{Commas.HasManyMembers, Fields.{next_at, whole_field_at}}
+use Rattle.sfv_model.specs.{Members.{inner_of, entry_at, keyed_at}, Reader.{Apart, Reader, at_reach}}
+use Rattle.sfv_model.proofs.Types.{FieldKind, item_field, list_field, dictionary_field, Version}
+use Rattle.sfv_model.proofs.{Types.TrailingCharactersAfterMember, complete.Combinators.Apart-cons}
+use Rattle.sfv_model.proofs.complete.{Fields.{item_field_complete, field_complete}, Items.{lengthens_item, blank_ends}}
+use Rattle.sfv_model.proofs.{complete.Members.inner_parts, faults.BetweenInnerItems.{parameter_a, item_longer}}
+use Rattle.sfv_model.proofs.faults.InnerListCutOff.{IsLast, last_of, put}
+use Rattle.sfv_model.proofs.faults.{ItemEnds.{parted, second_longer}, TrailingCommas.{met, byte_met, not_bracketed}}
+use Rattle.sfv_model.proofs.{sound.Combinators.run_head, sound.Members.inner_text, texts.Joining.joining_push}
 
 -- ---- one more parameter
 

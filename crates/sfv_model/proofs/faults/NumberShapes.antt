@@ -1,26 +1,21 @@
 -- What the reader of numbers gives, by the shape of the text: each text has one.
 use Rattle.std.proofs.Common.{◌≡◌, ℕ, zero, suc, ◌≤◌, ◌⊎◌, Bool, true, false, not, ℤ, List, [], ◌∷◌, ◌++◌, ◌||◌, length}
-use Rattle.std.proofs.Common.{Ok, Err, refl, sym, ap, ◌∙◌, append_assoc, arith, inl, inr}
-use Rattle.std.specs.Prelude.{◌==◌}
-use Rattle.std.proofs.lemmas.Bool.{cases_Bool, eqb-true, cases_lt, true≢false, or_from, le-ltb, lt-ltb}
-use Rattle.std.proofs.lemmas.List.{nil_from_length}
-use Rattle.sfv_spec.proofs.Marks.{minus_sign, dot, is_digit, minus_text}
-use Rattle.sfv_spec.specs.Texts.{begins_with, RunOf}
-use Rattle.sfv_spec.specs.Values.{BareValue, integer, decimal}
+use Rattle.std.proofs.Common.{Ok, Err, refl, sym, ap, ◌∙◌, append_assoc, arith, inl, inr, ◌==◌, eqb-true, true≢false}
+use Rattle.std.proofs.Common.{le-ltb, lt-ltb}
+use Rattle.std.proofs.lemmas.{Bool.{cases_Bool, cases_lt, or_from}, List.nil_from_length}
 use Rattle.sfv_spec.specs.Numbers.{AreDigits, signed, place_value, IsIntegerText, IsDecimalText}
-use Rattle.sfv_spec.specs.declared.error_kind.ErrorKind.TheVariants.{ExpectedDigit, TooManyDigits}
-use Rattle.sfv_spec.specs.declared.error_kind.ErrorKind.TheVariants.{TooManyDigitsBeforeDecimalPoint}
-use Rattle.sfv_spec.specs.declared.error_kind.ErrorKind.TheVariants.{TooManyDigitsAfterDecimalPoint}
-use Rattle.sfv_spec.specs.declared.error_kind.ErrorKind.TheVariants.{TrailingDecimalPoint}
+use Rattle.sfv_spec.specs.{Texts.{begins_with, RunOf}, Values.{BareValue, integer, decimal}}
+use Rattle.sfv_spec.proofs.Marks.{minus_sign, dot, is_digit, minus_text}
+use Rattle.sfv_model.specs.Bare.{long_at, decimal_at, fraction_at, point_at, whole_at, number_at}
 use Rattle.sfv_model.specs.Reader.{Apart, Answer, Reader, byte, give, fail, ruled, ahead, back, at_start, at_reach}
 use Rattle.sfv_model.specs.Reader.{by_rule, placed}
-use Rattle.sfv_model.specs.Bare.{long_at, decimal_at, fraction_at, point_at, whole_at, number_at}
+use Rattle.sfv_model.proofs.Types.{ExpectedDigit, TooManyDigits, TooManyDigitsBeforeDecimalPoint}
+use Rattle.sfv_model.proofs.Types.{TooManyDigitsAfterDecimalPoint, TrailingDecimalPoint}
 use Rattle.sfv_model.proofs.complete.Combinators.{Apart-nil, Apart-cons, branch_take, ahead_past, ahead_take}
 use Rattle.sfv_model.proofs.complete.Combinators.{bind_complete, up_to_taken}
 use Rattle.sfv_model.proofs.complete.Numbers.{goes_on, minus_apart, start_read, start_complete, some_eqb}
 use Rattle.sfv_model.proofs.complete.Numbers.{integer_complete, decimal_complete}
-use Rattle.sfv_model.proofs.sound.Combinators.{run_cons}
-use Rattle.sfv_model.proofs.sound.Numbers.{thousandths}
+use Rattle.sfv_model.proofs.sound.{Combinators.run_cons, Numbers.thousandths}
 
 -- ---- the next byte
 

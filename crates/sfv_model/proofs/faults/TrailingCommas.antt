@@ -1,35 +1,24 @@
 -- What stands after a field with a member, and is no more of it.
 use Rattle.std.proofs.Common.{◌≡◌, ℕ, false, eqb, List, [], ◌∷◌, ◌++◌, length, drop, Ok, Err, refl, sym, ap, ◌∙◌}
-use Rattle.std.proofs.Common.{append_assoc, arith}
-use Rattle.std.proofs.lemmas.List.{append-nil, drop_at}
-use Rattle.std.specs.Prelude.{codes, ◌≢◌}
-use Rattle.sfv_spec.proofs.Marks.{comma, right_parenthesis, is_space, is_space_or_tab}
-use Rattle.sfv_spec.specs.Texts.{RunOf}
-use Rattle.sfv_spec.specs.Values.{RawField, RawItem, HasMember}
-use Rattle.sfv_spec.specs.declared.field_kind.FieldKind.{FieldKind}
-use Rattle.sfv_spec.specs.declared.field_kind.FieldKind.TheVariants.{Item as item_field, List as list_field}
-use Rattle.sfv_spec.specs.declared.field_kind.FieldKind.TheVariants.{Dictionary as dictionary_field}
-use Rattle.sfv_spec.specs.declared.version.Version.{Version}
-use Rattle.sfv_spec.specs.Grammar.{IsMemberText, IsDictionaryMemberText, IsFieldText, IsAccepted}
+use Rattle.std.proofs.Common.{append_assoc, arith, append-nil, drop_at, codes, ◌≢◌}
 use Rattle.sfv_spec.specs.Events.{TreeEvent, events, entry_events, keyed_events}
-use Rattle.sfv_model.specs.Commas.{HasManyMembers}
-use Rattle.sfv_spec.specs.declared.error_kind.ErrorKind.TheVariants.{TrailingComma, TrailingCharactersAfterMember}
+use Rattle.sfv_spec.specs.Grammar.{IsMemberText, IsDictionaryMemberText, IsFieldText, IsAccepted}
+use Rattle.sfv_spec.specs.{Texts.RunOf, Values.{RawField, RawItem, HasMember}}
+use Rattle.sfv_spec.proofs.Marks.{comma, right_parenthesis, is_space, is_space_or_tab}
+use Rattle.sfv_model.specs.{Bare.{token_at, bare_at}, Claims.CommaRow, Commas.HasManyMembers}
+use Rattle.sfv_model.specs.Fields.{comma_at, next_at, members_at, whole_field_at, ending, read_field}
+use Rattle.sfv_model.specs.{Items.{key_at, item_at}, Judgements.IsFault, Members.{member_at, entry_at, keyed_at}}
 use Rattle.sfv_model.specs.Reader.{Fault, Reader, Apart, any, byte, at_reach, by_rule, after_events, at_start, give}
 use Rattle.sfv_model.specs.Reader.{fail, back, span, branch, ahead, bind, led}
-use Rattle.sfv_model.specs.Judgements.{IsFault}
-use Rattle.sfv_model.specs.Bare.{token_at, bare_at}
-use Rattle.sfv_model.specs.Items.{key_at, item_at}
-use Rattle.sfv_model.specs.Members.{member_at, entry_at, keyed_at}
-use Rattle.sfv_model.specs.Fields.{comma_at, next_at, members_at, whole_field_at, ending, read_field}
-use Rattle.sfv_model.specs.Claims.{CommaRow}
+use Rattle.sfv_model.proofs.Types.{FieldKind, item_field, list_field, dictionary_field, Version, TrailingComma}
+use Rattle.sfv_model.proofs.Types.{TrailingCharactersAfterMember}
 use Rattle.sfv_model.proofs.complete.Combinators.{Apart-nil, Apart-cons, branch_take, ahead_past, ahead_take, ahead_any}
 use Rattle.sfv_model.proofs.complete.Combinators.{bind_complete, span_complete}
-use Rattle.sfv_model.proofs.sound.Members.{Sound-entry, Sound-keyed}
-use Rattle.sfv_model.proofs.sound.Separated.{members_met}
+use Rattle.sfv_model.proofs.complete.Fields.{spaces_end, comma_ends, item_field_complete, field_complete}
 use Rattle.sfv_model.proofs.complete.Items.{lengthens_item, blank_ends}
 use Rattle.sfv_model.proofs.complete.Members.{entry_complete, entry_fresh, keyed_complete, keyed_fresh}
-use Rattle.sfv_model.proofs.complete.Fields.{spaces_end, comma_ends, item_field_complete, field_complete}
 use Rattle.sfv_model.proofs.faults.PiecesToFault.{bind_met}
+use Rattle.sfv_model.proofs.sound.{Members.{Sound-entry, Sound-keyed}, Separated.members_met}
 
 -- a type of field is a list or a dictionary unless it is an item
 pub not_item : (kind : FieldKind) → HasManyMembers kind → kind ≢ item_field

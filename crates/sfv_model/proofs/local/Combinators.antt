@@ -1,9 +1,7 @@
 -- An answer rests on the bytes up to its place, and on the one that stands there.
 use Rattle.std.proofs.Common.{◌≡◌, ℕ, zero, suc, Bool, true, false, cond, List, [], ◌∷◌, ◌++◌, Option, Some, None, Ok}
-use Rattle.std.proofs.Common.{Err, refl, sym, ap, ◌∙◌, append_assoc, inl, inr}
-use Rattle.sfv_spec.specs.Events.{TreeEvent}
-use Rattle.sfv_spec.specs.declared.error_kind.ErrorKind.{ErrorKind}
-use Rattle.std.proofs.lemmas.Bool.{true≢false, cases_Bool}
+use Rattle.std.proofs.{Common.{Err, refl, sym, ap, ◌∙◌, append_assoc, inl, inr, true≢false}, lemmas.Bool.cases_Bool}
+use Rattle.sfv_spec.specs.{Events.TreeEvent, declared.error_kind.ErrorKind.ErrorKind}
 use Rattle.sfv_model.specs.Judgements.{Lasts, Local}
 use Rattle.sfv_model.specs.Reader.{first, Answer, Reader, after_events, and_then, give, fail, ruled, ◌>>=◌, bind}
 use Rattle.sfv_model.specs.Reader.{led_answer, led, branch, ahead, at_start, back, up_to, span}

@@ -1,18 +1,9 @@
 -- On how much of the text a field rests.
-use Rattle.sfv_spec.specs.declared.field_kind.FieldKind.{FieldKind}
-use Rattle.sfv_spec.specs.declared.field_kind.FieldKind.TheVariants.{Item as item_field, List as list_field}
-use Rattle.sfv_spec.specs.declared.field_kind.FieldKind.TheVariants.{Dictionary as dictionary_field}
-use Rattle.sfv_spec.specs.declared.version.Version.{Version}
-use Rattle.sfv_spec.specs.Grammar.{IsMemberText, IsDictionaryMemberText}
-use Rattle.sfv_spec.specs.Events.{entry_events, keyed_events}
-use Rattle.sfv_model.specs.Judgements.{Local}
-use Rattle.sfv_model.specs.Members.{entry_at, keyed_at}
-use Rattle.sfv_model.specs.Fields.{whole_field_at}
-use Rattle.sfv_model.proofs.local.Combinators.{local_rules}
-use Rattle.sfv_model.proofs.local.Items.{Local-item}
-use Rattle.sfv_model.proofs.sound.Members.{Sound-entry, Sound-keyed}
-use Rattle.sfv_model.proofs.local.Members.{Local-entry, Local-keyed}
-use Rattle.sfv_model.proofs.sound.Separated.{Local-members}
+use Rattle.sfv_spec.specs.{Events.{entry_events, keyed_events}, Grammar.{IsMemberText, IsDictionaryMemberText}}
+use Rattle.sfv_model.specs.{Fields.whole_field_at, Judgements.Local, Members.{entry_at, keyed_at}}
+use Rattle.sfv_model.proofs.Types.{FieldKind, item_field, list_field, dictionary_field, Version}
+use Rattle.sfv_model.proofs.local.{Combinators.local_rules, Items.Local-item, Members.{Local-entry, Local-keyed}}
+use Rattle.sfv_model.proofs.sound.{Members.{Sound-entry, Sound-keyed}, Separated.Local-members}
 
 pub Local-field : (version : Version) (kind : FieldKind) → Local (whole_field_at version kind)
 unfolding whole_field_at

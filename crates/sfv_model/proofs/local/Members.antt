@@ -1,14 +1,10 @@
 -- On how much of the text inner lists and members rest.
-use Rattle.sfv_spec.specs.declared.version.Version.{Version}
-use Rattle.sfv_spec.specs.Events.{inner_item_events}
+use Rattle.sfv_spec.specs.{Events.inner_item_events, declared.version.Version.Version}
 use Rattle.sfv_model.specs.Judgements.{Local}
-use Rattle.sfv_model.specs.Reader.{many}
 use Rattle.sfv_model.specs.Members.{inner_item_at, next_item_at, inner_items_at, inner_at, member_at, entry_at}
-use Rattle.sfv_model.specs.Members.{member_value_at, keyed_at}
-use Rattle.sfv_model.proofs.local.Combinators.{local_rules}
-use Rattle.sfv_model.proofs.sound.Many.{Local-many}
-use Rattle.sfv_model.proofs.local.Items.{Local-key, Local-parameters, Local-item}
-use Rattle.sfv_model.proofs.sound.Members.{Consumes-next_item}
+use Rattle.sfv_model.specs.{Members.{member_value_at, keyed_at}, Reader.many}
+use Rattle.sfv_model.proofs.local.{Combinators.local_rules, Items.{Local-key, Local-parameters, Local-item}}
+use Rattle.sfv_model.proofs.sound.{Many.Local-many, Members.Consumes-next_item}
 
 -- ---- what an answer rests on
 

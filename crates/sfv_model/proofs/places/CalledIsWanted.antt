@@ -1,42 +1,23 @@
 -- Where the readers of a field call that of bare items, or of keys, one is wanted.
 use Rattle.std.proofs.Common.{◌≡◌, ℕ, Bool, true, false, List, [], ◌∷◌, ◌++◌, length, drop, Ok, Err, refl, sym, ap}
-use Rattle.std.proofs.Common.{subst, ◌∙◌, append_assoc, arith, inl, inr, ◌⊎◌, length-drop}
-use Rattle.std.specs.Prelude.{codes}
-use Rattle.std.proofs.lemmas.List.{append-nil, take_at, drop_at, length-append}
+use Rattle.std.proofs.Common.{subst, ◌∙◌, append_assoc, arith, inl, inr, ◌⊎◌, length-drop, codes, append-nil, take_at}
+use Rattle.std.proofs.Common.{drop_at, length-append}
+use Rattle.sfv_spec.specs.{Events.events, Faults.{WantedFault, delimiter, end}, Grammar.{IsFieldText, IsAccepted}}
+use Rattle.sfv_spec.specs.{Reach.{BeginsAccepted, WantsBareItem, WantsKey}, Values.{RawField, BareValue}}
 use Rattle.sfv_spec.proofs.Marks.{space, asterisk, comma, digit_one, question_mark}
-use Rattle.sfv_spec.specs.Values.{RawField, BareValue}
-use Rattle.sfv_spec.specs.declared.field_kind.FieldKind.{FieldKind}
-use Rattle.sfv_spec.specs.declared.field_kind.FieldKind.TheVariants.{Item as item_field, List as list_field}
-use Rattle.sfv_spec.specs.declared.field_kind.FieldKind.TheVariants.{Dictionary as dictionary_field}
-use Rattle.sfv_spec.specs.declared.version.Version.{Version}
-use Rattle.sfv_spec.specs.Grammar.{IsFieldText, IsAccepted}
-use Rattle.sfv_spec.specs.Events.{events}
-use Rattle.sfv_spec.specs.Reach.{BeginsAccepted, WantsBareItem, WantsKey}
-use Rattle.sfv_spec.specs.declared.error_kind.ErrorKind.{ErrorKind}
-use Rattle.sfv_spec.specs.declared.error_kind.ErrorKind.TheVariants.{TrailingComma, TrailingCharactersAfterMember}
-use Rattle.sfv_spec.specs.declared.error_kind.ErrorKind.TheVariants.{TrailingCharactersAfterParsedValue}
-use Rattle.sfv_spec.specs.declared.error_kind.ErrorKind.TheVariants.{ExpectedInnerListDelimiter, UnterminatedInnerList}
-use Rattle.sfv_spec.specs.declared.error_kind.ErrorKind.TheVariants.{ExpectedStartOfKey}
-use Rattle.sfv_spec.specs.Faults.{WantedFault, delimiter, end}
-use Rattle.sfv_model.specs.Judgements.{Reached, IsFault}
-use Rattle.sfv_model.specs.Reader.{Fault, Answer, fail, give, bind, branch, span}
-use Rattle.sfv_model.specs.Bare.{boolean_at, bare_at}
-use Rattle.sfv_model.specs.Items.{key_at}
-use Rattle.sfv_model.specs.Fields.{whole_field_at, ending, read_field}
-use Rattle.sfv_model.specs.Claims.{IsPlacedFault}
+use Rattle.sfv_model.specs.{Bare.{boolean_at, bare_at}, Claims.IsPlacedFault}
+use Rattle.sfv_model.specs.{Fields.{whole_field_at, ending, read_field}, Items.key_at, Judgements.{Reached, IsFault}}
 use Rattle.sfv_model.specs.Places.{IsOfBare, IsOfComma, IsOfWanted, IsOfOpenList, BareIsWanted}
-use Rattle.sfv_model.proofs.Theorems.{read_is_accepted, fault_is_placed}
-use Rattle.sfv_model.proofs.TrailingBytes.{key_fault, comes_from}
-use Rattle.sfv_model.proofs.sound.Combinators.{Somewhere}
-use Rattle.sfv_model.proofs.sound.Fields.{FieldGoes, Sound-field}
-use Rattle.sfv_model.proofs.faults.ItemEnds.{not_last}
-use Rattle.sfv_model.proofs.faults.BetweenInnerItems.{Stands, IsLastComma}
-use Rattle.sfv_model.proofs.faults.TrailingCommas.{not_item}
-use Rattle.sfv_model.proofs.faults.Fields.{HasMembers, field_rules}
-use Rattle.sfv_model.proofs.faults.MembersToEnd.{field_none}
-use Rattle.sfv_model.proofs.places.Calls.{bare, key, Stuck, Calls}
+use Rattle.sfv_model.specs.Reader.{Fault, Answer, fail, give, bind, branch, span}
+use Rattle.sfv_model.proofs.{Theorems.{read_is_accepted, fault_is_placed}, TrailingBytes.{key_fault, comes_from}}
+use Rattle.sfv_model.proofs.Types.{FieldKind, item_field, list_field, dictionary_field, Version, ErrorKind}
+use Rattle.sfv_model.proofs.Types.{TrailingComma, TrailingCharactersAfterMember, TrailingCharactersAfterParsedValue}
+use Rattle.sfv_model.proofs.Types.{ExpectedInnerListDelimiter, UnterminatedInnerList, ExpectedStartOfKey}
+use Rattle.sfv_model.proofs.faults.{BetweenInnerItems.{Stands, IsLastComma}, Fields.{HasMembers, field_rules}}
+use Rattle.sfv_model.proofs.faults.{ItemEnds.not_last, MembersToEnd.field_none, TrailingCommas.not_item}
+use Rattle.sfv_model.proofs.places.{Calls.{bare, key, Stuck, Calls}, CallsOfReaders.Ever}
 use Rattle.sfv_model.proofs.places.FaultsOfCalls.{faulty, Met, Elsewhere, Found, called, elsewhere}
-use Rattle.sfv_model.proofs.places.CallsOfReaders.{Ever}
+use Rattle.sfv_model.proofs.sound.{Combinators.Somewhere, Fields.{FieldGoes, Sound-field}}
 
 -- what stands in front of an exact fault begins an accepted text
 pub begins_to : (version : Version) (kind : FieldKind) (u r : List ℕ) (e : Fault)

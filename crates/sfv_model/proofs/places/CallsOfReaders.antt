@@ -1,46 +1,35 @@
 -- What the readers of parameters, items and members call.
-use Rattle.sfv_model.proofs.sound.Combinators.{sound_at, run_cons, Found, Sound-back, Steady-span, Reads, Goes}
-use Rattle.std.proofs.lemmas.Bool.Decides.{nat_tests}
 use Rattle.std.proofs.Common.{◌≡◌, ℕ, Bool, true, false, eqb, List, [], ◌∷◌, ◌++◌, Option, Some, None, Ok, Err, refl}
-use Rattle.std.proofs.Common.{inl, inr, sym, ap, subst, ◌∙◌, length, arith}
-use Rattle.std.proofs.lemmas.Bool.{cases_Bool, or_left}
+use Rattle.std.proofs.Common.{inl, inr, sym, ap, subst, ◌∙◌, length, arith, length-append}
+use Rattle.std.proofs.lemmas.Bool.{cases_Bool, or_left, Decides.nat_tests}
+use Rattle.sfv_spec.specs.Events.{TreeEvent, inner_item_events, entry_events, keyed_events}
+use Rattle.sfv_spec.specs.{Grammar.{IsMemberText, IsDictionaryMemberText}, Texts.RunOf, Values.{RawParameters, RawItem}}
 use Rattle.sfv_spec.proofs.Marks.{space, tab, comma, left_parenthesis, right_parenthesis, is_space, is_space_or_tab}
 use Rattle.sfv_spec.proofs.Marks.{true_with}
-use Rattle.sfv_spec.specs.Texts.{RunOf}
-use Rattle.sfv_spec.specs.Values.{RawParameters, RawItem}
-use Rattle.sfv_spec.specs.declared.version.Version.{Version}
-use Rattle.sfv_spec.specs.Events.{TreeEvent, inner_item_events, entry_events, keyed_events}
-use Rattle.sfv_spec.specs.declared.error_kind.ErrorKind.TheVariants.{TrailingComma, UnterminatedInnerList}
-use Rattle.sfv_model.specs.Judgements.{Reached, Local, IsFault}
-use Rattle.sfv_model.specs.Reader.{Fault, Answer, Reader, at_start, give, fail, ◌>>=◌, bind, led, branch, ahead, back}
-use Rattle.sfv_model.specs.Reader.{span, many_within, many, byte, at_reach, one_and_more}
-use Rattle.sfv_model.specs.Bare.{token_at, bare_at}
+use Rattle.sfv_model.specs.{Bare.{token_at, bare_at}, Fields.{comma_at, next_at, members_at, whole_field_at}}
 use Rattle.sfv_model.specs.Items.{value_at, parameter_at, parameter_event, parameters_at, item_of, item_at}
+use Rattle.sfv_model.specs.Judgements.{Reached, Local, IsFault}
 use Rattle.sfv_model.specs.Members.{inner_item_at, next_item_at, inner_items_at, inner_at, member_at, entry_at}
 use Rattle.sfv_model.specs.Members.{member_value_at, keyed_at, inner_of}
-use Rattle.sfv_model.specs.Fields.{comma_at, next_at, members_at, whole_field_at}
-use Rattle.sfv_spec.specs.declared.field_kind.FieldKind.{FieldKind}
-use Rattle.sfv_spec.specs.declared.field_kind.FieldKind.TheVariants.{Item as item_field, List as list_field}
-use Rattle.sfv_spec.specs.declared.field_kind.FieldKind.TheVariants.{Dictionary as dictionary_field}
-use Rattle.sfv_spec.specs.Grammar.{IsMemberText, IsDictionaryMemberText}
-use Rattle.sfv_model.proofs.sound.Members.{Sound-entry, Sound-keyed, Consumes-next_item}
-use Rattle.sfv_model.proofs.sound.Many.{Local-many}
-use Rattle.sfv_model.proofs.local.Members.{Local-entry, Local-keyed, Local-inner_item, Local-next_item}
-use Rattle.sfv_model.proofs.local.Members.{Local-next_items, Local-items, Local-member_value}
-use Rattle.std.proofs.lemmas.List.{length-append}
-use Rattle.sfv_model.proofs.sound.Items.{Consumes-parameter}
-use Rattle.sfv_model.proofs.sound.Separated.{IsComma, Sound-comma, Consumes-next, Local-next}
-use Rattle.sfv_model.proofs.local.Combinators.{local_rules, Local-span}
-use Rattle.sfv_model.proofs.local.Items.{Local-key, Local-value, Local-parameter, Local-parameters, Local-item}
-use Rattle.sfv_model.proofs.local.Bare.{Local-bare}
+use Rattle.sfv_model.specs.Reader.{Fault, Answer, Reader, at_start, give, fail, ◌>>=◌, bind, led, branch, ahead, back}
+use Rattle.sfv_model.specs.Reader.{span, many_within, many, byte, at_reach, one_and_more}
+use Rattle.sfv_model.proofs.Types.{Version, TrailingComma, UnterminatedInnerList, FieldKind, item_field, list_field}
+use Rattle.sfv_model.proofs.Types.{dictionary_field}
 use Rattle.sfv_model.proofs.complete.Combinators.{Apart-cons, span_complete, back_complete, branch_take, bind_complete}
 use Rattle.sfv_model.proofs.complete.Combinators.{ahead_any}
-use Rattle.sfv_model.proofs.texts.Ranges.{run_weaker}
+use Rattle.sfv_model.proofs.local.{Bare.Local-bare, Combinators.{local_rules, Local-span}}
+use Rattle.sfv_model.proofs.local.Items.{Local-key, Local-value, Local-parameter, Local-parameters, Local-item}
+use Rattle.sfv_model.proofs.local.Members.{Local-entry, Local-keyed, Local-inner_item, Local-next_item}
+use Rattle.sfv_model.proofs.local.Members.{Local-next_items, Local-items, Local-member_value}
 use Rattle.sfv_model.proofs.places.Calls.{Leaf, bare, key, blocked, Stuck, stuck_led, stuck_bind}
 use Rattle.sfv_model.proofs.places.FaultsOfCalls.{Mark, Met, Other, met_fail, met_give, Elsewhere, Never, Only}
 use Rattle.sfv_model.proofs.places.FaultsOfCalls.{is_skipped, Skips, Walk, Walk-weaker, Walk-bare, Walk-key, Walk-give}
 use Rattle.sfv_model.proofs.places.FaultsOfCalls.{Walk-fail, Walk-led, Walk-bind, Walk-skip, Walk-skip_some}
 use Rattle.sfv_model.proofs.places.FaultsOfCalls.{Walk-branch, Walk-branch_never, Walk-any, Walk-ahead, Walk-many}
+use Rattle.sfv_model.proofs.sound.Combinators.{sound_at, run_cons, Found, Sound-back, Steady-span, Reads, Goes}
+use Rattle.sfv_model.proofs.sound.{Items.Consumes-parameter, Many.Local-many}
+use Rattle.sfv_model.proofs.sound.Members.{Sound-entry, Sound-keyed, Consumes-next_item}
+use Rattle.sfv_model.proofs.{sound.Separated.{IsComma, Sound-comma, Consumes-next, Local-next}, texts.Ranges.run_weaker}
 
 -- a run of blanks
 pub skips_span : (class : ℕ → Bool) → ((c : ℕ) → class c ≡ true → is_space_or_tab c ≡ true) → Skips (span class)

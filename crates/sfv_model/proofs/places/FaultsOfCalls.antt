@@ -1,28 +1,19 @@
 -- A fault of a reader, or a byte that it takes, is that of the reader of bare items, or of keys, which it calls.
-use Rattle.std.proofs.lemmas.Bool.{cases_lt, true≢false, cases_Bool}
 use Rattle.std.proofs.Common.{◌≡◌, ℕ, zero, suc, ◌<◌, ◌≤◌, Bool, true, false, eqb, ◌||◌, List, [], ◌∷◌, ◌++◌, length}
 use Rattle.std.proofs.Common.{Option, Some, None, Ok, Err, refl, sym, ap, subst, ◌∙◌, append_assoc, arith, inl, inr}
-use Rattle.std.proofs.Common.{◌⊎◌}
-use Rattle.std.specs.Prelude.{⊤}
-use Rattle.std.proofs.lemmas.List.{append_cancel_right, length-append}
+use Rattle.std.{proofs.Common.{◌⊎◌, true≢false, length-append}, specs.Prelude.⊤}
+use Rattle.std.proofs.lemmas.{Bool.{cases_lt, cases_Bool}, List.append_cancel_right}
+use Rattle.sfv_spec.specs.{Events.TreeEvent, Texts.RunOf}
 use Rattle.sfv_spec.proofs.Marks.{asterisk, comma, left_parenthesis, question_mark, is_space_or_tab}
-use Rattle.sfv_spec.specs.Texts.{RunOf}
-use Rattle.sfv_spec.specs.declared.version.Version.{Version}
-use Rattle.sfv_spec.specs.Events.{TreeEvent}
-use Rattle.sfv_spec.specs.declared.error_kind.ErrorKind.{ErrorKind}
-use Rattle.sfv_spec.specs.declared.error_kind.ErrorKind.TheVariants.{TrailingComma, TrailingCharactersAfterMember}
-use Rattle.sfv_spec.specs.declared.error_kind.ErrorKind.TheVariants.{ExpectedInnerListDelimiter, UnterminatedInnerList}
-use Rattle.sfv_model.specs.Judgements.{IsFault, Lasts, Local}
+use Rattle.sfv_model.specs.{Bare.bare_at, Items.key_at, Judgements.{IsFault, Lasts, Local}, Places.IsLike}
 use Rattle.sfv_model.specs.Reader.{Fault, Answer, Reader, first, any, at_reach, and_then, give, fail, ◌>>=◌, bind}
 use Rattle.sfv_model.specs.Reader.{led_answer, led, branch, ahead, go_on, many}
-use Rattle.sfv_model.specs.Bare.{bare_at}
-use Rattle.sfv_model.specs.Items.{key_at}
-use Rattle.sfv_model.specs.Places.{IsLike}
-use Rattle.sfv_model.proofs.sound.Combinators.{run_head, run_tail}
-use Rattle.sfv_model.proofs.sound.Many.{Consumes, many_is}
+use Rattle.sfv_model.proofs.Types.{Version, ErrorKind, TrailingComma, TrailingCharactersAfterMember}
+use Rattle.sfv_model.proofs.Types.{ExpectedInnerListDelimiter, UnterminatedInnerList}
 use Rattle.sfv_model.proofs.complete.Combinators.{branch_take, ahead_any, bind_complete}
 use Rattle.sfv_model.proofs.places.Calls.{Leaf, bare, key, leaf_at, blocked, Stuck, Calls, calls_bare, calls_key}
 use Rattle.sfv_model.proofs.places.Calls.{calls_as, calls_led, calls_bind, stuck_led, stuck_bind}
+use Rattle.sfv_model.proofs.sound.{Combinators.{run_head, run_tail}, Many.{Consumes, many_is}}
 
 -- a byte that nothing but bare items and keys takes
 abbrev pub marked : Bool → ℕ

@@ -1,39 +1,23 @@
 -- Where a bare item or a key is wanted, the readers of a field call the reader of it.
-use Rattle.sfv_model.proofs.visits.BareFaultOffReach.{no_bare, nothing_there}
-use Rattle.sfv_spec.specs.Events.{TreeEvent}
-use Rattle.sfv_model.proofs.sound.Combinators.{Reads, sound_at, run_cons, run_head, run_tail}
-use Rattle.std.proofs.lemmas.Bool.Decides.{nat_tests}
 use Rattle.std.proofs.Common.{◌≡◌, ℕ, ◌≤◌, Bool, true, false, List, [], ◌∷◌, ◌++◌, length, Ok, Err, refl, sym, ap}
-use Rattle.std.proofs.Common.{subst, ◌∙◌, append_assoc, arith, inl, inr, ◌⊎◌}
-use Rattle.std.specs.Prelude.{codes, IsTrue}
-use Rattle.std.specs.List.{list_all}
-use Rattle.std.proofs.lemmas.Bool.{true≢false, and_from, and_parts, cases_Bool, not-true}
-use Rattle.std.proofs.lemmas.List.{append-nil, append_cancel_right, length-append}
-use Rattle.sfv_spec.proofs.Marks.{asterisk, question_mark}
-use Rattle.sfv_spec.specs.Texts.{RunOf, begins_with}
-use Rattle.sfv_spec.specs.Classes.{is_key_start, is_key_inner, is_key, is_token_inner}
-use Rattle.sfv_spec.specs.Values.{RawField, BareValue}
-use Rattle.sfv_spec.specs.declared.field_kind.FieldKind.{FieldKind}
-use Rattle.sfv_spec.specs.declared.version.Version.{Version}
-use Rattle.sfv_spec.specs.Grammar.{IsAccepted, IsBareText, IsKeyText}
-use Rattle.sfv_spec.specs.Reach.{BeginsAccepted, WantsBareItem, WantsKey}
-use Rattle.sfv_spec.specs.declared.error_kind.ErrorKind.TheVariants.{ExpectedStartOfBareItem}
-use Rattle.sfv_spec.proofs.Bare.{is_bare_start, bare_begins}
+use Rattle.std.proofs.Common.{subst, ◌∙◌, append_assoc, arith, inl, inr, ◌⊎◌, codes, IsTrue, true≢false, append-nil}
+use Rattle.std.{proofs.Common.length-append, specs.List.list_all}
+use Rattle.std.proofs.lemmas.Bool.{and_from, and_parts, cases_Bool, not-true, Decides.nat_tests}
+use Rattle.std.proofs.lemmas.List.{append_cancel_right}
+use Rattle.sfv_spec.specs.{Classes.{is_key_start, is_key_inner, is_key, is_token_inner}, Events.TreeEvent}
+use Rattle.sfv_spec.specs.{Grammar.{IsAccepted, IsBareText, IsKeyText}, Reach.{BeginsAccepted, WantsBareItem, WantsKey}}
+use Rattle.sfv_spec.specs.{Texts.{RunOf, begins_with}, Values.{RawField, BareValue}}
+use Rattle.sfv_spec.proofs.{Bare.{is_bare_start, bare_begins}, Marks.{asterisk, question_mark}}
+use Rattle.sfv_model.specs.{Bare.bare_at, Fields.whole_field_at, Places.{is_beginning, WantedBareIsRead}}
 use Rattle.sfv_model.specs.Reader.{Fault, Answer, Reader, at_reach}
-use Rattle.sfv_model.specs.Bare.{bare_at}
-use Rattle.sfv_model.specs.Fields.{whole_field_at}
-use Rattle.sfv_model.specs.Places.{is_beginning, WantedBareIsRead}
-use Rattle.sfv_model.proofs.faults.InsideBareItem.{mark_inside, asterisk_inside}
-use Rattle.sfv_model.proofs.sound.Bare.{Sound-bare}
-use Rattle.sfv_model.proofs.sound.Items.{Sound-key}
-use Rattle.sfv_model.proofs.complete.Combinators.{Apart-cons}
-use Rattle.sfv_model.proofs.complete.Bare.{bare_complete}
-use Rattle.sfv_model.proofs.complete.Items.{key_complete}
-use Rattle.sfv_model.proofs.complete.Fields.{field_complete}
-use Rattle.sfv_model.proofs.places.Calls.{bare, key, blocked, Follows, Calls}
-use Rattle.sfv_model.proofs.places.FaultsOfCalls.{eaten, marked, Met, Found, called, elsewhere, run_has}
-use Rattle.sfv_model.proofs.places.CallsOfReaders.{Ever, walk-field}
+use Rattle.sfv_model.proofs.Types.{FieldKind, Version, ExpectedStartOfBareItem}
+use Rattle.sfv_model.proofs.complete.{Bare.bare_complete, Combinators.Apart-cons, Fields.field_complete}
+use Rattle.sfv_model.proofs.{complete.Items.key_complete, faults.InsideBareItem.{mark_inside, asterisk_inside}}
 use Rattle.sfv_model.proofs.places.CalledIsWanted.{ends_faulty, begins_stuck}
+use Rattle.sfv_model.proofs.places.{Calls.{bare, key, blocked, Follows, Calls}, CallsOfReaders.{Ever, walk-field}}
+use Rattle.sfv_model.proofs.places.FaultsOfCalls.{eaten, marked, Met, Found, called, elsewhere, run_has}
+use Rattle.sfv_model.proofs.sound.{Bare.Sound-bare, Combinators.{Reads, sound_at, run_cons, run_head, run_tail}}
+use Rattle.sfv_model.proofs.{sound.Items.Sound-key, visits.BareFaultOffReach.{no_bare, nothing_there}}
 
 -- ---- lists
 

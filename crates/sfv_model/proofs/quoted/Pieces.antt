@@ -1,22 +1,15 @@
 -- Pieces are read one by one, and a reader stops where no piece follows.
 use Rattle.std.proofs.Common.{◌≡◌, ℕ, zero, suc, ◌≤◌, Bool, true, false, cond, not, ◌&&◌, ◌||◌, List, [], ◌∷◌, ◌++◌}
-use Rattle.std.proofs.Common.{length, take, Ok, Err, refl, sym, ap, ◌∙◌, append_assoc, arith, inl, inr}
-use Rattle.std.specs.Prelude.{◌==◌}
-use Rattle.std.specs.List.{concat, AllZip}
-use Rattle.std.proofs.lemmas.Bool.{and_parts, and_left, ne_eqb, or_parts, not-true, both_ways}
-use Rattle.std.proofs.lemmas.List.{append-nil}
-use Rattle.sfv_spec.proofs.Marks.{double_quote, percent_sign, backslash}
-use Rattle.sfv_spec.specs.Texts.{RunOf}
+use Rattle.std.proofs.Common.{length, take, Ok, Err, refl, sym, ap, ◌∙◌, append_assoc, arith, inl, inr, ◌==◌, ne_eqb}
+use Rattle.std.{proofs.Common.append-nil, specs.List.{concat, AllZip}}
+use Rattle.std.proofs.lemmas.Bool.{and_parts, and_left, or_parts, not-true, both_ways}
 use Rattle.sfv_spec.specs.Classes.{is_string_byte, is_lower_hexadecimal}
 use Rattle.sfv_spec.specs.Strings.{is_escaped_in_string, is_plain_in_display, IsStringPiece, IsDisplayPiece}
-use Rattle.sfv_spec.specs.declared.error_kind.ErrorKind.{ErrorKind}
-use Rattle.sfv_spec.specs.declared.error_kind.ErrorKind.TheVariants.{InvalidStringCharacter, UnterminatedString}
-use Rattle.sfv_spec.specs.declared.error_kind.ErrorKind.TheVariants.{UnterminatedEscapeSequence, InvalidEscapeSequence}
-use Rattle.sfv_spec.specs.declared.error_kind.ErrorKind.TheVariants.{InvalidDisplayStringCharacter}
-use Rattle.sfv_spec.specs.declared.error_kind.ErrorKind.TheVariants.{UnterminatedDisplayString}
-use Rattle.sfv_model.specs.Reader.{has_rule, first, Answer, Reader, at_reach, by_rule}
+use Rattle.sfv_spec.{specs.Texts.RunOf, proofs.Marks.{double_quote, percent_sign, backslash}}
 use Rattle.sfv_model.specs.Quoted.{after_bytes, string_from, Place, outside, percent, digit, pieces_from, StringStops}
-use Rattle.sfv_model.specs.Quoted.{DisplayStops}
+use Rattle.sfv_model.specs.{Quoted.DisplayStops, Reader.{has_rule, first, Answer, Reader, at_reach, by_rule}}
+use Rattle.sfv_model.proofs.Types.{ErrorKind, InvalidStringCharacter, UnterminatedString, UnterminatedEscapeSequence}
+use Rattle.sfv_model.proofs.Types.{InvalidEscapeSequence, InvalidDisplayStringCharacter, UnterminatedDisplayString}
 
 -- ---- values in front
 

@@ -1,22 +1,15 @@
 -- Each reading is a run of pieces, and what stands after them.
 use Rattle.std.proofs.Common.{arith, ◌≡◌, ℕ, ◌+◌, ◌*◌, Bool, true, false, List, [], ◌∷◌, ◌++◌, Ok, Err, refl, sym, ap}
-use Rattle.std.proofs.Common.{◌∙◌, append_assoc, lit≤, inl, inr}
-use Rattle.std.proofs.lemmas.Bool.Decides.{nat_tests}
-use Rattle.std.specs.Prelude.{◌==◌, IsTrue}
-use Rattle.std.specs.List.{concat}
-use Rattle.std.proofs.lemmas.Bool.{and_from, eqb-true, cases_Bool}
-use Rattle.sfv_spec.proofs.Marks.{double_quote, percent_sign, backslash}
+use Rattle.std.proofs.Common.{◌∙◌, append_assoc, lit≤, inl, inr, ◌==◌, IsTrue, eqb-true}
+use Rattle.std.specs.{Char.digit_value as hexadecimal_value, List.concat}
+use Rattle.std.proofs.lemmas.Bool.{and_from, cases_Bool, Decides.nat_tests}
 use Rattle.sfv_spec.specs.Classes.{is_string_byte, is_lower_hexadecimal}
 use Rattle.sfv_spec.specs.Strings.{is_escaped_in_string, IsStringPiece, IsDisplayPiece}
-use Rattle.std.specs.Char.{digit_value as hexadecimal_value}
-use Rattle.sfv_spec.specs.declared.error_kind.ErrorKind.{ErrorKind}
-use Rattle.sfv_spec.specs.declared.error_kind.ErrorKind.TheVariants.{InvalidStringCharacter, UnterminatedString}
-use Rattle.sfv_spec.specs.declared.error_kind.ErrorKind.TheVariants.{UnterminatedEscapeSequence, InvalidEscapeSequence}
-use Rattle.sfv_spec.specs.declared.error_kind.ErrorKind.TheVariants.{InvalidDisplayStringCharacter}
-use Rattle.sfv_spec.specs.declared.error_kind.ErrorKind.TheVariants.{UnterminatedDisplayString}
-use Rattle.sfv_model.specs.Reader.{Answer, placed, at_reach, by_rule}
+use Rattle.sfv_spec.proofs.Marks.{double_quote, percent_sign, backslash}
 use Rattle.sfv_model.specs.Quoted.{after_bytes, string_from, Place, outside, percent, digit, pieces_from, StringStops}
-use Rattle.sfv_model.specs.Quoted.{DisplayStops, Traced}
+use Rattle.sfv_model.specs.{Quoted.{DisplayStops, Traced}, Reader.{Answer, placed, at_reach, by_rule}}
+use Rattle.sfv_model.proofs.Types.{ErrorKind, InvalidStringCharacter, UnterminatedString, UnterminatedEscapeSequence}
+use Rattle.sfv_model.proofs.Types.{InvalidEscapeSequence, InvalidDisplayStringCharacter, UnterminatedDisplayString}
 
 -- the bytes that were read and the closing quote, or a fault
 abbrev pub Ends : Bool → (ErrorKind → List ℕ → List ℕ → Type 0) → Answer (List ℕ) → List ℕ → List ℕ → Type 0

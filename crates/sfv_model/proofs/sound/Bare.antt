@@ -1,27 +1,18 @@
 -- What is read as a bare item is one.
-use Rattle.std.proofs.Common.{ℕ, true, false, List, [], ◌∷◌, refl, ap, ℤ}
-use Rattle.std.proofs.lemmas.List.{append-nil}
-use Rattle.std.proofs.lemmas.Bool.{true≢false, and_from}
-use Rattle.sfv_spec.proofs.Marks.{double_quote, percent_sign, colon, digit_one, question_mark, at_sign}
+use Rattle.std.proofs.Common.{ℕ, true, false, List, [], ◌∷◌, refl, ap, ℤ, append-nil, true≢false}
+use Rattle.std.proofs.lemmas.Bool.{and_from}
 use Rattle.sfv_spec.specs.Classes.{is_token_start}
-use Rattle.sfv_spec.specs.Strings.{IsDisplayPiece}
+use Rattle.sfv_spec.specs.{Events.TreeEvent, Grammar.IsBareText, Numbers.IsIntegerText, Strings.IsDisplayPiece}
 use Rattle.sfv_spec.specs.Values.{BareValue, integer, decimal, string, byte_sequence, boolean, date, display_string}
-use Rattle.sfv_spec.specs.declared.version.Version.{Version}
-use Rattle.sfv_spec.specs.declared.version.Version.TheVariants.{Rfc8941, Rfc9651}
-use Rattle.sfv_spec.specs.Grammar.{IsBareText}
-use Rattle.sfv_spec.specs.Numbers.{IsIntegerText}
-use Rattle.sfv_spec.specs.Events.{TreeEvent}
-use Rattle.sfv_model.specs.Judgements.{Sound, Mute, Quiet}
-use Rattle.sfv_model.specs.Reader.{Reader, give, ◌>>=◌}
-use Rattle.sfv_model.specs.Content.{bytes_at, IsBytesEnd}
-use Rattle.sfv_model.specs.Quoted.{string_at, IsStringEnd, IsDisplayEnd}
+use Rattle.sfv_spec.proofs.Marks.{double_quote, percent_sign, colon, digit_one, question_mark, at_sign}
 use Rattle.sfv_model.specs.Bare.{number_at, boolean_at, token_at, as_date, date_at, quoted_at, bare_at}
+use Rattle.sfv_model.specs.{Content.{bytes_at, IsBytesEnd}, Judgements.{Sound, Mute, Quiet}}
+use Rattle.sfv_model.specs.{Quoted.{string_at, IsStringEnd, IsDisplayEnd}, Reader.{Reader, give, ◌>>=◌}}
+use Rattle.sfv_model.proofs.{Types.{Version, Rfc8941, Rfc9651}, sound.ByteSequences.Sound-bytes}
 use Rattle.sfv_model.proofs.sound.Combinators.{Found, Sound-give, Sound-fail, Sound-branch, Sound-byte, Sound-ahead}
 use Rattle.sfv_model.proofs.sound.Combinators.{Sound-map, Sound-weaker, Sound-back, Sound-span, Reads, Somewhere}
+use Rattle.sfv_model.proofs.sound.{Numbers.{IsNumber, Sound-number}, Quoted.{Sound-string, Sound-display}}
 use Rattle.sfv_model.proofs.texts.Joining.{joining_none, in_turn}
-use Rattle.sfv_model.proofs.sound.ByteSequences.{Sound-bytes}
-use Rattle.sfv_model.proofs.sound.Quoted.{Sound-string, Sound-display}
-use Rattle.sfv_model.proofs.sound.Numbers.{IsNumber, Sound-number}
 
 -- readers of bare items hand nothing out
 abbrev pub BareGoes : Version → List ℕ → List TreeEvent → Type 0

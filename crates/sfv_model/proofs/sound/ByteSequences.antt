@@ -1,24 +1,15 @@
 -- What the reader of a Byte Sequence gives.
-use Rattle.std.proofs.lemmas.Bool.Decides.{nat_tests}
-use Rattle.std.proofs.lemmas.Bool.{not-true, and_parts, eqb-true, eqb-false, cases_Bool, true≢false}
 use Rattle.std.proofs.Common.{◌≡◌, ℕ, zero, suc, ◌<◌, ◌≤◌, ◌+◌, List, [], ◌∷◌, ◌++◌, length, take, drop, replicate, map}
 use Rattle.std.proofs.Common.{refl, sym, ◌∙◌, ap, true, false, append_assoc, arith, inl, inr, Option, Some, None, Ok}
-use Rattle.std.proofs.Common.{Err}
-use Rattle.std.specs.Prelude.{◌==◌, not}
-use Rattle.std.specs.List.{list_all, list_any}
-use Rattle.std.proofs.lemmas.List.{take-append-le, drop_at, take-append-drop, drop-drop}
-use Rattle.std.proofs.lemmas.List.Folds.{list_all-append}
-use Rattle.sfv_spec.proofs.Marks.{colon, equals_sign, is_symbol}
-use Rattle.sfv_spec.specs.Base64.{IsBase64Text, symbol}
-use Rattle.sfv_spec.specs.declared.error_kind.ErrorKind.TheVariants.{UnterminatedByteSequence}
-use Rattle.sfv_model.specs.Reader.{by_rule}
-use Rattle.sfv_model.specs.Judgements.{Reached, Sound, Mute, Quiet}
+use Rattle.std.proofs.Common.{Err, eqb-true, true≢false, ◌==◌, not, drop_at, take-append-drop, drop-drop}
+use Rattle.std.{specs.List.{list_all, list_any}, proofs.lemmas.Bool.{not-true, and_parts, eqb-false, cases_Bool}}
+use Rattle.std.proofs.lemmas.{Bool.Decides.nat_tests, List.take-append-le, List.Folds.list_all-append}
+use Rattle.sfv_spec.{specs.Base64.{IsBase64Text, symbol}, proofs.Marks.{colon, equals_sign, is_symbol}}
 use Rattle.sfv_model.specs.Content.{valid_from, bytes_of, fault_place, IsBytesEnd, is_colon, HasNoColon, content_in}
-use Rattle.sfv_model.specs.Content.{content_fault, closed_by, bytes_at}
-use Rattle.sfv_model.proofs.texts.Ranges.{run_weaker}
-use Rattle.sfv_model.proofs.base64.Shape.{are_symbols}
-use Rattle.sfv_model.proofs.base64.Contents.{gives_the_bytes, longest_valid}
-use Rattle.sfv_model.proofs.texts.Joining.{in_turn}
+use Rattle.sfv_model.specs.{Content.{content_fault, closed_by, bytes_at}, Judgements.{Reached, Sound, Mute, Quiet}}
+use Rattle.sfv_model.{specs.Reader.by_rule, proofs.Types.UnterminatedByteSequence}
+use Rattle.sfv_model.proofs.base64.{Contents.{gives_the_bytes, longest_valid}, Shape.are_symbols}
+use Rattle.sfv_model.proofs.texts.{Joining.in_turn, Ranges.run_weaker}
 
 -- no colon among symbols, nor in padding
 symbol_apart : (c : ℕ) → is_symbol c ≡ true → not (c == colon) ≡ true

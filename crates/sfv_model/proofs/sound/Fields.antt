@@ -1,22 +1,12 @@
 -- What is read as a field is one.
-use Rattle.std.proofs.Common.{ℕ, List, [], ◌++◌, refl}
-use Rattle.std.proofs.lemmas.List.{append-nil}
-use Rattle.sfv_spec.specs.Texts.{RunOf}
-use Rattle.sfv_spec.proofs.Marks.{is_space}
-use Rattle.sfv_spec.specs.Values.{RawItem}
-use Rattle.sfv_spec.specs.declared.field_kind.FieldKind.{FieldKind}
-use Rattle.sfv_spec.specs.declared.field_kind.FieldKind.TheVariants.{Item as item_field, List as list_field}
-use Rattle.sfv_spec.specs.declared.field_kind.FieldKind.TheVariants.{Dictionary as dictionary_field}
-use Rattle.sfv_spec.specs.declared.version.Version.{Version}
-use Rattle.sfv_spec.specs.Grammar.{IsItemText, IsMemberText, IsDictionaryMemberText, IsFieldText}
+use Rattle.std.proofs.Common.{ℕ, List, [], ◌++◌, refl, append-nil}
 use Rattle.sfv_spec.specs.Events.{TreeEvent, events, entry_events, keyed_events}
-use Rattle.sfv_model.specs.Items.{item_at}
-use Rattle.sfv_model.specs.Members.{entry_at, keyed_at}
-use Rattle.sfv_model.specs.Fields.{whole_field_at}
+use Rattle.sfv_spec.specs.{Grammar.{IsItemText, IsMemberText, IsDictionaryMemberText, IsFieldText}, Texts.RunOf}
+use Rattle.sfv_spec.{specs.Values.RawItem, proofs.Marks.is_space}
+use Rattle.sfv_model.specs.{Fields.whole_field_at, Items.item_at, Members.{entry_at, keyed_at}}
+use Rattle.sfv_model.proofs.Types.{FieldKind, item_field, list_field, dictionary_field, Version}
 use Rattle.sfv_model.proofs.sound.Combinators.{Sound-give, Sound-bind, Sound-within, Sound-span, Reads, Goes}
-use Rattle.sfv_model.proofs.sound.Items.{Sound-item}
-use Rattle.sfv_model.proofs.sound.Members.{Sound-entry, Sound-keyed}
-use Rattle.sfv_model.proofs.sound.Separated.{Sound-members}
+use Rattle.sfv_model.proofs.sound.{Items.Sound-item, Members.{Sound-entry, Sound-keyed}, Separated.Sound-members}
 use Rattle.sfv_model.proofs.texts.Joining.{in_turn}
 
 abbrev pub FieldGoes : Version → FieldKind → List ℕ → List TreeEvent → Type 0

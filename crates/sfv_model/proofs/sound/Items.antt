@@ -1,26 +1,19 @@
 -- What is read as a key, parameters, an item is one.
 use Rattle.std.proofs.Common.{◌≡◌, ℕ, ◌≤◌, true, List, [], ◌∷◌, ◌++◌, length, Some, refl, sym, ap, arith, inl, inr}
-use Rattle.std.specs.Prelude.{flat_map, map}
-use Rattle.std.proofs.lemmas.List.{append-nil, length-append}
-use Rattle.std.proofs.lemmas.Bool.{and_from}
-use Rattle.sfv_spec.proofs.Marks.{equals_sign, lower_a, semicolon, is_space}
-use Rattle.sfv_spec.specs.Texts.{Exactly, RunOf}
+use Rattle.std.proofs.{Common.{flat_map, map, append-nil, length-append}, lemmas.Bool.and_from}
 use Rattle.sfv_spec.specs.Classes.{is_key, is_key_start}
-use Rattle.sfv_spec.specs.Values.{BareValue, boolean, RawParameters}
-use Rattle.sfv_spec.specs.declared.version.Version.{Version}
-use Rattle.sfv_spec.specs.Grammar.{IsBareText, IsKeyText, IsValueText, IsParametersText, IsItemText}
-use Rattle.sfv_spec.proofs.Marks.{IsParameterText}
 use Rattle.sfv_spec.specs.Events.{TreeEvent, bare_item, parameter, parameters_end, parameters_events, item_events}
-use Rattle.sfv_model.specs.Judgements.{Mute}
+use Rattle.sfv_spec.specs.Grammar.{IsBareText, IsKeyText, IsValueText, IsParametersText, IsItemText}
+use Rattle.sfv_spec.specs.{Texts.{Exactly, RunOf}, Values.{BareValue, boolean, RawParameters}}
+use Rattle.sfv_spec.proofs.Marks.{equals_sign, lower_a, semicolon, is_space, IsParameterText}
 use Rattle.sfv_model.specs.Bare.{bare_at}
 use Rattle.sfv_model.specs.Items.{key_at, value_at, parameter_at, parameter_event, parameters_at, item_of, item_at}
+use Rattle.sfv_model.{specs.Judgements.Mute, proofs.Types.Version, proofs.sound.Bare.{BareGoes, Sound-bare}}
 use Rattle.sfv_model.proofs.sound.Combinators.{Sound-give, Sound-fail, Sound-led, Sound-branch, Sound-byte, Sound-bind}
 use Rattle.sfv_model.proofs.sound.Combinators.{Sound-map, Sound-within, Sound-here, Sound-span, Reads, Somewhere}
 use Rattle.sfv_model.proofs.sound.Combinators.{Begins, Goes, begins_after, begins_longer}
+use Rattle.sfv_model.proofs.sound.{Many.{Step, Consumes, Consumes-from}, Steps.{StepGoes, ManyGoes, Sound-steps}}
 use Rattle.sfv_model.proofs.texts.Joining.{joining_none, joined_end, in_turn}
-use Rattle.sfv_model.proofs.sound.Many.{Step, Consumes, Consumes-from}
-use Rattle.sfv_model.proofs.sound.Steps.{StepGoes, ManyGoes, Sound-steps}
-use Rattle.sfv_model.proofs.sound.Bare.{BareGoes, Sound-bare}
 
 -- ---- keys
 

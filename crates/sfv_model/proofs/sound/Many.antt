@@ -1,17 +1,15 @@
 -- Step after step.
-use Rattle.sfv_model.proofs.sound.Combinators.{sound_at, Sound-give, Sound-ruled, Sound-led, Sound-bind, Sound-map}
-use Rattle.sfv_model.proofs.sound.Combinators.{Sound-weaker}
 use Rattle.std.proofs.Common.{◌≡◌, ℕ, zero, suc, ◌+◌, ◌<◌, ◌≤◌, List, [], ◌∷◌, ◌++◌, length, Option, Some, None, Ok}
-use Rattle.std.proofs.Common.{Err, refl, sym, ap, subst, ◌∙◌, append_assoc, arith, inl, inr, ◌⊎◌}
-use Rattle.std.specs.Prelude.{flat_map}
-use Rattle.std.proofs.lemmas.List.{append-nil, append_cancel_right, length-append}
-use Rattle.sfv_spec.specs.Texts.{IsJoining}
+use Rattle.std.proofs.Common.{Err, refl, sym, ap, subst, ◌∙◌, append_assoc, arith, inl, inr, ◌⊎◌, flat_map, append-nil}
+use Rattle.std.proofs.{Common.length-append, lemmas.List.append_cancel_right}
 use Rattle.sfv_spec.specs.Events.{TreeEvent}
-use Rattle.sfv_spec.specs.declared.error_kind.ErrorKind.TheVariants.{UnterminatedByteSequence}
+use Rattle.sfv_spec.specs.{Texts.IsJoining, declared.error_kind.ErrorKind.TheVariants.UnterminatedByteSequence}
 use Rattle.sfv_model.specs.Judgements.{Sound, Lasts, Local}
 use Rattle.sfv_model.specs.Reader.{Fault, Answer, Reader, after_events, and_then, give, ◌>>=◌, bind, led_answer, led}
 use Rattle.sfv_model.specs.Reader.{go_on, many_within, many}
 use Rattle.sfv_model.proofs.local.Combinators.{Local-give, Local-ruled, Local-led, Local-bind}
+use Rattle.sfv_model.proofs.sound.Combinators.{sound_at, Sound-give, Sound-ruled, Sound-led, Sound-bind, Sound-map}
+use Rattle.sfv_model.proofs.sound.Combinators.{Sound-weaker}
 use Rattle.sfv_model.proofs.texts.Joining.{joining_none, joining_push, Joined, events_push, in_turn}
 
 -- a step gives a value for its piece, or nothing for the closing text

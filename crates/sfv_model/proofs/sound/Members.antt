@@ -1,29 +1,23 @@
 -- What is read as an inner list, as a member of a list or of a dictionary, is one.
 use Rattle.std.proofs.Common.{◌≡◌, ℕ, ◌≤◌, true, List, [], ◌∷◌, ◌++◌, length, Some, None, refl, sym, ap, ◌∙◌}
-use Rattle.std.proofs.Common.{append_assoc, arith, inl, inr}
-use Rattle.std.specs.Prelude.{codes, flat_map}
-use Rattle.sfv_spec.proofs.Marks.{space, equals_sign, left_parenthesis, right_parenthesis, is_space, true_with}
-use Rattle.sfv_spec.specs.Texts.{Exactly, RunOf, ◌⨾◌}
-use Rattle.sfv_spec.specs.Values.{boolean, RawParameters, RawItem, RawMember, item}
-use Rattle.sfv_spec.specs.declared.version.Version.{Version}
-use Rattle.sfv_spec.specs.Grammar.{Spaces, IsKeyText, IsParametersText, IsItemText}
-use Rattle.sfv_spec.proofs.Marks.{IsParameterText}
-use Rattle.sfv_spec.proofs.Marks.{SomeSpaces}
-use Rattle.sfv_spec.specs.Grammar.{IsMemberText, IsMemberValueText, IsDictionaryMemberText}
+use Rattle.std.proofs.Common.{append_assoc, arith, inl, inr, codes, flat_map}
 use Rattle.sfv_spec.specs.Events.{TreeEvent, entry, keyed_entry, begins_item, begins_inner_list, bare_item}
 use Rattle.sfv_spec.specs.Events.{inner_list_end, parameters_events, item_events, member_events, inner_item_events}
 use Rattle.sfv_spec.specs.Events.{entry_events, keyed_events}
-use Rattle.sfv_model.specs.Judgements.{Sound}
-use Rattle.sfv_model.specs.Items.{key_at}
+use Rattle.sfv_spec.specs.Grammar.{Spaces, IsKeyText, IsParametersText, IsItemText, IsMemberText, IsMemberValueText}
+use Rattle.sfv_spec.specs.{Grammar.IsDictionaryMemberText, Texts.{Exactly, RunOf, ◌⨾◌}}
+use Rattle.sfv_spec.specs.{Values.{boolean, RawParameters, RawItem, RawMember, item}, declared.version.Version.Version}
+use Rattle.sfv_spec.proofs.Marks.{space, equals_sign, left_parenthesis, right_parenthesis, is_space, true_with}
+use Rattle.sfv_spec.proofs.Marks.{IsParameterText, SomeSpaces}
+use Rattle.sfv_model.specs.{Items.key_at, Judgements.Sound}
 use Rattle.sfv_model.specs.Members.{inner_item_at, next_item_at, inner_items_at, inner_of, closed_events, inner_at}
 use Rattle.sfv_model.specs.Members.{member_at, entry_at, member_value_at, keyed_at}
 use Rattle.sfv_model.proofs.sound.Combinators.{Sound-give, Sound-fail, Sound-led, Sound-byte, Sound-ahead, Sound-bind}
 use Rattle.sfv_model.proofs.sound.Combinators.{Sound-map, Sound-within, Sound-here, Sound-span, Reads, Somewhere, Goes}
 use Rattle.sfv_model.proofs.sound.Combinators.{begins_after, begins_longer}
-use Rattle.sfv_model.proofs.texts.Joining.{joining_none, Joined, split_joined, in_turn}
-use Rattle.sfv_model.proofs.sound.Many.{Step, Consumes, Consumes-from}
-use Rattle.sfv_model.proofs.sound.Steps.{StepGoes, Sound-steps}
 use Rattle.sfv_model.proofs.sound.Items.{Sound-key, ParametersGo, Sound-parameters, ItemGoes, Sound-item}
+use Rattle.sfv_model.proofs.sound.{Many.{Step, Consumes, Consumes-from}, Steps.{StepGoes, Sound-steps}}
+use Rattle.sfv_model.proofs.texts.Joining.{joining_none, Joined, split_joined, in_turn}
 
 -- ---- inner items
 

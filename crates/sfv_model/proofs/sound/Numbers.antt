@@ -1,16 +1,12 @@
 -- What is read as a number is one.
 use Rattle.std.proofs.Common.{◌≡◌, ℕ, ◌+◌, ◌*◌, ◌-◌, ◌^◌, ◌≤◌, Bool, true, false, eqb, ℤ, List, [], ◌∷◌, ◌++◌, length}
-use Rattle.std.proofs.Common.{refl, sym, ap, subst, ◌∙◌, append_assoc, arith}
-use Rattle.std.proofs.lemmas.List.{append-nil, nil_from_length}
-use Rattle.std.proofs.lemmas.Bool.{eqb-true, eqb-false, ltb-false}
+use Rattle.std.proofs.Common.{refl, sym, ap, subst, ◌∙◌, append_assoc, arith, append-nil, eqb-true, ltb-false}
+use Rattle.std.proofs.lemmas.{Bool.eqb-false, List.nil_from_length}
+use Rattle.sfv_spec.specs.{Events.TreeEvent, Numbers.{AreDigits, place_value, signed, IsIntegerText, IsDecimalText}}
+use Rattle.sfv_spec.specs.{Texts.RunOf, Values.{BareValue, integer, decimal}}
 use Rattle.sfv_spec.proofs.Marks.{digit_zero, minus_sign, dot, is_digit, minus_text}
-use Rattle.sfv_spec.specs.Texts.{RunOf}
-use Rattle.sfv_spec.specs.Values.{BareValue, integer, decimal}
-use Rattle.sfv_spec.specs.Numbers.{AreDigits, place_value, signed, IsIntegerText, IsDecimalText}
-use Rattle.sfv_spec.specs.Events.{TreeEvent}
-use Rattle.sfv_model.specs.Judgements.{Sound}
-use Rattle.sfv_model.specs.Reader.{◌>>=◌, up_to}
 use Rattle.sfv_model.specs.Bare.{sign_at, long_at, decimal_at, fraction_at, point_at, whole_at, number_at}
+use Rattle.sfv_model.specs.{Judgements.Sound, Reader.{◌>>=◌, up_to}}
 use Rattle.sfv_model.proofs.sound.Combinators.{Found, Sound-give, Sound-fail, Sound-ruled, Sound-branch, Sound-ahead}
 use Rattle.sfv_model.proofs.sound.Combinators.{Sound-cond, Sound-bind, Sound-back, Sound-up_to}
 

@@ -1,13 +1,11 @@
 -- Steps whose values are visited.
 use Rattle.std.proofs.Common.{ℕ, List, [], ◌∷◌, ◌++◌, Option, Some, None, refl, sym, ap, subst, ◌∙◌, append_assoc}
-use Rattle.std.specs.Prelude.{flat_map}
-use Rattle.std.proofs.lemmas.List.{append-nil}
-use Rattle.sfv_spec.specs.Texts.{IsJoining}
-use Rattle.sfv_spec.specs.Events.{TreeEvent}
+use Rattle.std.proofs.Common.{flat_map, append-nil}
+use Rattle.sfv_spec.specs.{Events.TreeEvent, Texts.IsJoining}
 use Rattle.sfv_model.specs.Reader.{Reader, many}
 use Rattle.sfv_model.proofs.sound.Combinators.{Sound-within, Somewhere, Begins, Goes, Reads, begins_after}
-use Rattle.sfv_model.proofs.texts.Joining.{joining_push, Joined, joined_split, events_push}
 use Rattle.sfv_model.proofs.sound.Many.{Step, Sound-many}
+use Rattle.sfv_model.proofs.texts.Joining.{joining_push, Joined, joined_split, events_push}
 
 abbrev pub step_events : {A : Type 0} → (A → List TreeEvent) → Option A → List TreeEvent
 step_events parts (Some v) = parts v

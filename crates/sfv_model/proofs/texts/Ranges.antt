@@ -1,14 +1,9 @@
 -- Parts of an input, and runs of bytes in it.
 use Rattle.std.proofs.Common.{◌≡◌, ℕ, zero, suc, ◌<◌, ◌≤◌, ◌+◌, ◌-◌, Bool, true, List, [], ◌∷◌, ◌++◌, length, drop}
-use Rattle.std.proofs.Common.{refl, take-append-drop, arith}
-use Rattle.std.specs.Prelude.{IsUtf8, slice_index, slice_range}
-use Rattle.std.specs.List.{list_all}
-use Rattle.std.specs.Str.{IsAscii}
-use Rattle.std.proofs.lemmas.Bool.{and_parts, and_from, leb-true}
-use Rattle.std.proofs.lemmas.List.{drop-drop, drop_more}
-use Rattle.std.proofs.lemmas.Str.{IsUtf8-from_ascii}
-use Rattle.sfv_spec.specs.Texts.{RunOf}
-use Rattle.sfv_spec.specs.Classes.{is_string_byte}
+use Rattle.std.proofs.Common.{refl, take-append-drop, arith, IsUtf8, slice_index, slice_range, IsAscii, leb-true}
+use Rattle.std.{proofs.Common.drop-drop, specs.List.list_all}
+use Rattle.std.proofs.lemmas.{Bool.{and_parts, and_from}, List.drop_more, Str.IsUtf8-from_ascii}
+use Rattle.sfv_spec.specs.{Classes.is_string_byte, Texts.RunOf}
 
 -- ---- parts of an input
 

@@ -1,40 +1,32 @@
 -- What the readers told before a fault with a rule; leaf: so it is of bare items.
-use Rattle.sfv_model.proofs.sound.Combinators.{sound_at, Begins, Reads, Goes, Sound-back, Steady-span}
 use Rattle.std.proofs.Common.{◌≡◌, ℕ, Bool, true, false, List, [], ◌∷◌, ◌++◌, Option, Some, None, Ok, Err, refl, sym}
-use Rattle.std.proofs.Common.{ap, subst, ◌∙◌, append_assoc, flat_map, inl, inr}
-use Rattle.std.proofs.lemmas.List.{append-nil}
-use Rattle.std.proofs.lemmas.Bool.{true≢false, cases_Bool, eqb-true}
-use Rattle.sfv_spec.proofs.Marks.{comma, is_space, true_with}
-use Rattle.sfv_spec.specs.Values.{boolean, RawParameters, RawItem, RawMember, item, inner_list}
-use Rattle.sfv_spec.specs.declared.field_kind.FieldKind.{FieldKind}
-use Rattle.sfv_spec.specs.declared.field_kind.FieldKind.TheVariants.{Item as item_field, List as list_field}
-use Rattle.sfv_spec.specs.declared.field_kind.FieldKind.TheVariants.{Dictionary as dictionary_field}
-use Rattle.sfv_spec.specs.declared.version.Version.{Version}
-use Rattle.sfv_spec.specs.Grammar.{IsMemberText, IsDictionaryMemberText}
+use Rattle.std.proofs.Common.{ap, subst, ◌∙◌, append_assoc, flat_map, inl, inr, append-nil, true≢false, eqb-true}
+use Rattle.std.proofs.lemmas.Bool.{cases_Bool}
 use Rattle.sfv_spec.specs.Events.{TreeEvent, events, entry, keyed_entry, begins_item, begins_inner_list, bare_item}
 use Rattle.sfv_spec.specs.Events.{inner_list_end, inner_item_events, parameters_events, item_events, member_events}
-use Rattle.sfv_spec.specs.Events.{entry_events, keyed_events}
-use Rattle.sfv_spec.specs.declared.error_kind.ErrorKind.TheVariants.{TrailingComma, TrailingCharactersAfterMember}
-use Rattle.sfv_model.specs.Judgements.{Local, Quiet}
-use Rattle.sfv_model.specs.Reader.{Fault, Answer, Reader, visited, and_then, give, fail, ◌>>=◌, bind, led, led_answer}
-use Rattle.sfv_model.specs.Reader.{branch, ahead, back, span, many, one_and_more, byte, any}
-use Rattle.sfv_model.specs.Bare.{bare_at, token_at}
+use Rattle.sfv_spec.specs.{Events.{entry_events, keyed_events}, Grammar.{IsMemberText, IsDictionaryMemberText}}
+use Rattle.sfv_spec.specs.Values.{boolean, RawParameters, RawItem, RawMember, item, inner_list}
+use Rattle.sfv_spec.proofs.Marks.{comma, is_space, true_with}
+use Rattle.sfv_model.specs.{Bare.{bare_at, token_at}, Fields.{comma_at, next_at, members_at, whole_field_at}}
 use Rattle.sfv_model.specs.Items.{key_at, value_at, parameter_at, parameter_event, parameters_at, item_of, item_at}
+use Rattle.sfv_model.specs.Judgements.{Local, Quiet}
 use Rattle.sfv_model.specs.Members.{inner_item_at, next_item_at, inner_items_at, inner_of, closed_events, inner_at}
 use Rattle.sfv_model.specs.Members.{member_at, entry_at, member_value_at, keyed_at}
-use Rattle.sfv_model.specs.Fields.{comma_at, next_at, members_at, whole_field_at}
-use Rattle.sfv_model.proofs.sound.Items.{Consumes-parameter, parameters_begin}
-use Rattle.sfv_model.proofs.sound.Members.{Consumes-next_item, Sound-entry, Sound-keyed}
-use Rattle.sfv_model.proofs.sound.Separated.{IsComma, Sound-comma, Consumes-next, Local-next}
-use Rattle.sfv_model.proofs.sound.Steps.{step_events}
-use Rattle.sfv_model.proofs.local.Combinators.{Local-span, looks}
+use Rattle.sfv_model.specs.Reader.{Fault, Answer, Reader, visited, and_then, give, fail, ◌>>=◌, bind, led, led_answer}
+use Rattle.sfv_model.specs.Reader.{branch, ahead, back, span, many, one_and_more, byte, any}
+use Rattle.sfv_model.proofs.Types.{FieldKind, item_field, list_field, dictionary_field, Version, TrailingComma}
+use Rattle.sfv_model.proofs.Types.{TrailingCharactersAfterMember}
+use Rattle.sfv_model.proofs.local.{Bare.Local-bare, Combinators.{Local-span, looks}}
 use Rattle.sfv_model.proofs.local.Items.{Local-key, Local-value, Local-parameter, Local-item}
-use Rattle.sfv_model.proofs.local.Bare.{Local-bare}
 use Rattle.sfv_model.proofs.local.Members.{Local-inner_item, Local-next_item, Local-items, Local-entry, Local-keyed}
 use Rattle.sfv_model.proofs.places.Calls.{Stuck, stuck_bind}
 use Rattle.sfv_model.proofs.places.CallsOfReaders.{stuck_give, stuck_then, stuck_after, stuck_value, stuck_parameters}
 use Rattle.sfv_model.proofs.places.CallsOfReaders.{stuck_next_items, stuck_next, stuck_space, stuck_last}
 use Rattle.sfv_model.proofs.places.CallsOfReaders.{stuck-member_value, Local-comma}
+use Rattle.sfv_model.proofs.sound.Combinators.{sound_at, Begins, Reads, Goes, Sound-back, Steady-span}
+use Rattle.sfv_model.proofs.sound.Items.{Consumes-parameter, parameters_begin}
+use Rattle.sfv_model.proofs.sound.Members.{Consumes-next_item, Sound-entry, Sound-keyed}
+use Rattle.sfv_model.proofs.sound.{Separated.{IsComma, Sound-comma, Consumes-next, Local-next}, Steps.step_events}
 use Rattle.sfv_model.proofs.visits.EventsBeforeRuleAlike.{Tells, Early, begins_all, Early-give, Early-fail, Early-span}
 use Rattle.sfv_model.proofs.visits.EventsBeforeRuleAlike.{tells_after, tells_second, Early-led, Early-bind, Early-then}
 use Rattle.sfv_model.proofs.visits.EventsBeforeRuleAlike.{Early-map, Early-led_map, Early-branch, Early-ahead}

@@ -1,20 +1,15 @@
 -- What was told before a fault with a rule is told before every text that goes on alike.
 use Rattle.std.proofs.Common.{◌≡◌, ℕ, zero, suc, ◌<◌, Bool, true, false, List, [], ◌∷◌, ◌++◌, length, Option, Some}
-use Rattle.std.proofs.Common.{None, Ok, Err, refl, sym, ap, subst, ◌∙◌, append_assoc, arith, inl, inr}
-use Rattle.std.specs.Prelude.{flat_map}
-use Rattle.std.proofs.lemmas.List.{append-nil}
-use Rattle.std.proofs.lemmas.Bool.{true≢false, cases_Bool}
-use Rattle.sfv_spec.specs.Events.{TreeEvent}
-use Rattle.sfv_spec.specs.declared.error_kind.ErrorKind.{ErrorKind}
+use Rattle.std.proofs.Common.{None, Ok, Err, refl, sym, ap, subst, ◌∙◌, append_assoc, arith, inl, inr, flat_map}
+use Rattle.std.proofs.{Common.{append-nil, true≢false}, lemmas.Bool.cases_Bool}
+use Rattle.sfv_spec.specs.{Events.TreeEvent, declared.error_kind.ErrorKind.ErrorKind}
 use Rattle.sfv_model.specs.Judgements.{Lasts, Local}
 use Rattle.sfv_model.specs.Reader.{Fault, Answer, Reader, first, visited, after_events, and_then, give, fail, ◌>>=◌}
 use Rattle.sfv_model.specs.Reader.{bind, led_answer, led, branch, ahead, span, go_on, many, one_and_more}
-use Rattle.sfv_model.proofs.sound.Combinators.{Begins, begins_after, Steady-span}
-use Rattle.sfv_model.proofs.sound.Many.{Consumes, many_is}
-use Rattle.sfv_model.proofs.sound.Steps.{step_events}
 use Rattle.sfv_model.proofs.local.Combinators.{first_after, untaken, looks}
-use Rattle.sfv_model.proofs.places.Calls.{Stuck, stuck_bind}
-use Rattle.sfv_model.proofs.places.CallsOfReaders.{stuck_give, stuck_then, stuck_after}
+use Rattle.sfv_model.proofs.places.{Calls.{Stuck, stuck_bind}, CallsOfReaders.{stuck_give, stuck_then, stuck_after}}
+use Rattle.sfv_model.proofs.sound.Combinators.{Begins, begins_after, Steady-span}
+use Rattle.sfv_model.proofs.sound.{Many.{Consumes, many_is}, Steps.step_events}
 
 -- After before and one byte more, the events es were told, whatever follows; and something may follow.
 pub record Tells {A : Type 0} (f : Reader A) (parts : A → List TreeEvent) (t : List ℕ) (es : List TreeEvent) : Type 0 where

@@ -1,34 +1,20 @@
 -- The events before an error that names what is expected: those of the field in front of it.
-use Rattle.std.proofs.Common.{◌≡◌, ℕ, ◌-◌, List, [], ◌∷◌, ◌++◌, length, take, Ok, Err, Result, refl, sym, ap, subst, ◌∙◌, inr}
-use Rattle.std.proofs.Common.{arith}
-use Rattle.std.proofs.lemmas.List.{append-nil, append_cancel_right, length-append, take_at}
-use Rattle.std.specs.Prelude.{codes}
-use Rattle.sfv_spec.specs.Values.{RawField, HasMember}
-use Rattle.sfv_spec.specs.declared.field_kind.FieldKind.{FieldKind}
-use Rattle.sfv_spec.specs.declared.field_kind.FieldKind.TheVariants.{Item as item_field, List as list_field}
-use Rattle.sfv_spec.specs.declared.field_kind.FieldKind.TheVariants.{Dictionary as dictionary_field}
-use Rattle.sfv_spec.specs.declared.version.Version.{Version}
-use Rattle.sfv_spec.specs.declared.error_kind.ErrorKind.{ErrorKind}
-use Rattle.sfv_spec.specs.declared.error_kind.ErrorKind.TheVariants.{TrailingCharactersAfterMember}
-use Rattle.sfv_spec.specs.declared.error_kind.ErrorKind.TheVariants.{TrailingCharactersAfterParsedValue}
-use Rattle.sfv_spec.specs.declared.error_kind.ErrorKind.TheVariants.{ExpectedInnerListDelimiter}
-use Rattle.sfv_spec.specs.Grammar.{IsFieldText, IsAccepted}
-use Rattle.sfv_spec.specs.Faults.{IsWantedAt}
-use Rattle.sfv_spec.specs.Faults as faults
+use Rattle.std.proofs.Common.{◌≡◌, ℕ, ◌-◌, List, [], ◌∷◌, ◌++◌, length, take, Ok, Err, Result, refl, sym, ap, subst}
+use Rattle.std.proofs.Common.{◌∙◌, inr, arith, append-nil, length-append, take_at, codes}
+use Rattle.std.proofs.lemmas.List.{append_cancel_right}
 use Rattle.sfv_spec.specs.Events.{TreeEvent, inner_list_end, parameters_end, events}
+use Rattle.sfv_spec.specs.{Faults.IsWantedAt, Grammar.{IsFieldText, IsAccepted}, Values.{RawField, HasMember}}
 use Rattle.sfv_spec.proofs.Structure.{one_field_lem}
-use Rattle.sfv_model.specs.Commas.{HasManyMembers}
+use Rattle.sfv_model.specs.{Commas.HasManyMembers, Fields.{whole_field_at, ending, read_field}}
 use Rattle.sfv_model.specs.Reader.{Fault, Answer, visited}
-use Rattle.sfv_model.specs.Fields.{whole_field_at, ending, read_field}
-use Rattle.sfv_model.proofs.Theorems.{read_is_accepted}
-use Rattle.sfv_model.proofs.TrailingBytes.{read_before}
-use Rattle.sfv_model.proofs.FaultTable.{fault_is_at, one_fault}
-use Rattle.sfv_model.proofs.faults.BetweenInnerItems.{Stands, IsOpen, IsWhole}
-use Rattle.sfv_model.proofs.faults.Fields.{HasMembers, field_rules}
-use Rattle.sfv_model.proofs.faults.TrailingCommas.{not_item}
-use Rattle.sfv_model.proofs.places.OneWanted.{one_wanted}
-use Rattle.sfv_model.proofs.sound.Combinators.{Begins}
-use Rattle.sfv_model.proofs.visits.EventsBeforeRuleAlike.{begins_all}
+use Rattle.sfv_model.proofs.{FaultTable.{fault_is_at, one_fault}, Theorems.read_is_accepted, TrailingBytes.read_before}
+use Rattle.sfv_model.proofs.Types.{FieldKind, item_field, list_field, dictionary_field, Version, ErrorKind}
+use Rattle.sfv_model.proofs.Types.{TrailingCharactersAfterMember, TrailingCharactersAfterParsedValue}
+use Rattle.sfv_model.proofs.Types.{ExpectedInnerListDelimiter}
+use Rattle.sfv_model.proofs.faults.{BetweenInnerItems.{Stands, IsOpen, IsWhole}, Fields.{HasMembers, field_rules}}
+use Rattle.sfv_model.proofs.{faults.TrailingCommas.not_item, places.OneWanted.one_wanted}
+use Rattle.sfv_model.proofs.{sound.Combinators.Begins, visits.EventsBeforeRuleAlike.begins_all}
+use Rattle.sfv_spec.specs.Faults as faults
 
 -- the reader's fault is this one
 record IsRead (version : Version) (kind : FieldKind) (t : List ℕ) (fault : ErrorKind) (n : ℕ) : Type 0 where

@@ -1,8 +1,7 @@
 -- What a reading hands out, by its parts: the steps of the code's proofs for visitors.
-use Rattle.std.proofs.Common.{◌≡◌, ℕ, List, [], ◌++◌, Ok, Err, refl, sym, ap, ◌∙◌, append_assoc}
-use Rattle.std.proofs.lemmas.List.{append-nil}
-use Rattle.sfv_spec.specs.Events.{TreeEvent}
+use Rattle.std.proofs.Common.{◌≡◌, ℕ, List, [], ◌++◌, Ok, Err, refl, sym, ap, ◌∙◌, append_assoc, append-nil}
 use Rattle.std.specs.List.{FoldsTo}
+use Rattle.sfv_spec.specs.Events.{TreeEvent}
 use Rattle.sfv_model.specs.Reader.{Answer, Reader, and_then, ◌>>=◌, bind, led_answer, led, visited}
 use Rattle.sfv_model.specs.Visits.{VisitorFails}
 

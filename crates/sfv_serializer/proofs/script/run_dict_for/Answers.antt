@@ -1,9 +1,7 @@
 use Rattle.sfv_spec.specs.declared.field_kind.FieldKind.TheVariants.{Dictionary as dictionary_field}
-use Rattle.sfv_writer.proofs.Checks.{at_exit}
-use Rattle.sfv_writer.proofs.ReadBack.{read_back}
+use Rattle.sfv_writer.proofs.{Checks.at_exit, ReadBack.read_back}
 use Rattle.sfv_serializer.specs.Scripts.{described_dictionary}
-use Rattle.sfv_serializer.proofs.Described.{dictionary_fits}
-use Rattle.sfv_serializer.proofs.Handed.{named_dictionary}
+use Rattle.sfv_serializer.proofs.{Described.dictionary_fits, Handed.named_dictionary}
 use Rattle.sfv_serializer.proofs.script.run_dict_for.Goals as goal
 
 pub returns-clause-read_back : goal.returns-clause-read_back

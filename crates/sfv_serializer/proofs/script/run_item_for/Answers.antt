@@ -1,7 +1,5 @@
-use Rattle.sfv_spec.specs.declared.field_kind.FieldKind.TheVariants.{Item as item_field}
-use Rattle.sfv_spec.specs.Values.{bare_values}
-use Rattle.sfv_writer.proofs.Checks.{look_fails, memory_fails}
-use Rattle.sfv_writer.proofs.ReadBack.{read_back}
+use Rattle.sfv_spec.specs.{Values.bare_values, declared.field_kind.FieldKind.TheVariants.Item as item_field}
+use Rattle.sfv_writer.proofs.{Checks.{look_fails, memory_fails}, ReadBack.read_back}
 use Rattle.sfv_serializer.specs.Scripts.{item_of_calls}
 use Rattle.sfv_serializer.proofs.script.run_item_for.Goals as goal
 

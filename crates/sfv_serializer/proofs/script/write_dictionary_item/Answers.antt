@@ -1,11 +1,8 @@
-use Rattle.std.proofs.Common.{[], ◌∷◌, ◌<◌, ◌≤◌, length, refl, ◌∙◌, codes, rules}
-use Rattle.std.proofs.lemmas.List.{append-nil, take_all}
-use Rattle.sfv_values.specs.CheckedTexts.{text_of as key_text}
-use Rattle.sfv_values.specs.BareItems.{ref_value}
+use Rattle.std.proofs.Common.{[], ◌∷◌, ◌<◌, ◌≤◌, length, refl, ◌∙◌, codes, rules, append-nil, take_all}
+use Rattle.sfv_values.specs.{BareItems.ref_value, CheckedTexts.text_of as key_text}
 use Rattle.sfv_writer.specs.Written.{separator_before, keyed_text, param_text}
 use Rattle.sfv_serializer.specs.Serializers.{is_empty_so_far}
-use Rattle.sfv_serializer.proofs.Scripts.{kept_grown, of_error}
-use Rattle.sfv_serializer.proofs.Room.{params_lack, memory_lacks}
+use Rattle.sfv_serializer.proofs.{Room.{params_lack, memory_lacks}, Scripts.{kept_grown, of_error}}
 use Rattle.sfv_serializer.proofs.Steps.{put_before, params_text_more, are_params_more, grows, kept_grows, more_at}
 use Rattle.sfv_serializer.proofs.Steps.{more_after}
 use Rattle.sfv_serializer.proofs.script.write_dictionary_item.Goals as goal

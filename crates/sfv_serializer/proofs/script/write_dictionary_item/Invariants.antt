@@ -1,11 +1,10 @@
 use Rattle.std.proofs.Common.{◌≡◌, ◌++◌, false, codes}
-use Rattle.sfv_spec.specs.Values.{item, IsItem}
-use Rattle.sfv_spec.specs.declared.version.Version.TheVariants.{Rfc9651}
 use Rattle.sfv_spec.specs.Canonical.{dictionary_member_text}
+use Rattle.sfv_spec.specs.{Values.{item, IsItem}, declared.version.Version.TheVariants.Rfc9651}
 use Rattle.sfv_values.specs.CheckedTexts.{text_of as key_text}
 use Rattle.sfv_writer.specs.Written.{separator_before}
-use Rattle.sfv_serializer.proofs.Scripts.{item_so_far}
 use Rattle.sfv_serializer.specs.Serializers.{params_sink, params_version, HasAppended, is_empty_so_far}
+use Rattle.sfv_serializer.proofs.Scripts.{item_so_far}
 use Rattle.sfv_serializer.proofs.script.write_dictionary_item.Given as goal
 
 abbrev pub invariant-loop-call : goal.invariant-loop-call

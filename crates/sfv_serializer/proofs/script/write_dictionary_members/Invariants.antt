@@ -1,12 +1,8 @@
-use Rattle.std.proofs.Common.{◌≡◌, ◌≤◌, take, codes, string_bytes, string_capacity}
-use Rattle.std.specs.Prelude.{IsTrue}
-use Rattle.sfv_spec.specs.Classes.{is_key}
-use Rattle.sfv_spec.specs.Values.{IsMember}
-use Rattle.sfv_spec.specs.declared.field_kind.FieldKind.TheVariants.{Dictionary as dictionary_field}
-use Rattle.sfv_spec.specs.Canonical.{dictionary_member_text}
-use Rattle.sfv_serializer.specs.ScriptSteps.{described, dictionary_calls}
+use Rattle.std.proofs.Common.{◌≡◌, ◌≤◌, take, codes, string_bytes, string_capacity, IsTrue}
+use Rattle.sfv_spec.specs.{Canonical.dictionary_member_text, Classes.is_key}
+use Rattle.sfv_spec.specs.{Values.IsMember, declared.field_kind.FieldKind.TheVariants.Dictionary as dictionary_field}
 use Rattle.sfv_writer.proofs.Separated.{IsLed}
-use Rattle.sfv_serializer.specs.Serializers.{is_empty_so_far}
+use Rattle.sfv_serializer.specs.{ScriptSteps.{described, dictionary_calls}, Serializers.is_empty_so_far}
 use Rattle.sfv_serializer.proofs.script.write_dictionary_members.Given as goal
 
 abbrev pub invariant-loop-name : goal.invariant-loop-name

@@ -1,9 +1,7 @@
 use Rattle.std.proofs.Common.{◌≡◌, take, map, false}
-use Rattle.sfv_spec.specs.Values.{AreParameters}
-use Rattle.sfv_spec.specs.declared.version.Version.TheVariants.{Rfc9651}
 use Rattle.sfv_spec.specs.Canonical.{parameters_text}
-use Rattle.sfv_serializer.specs.Serializers.{HasAppended, params_sink, params_version}
-use Rattle.sfv_serializer.specs.Scripts.{param_of_call}
+use Rattle.sfv_spec.specs.{Values.AreParameters, declared.version.Version.TheVariants.Rfc9651}
+use Rattle.sfv_serializer.specs.{Scripts.param_of_call, Serializers.{HasAppended, params_sink, params_version}}
 use Rattle.sfv_serializer.proofs.script.write_inner.Given as goal
 
 abbrev pub invariant-loop-call : goal.invariant-loop-call

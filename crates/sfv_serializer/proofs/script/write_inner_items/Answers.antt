@@ -1,8 +1,6 @@
-use Rattle.std.proofs.Common.{◌<◌, length, arith, refl, sym, ◌∙◌, rules}
-use Rattle.std.proofs.lemmas.List.{append-nil}
+use Rattle.std.proofs.Common.{◌<◌, length, arith, refl, sym, ◌∙◌, rules, append-nil}
 use Rattle.sfv_writer.proofs.Separated.{anyway}
-use Rattle.sfv_serializer.proofs.Room.{next_item_lacks}
-use Rattle.sfv_serializer.proofs.Scripts.{item_more, no_less}
+use Rattle.sfv_serializer.proofs.{Room.next_item_lacks, Scripts.{item_more, no_less}}
 use Rattle.sfv_serializer.proofs.script.write_inner_items.Goals as goal
 
 pub loop-calls-init : goal.loop-calls-init

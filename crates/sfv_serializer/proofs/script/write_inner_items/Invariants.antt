@@ -1,9 +1,7 @@
 use Rattle.std.proofs.Common.{◌≡◌, ◌≤◌, take, map, codes, string_bytes, string_capacity}
-use Rattle.sfv_spec.specs.Values.{IsItem}
-use Rattle.sfv_spec.specs.Canonical.{item_text}
+use Rattle.sfv_spec.specs.{Canonical.item_text, Values.IsItem}
 use Rattle.sfv_writer.proofs.Separated.{IsLed}
-use Rattle.sfv_serializer.specs.Serializers.{IsSameSequence, is_empty_so_far}
-use Rattle.sfv_serializer.specs.Scripts.{item_of_calls}
+use Rattle.sfv_serializer.specs.{Scripts.item_of_calls, Serializers.{IsSameSequence, is_empty_so_far}}
 use Rattle.sfv_serializer.proofs.script.write_inner_items.Given as goal
 
 abbrev pub invariant-loop-calls : goal.invariant-loop-calls

@@ -1,9 +1,6 @@
 use Rattle.std.proofs.Common.{◌≡◌, ◌≤◌, ◌++◌, string_bytes, string_capacity}
-use Rattle.sfv_spec.specs.Values.{IsItem}
-use Rattle.sfv_spec.specs.declared.version.Version.TheVariants.{Rfc9651}
-use Rattle.sfv_spec.specs.Canonical.{item_text}
-use Rattle.sfv_serializer.proofs.Scripts.{item_so_far}
-use Rattle.sfv_serializer.specs.Serializers.{params_sink, params_version}
+use Rattle.sfv_spec.specs.{Canonical.item_text, Values.IsItem, declared.version.Version.TheVariants.Rfc9651}
+use Rattle.sfv_serializer.{specs.Serializers.{params_sink, params_version}, proofs.Scripts.item_so_far}
 use Rattle.sfv_serializer.proofs.script.write_item.Given as goal
 
 abbrev pub invariant-loop-call : goal.invariant-loop-call

@@ -1,10 +1,8 @@
 use Rattle.std.proofs.Common.{◌≡◌, ◌++◌, false}
-use Rattle.sfv_spec.specs.Values.{IsItem}
-use Rattle.sfv_spec.specs.declared.version.Version.TheVariants.{Rfc9651}
-use Rattle.sfv_spec.specs.Canonical.{item_text}
+use Rattle.sfv_spec.specs.{Canonical.item_text, Values.IsItem, declared.version.Version.TheVariants.Rfc9651}
 use Rattle.sfv_writer.specs.Written.{separator_before}
-use Rattle.sfv_serializer.proofs.Scripts.{item_so_far}
 use Rattle.sfv_serializer.specs.Serializers.{params_sink, params_version, HasAppended, is_empty_so_far}
+use Rattle.sfv_serializer.proofs.Scripts.{item_so_far}
 use Rattle.sfv_serializer.proofs.script.write_keyless_item.Given as goal
 
 abbrev pub invariant-loop-call : goal.invariant-loop-call

@@ -1,10 +1,8 @@
 use Rattle.std.proofs.Common.{◌≡◌, ◌≤◌, take, codes, string_bytes, string_capacity}
-use Rattle.sfv_spec.specs.Values.{IsMember}
-use Rattle.sfv_spec.specs.declared.field_kind.FieldKind.TheVariants.{List as list_field}
 use Rattle.sfv_spec.specs.Canonical.{member_text}
-use Rattle.sfv_serializer.specs.ScriptSteps.{described, list_calls}
+use Rattle.sfv_spec.specs.{Values.IsMember, declared.field_kind.FieldKind.TheVariants.List as list_field}
 use Rattle.sfv_writer.proofs.Separated.{IsLed}
-use Rattle.sfv_serializer.specs.Serializers.{is_empty_so_far}
+use Rattle.sfv_serializer.specs.{ScriptSteps.{described, list_calls}, Serializers.is_empty_so_far}
 use Rattle.sfv_serializer.proofs.script.write_list_members.Given as goal
 
 abbrev pub invariant-loop-member : goal.invariant-loop-member

@@ -1,6 +1,6 @@
 use Rattle.std.proofs.Common.{[], ◌∷◌, map}
-use Rattle.sfv_values.specs.BareItems.{ref_value}
 use Rattle.sfv_spec.proofs.Marks.{parameter_values}
+use Rattle.sfv_values.specs.BareItems.{ref_value}
 use Rattle.sfv_writer.proofs.Checks.{at_exit, names_front, looks_after}
 use Rattle.sfv_serializer.specs.Scripts.{param_of_call}
 use Rattle.sfv_serializer.proofs.version_check_of_calls.check_item_calls.Goals as goal

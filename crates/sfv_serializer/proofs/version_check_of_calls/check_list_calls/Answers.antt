@@ -1,13 +1,8 @@
-use Rattle.std.proofs.Common.{◌<◌, length, map, subst, rules}
-use Rattle.std.specs.Prelude.{flat_map}
-use Rattle.std.proofs.lemmas.List.{take_all}
+use Rattle.std.proofs.Common.{◌<◌, length, map, subst, rules, flat_map, take_all}
+use Rattle.sfv_spec.specs.Values.{AllFit, member_values}
+use Rattle.sfv_writer.{specs.Versions.NamesFirstUnfit, proofs.Checks.at_exit}
 use Rattle.sfv_serializer.specs.ScriptSteps.{supplied_member, member_calls}
-use Rattle.sfv_spec.specs.Values.{AllFit}
-use Rattle.sfv_writer.specs.Versions.{NamesFirstUnfit}
-use Rattle.sfv_spec.specs.Values.{member_values}
-use Rattle.sfv_writer.proofs.Checks.{at_exit}
-use Rattle.sfv_serializer.proofs.Slices.{slice_more, slice_stops}
-use Rattle.sfv_serializer.proofs.Handed.{list_supplied}
+use Rattle.sfv_serializer.proofs.{Handed.list_supplied, Slices.{slice_more, slice_stops}}
 use Rattle.sfv_serializer.proofs.version_check_of_calls.check_list_calls.Goals as goal
 
 pub loop-member-preserved : goal.loop-member-preserved

@@ -1,12 +1,8 @@
-use Rattle.std.proofs.Common.{◌<◌, length, map, subst, rules}
-use Rattle.std.specs.Prelude.{flat_map}
-use Rattle.std.proofs.lemmas.List.{take_all}
+use Rattle.std.proofs.Common.{◌<◌, length, map, subst, rules, flat_map, take_all}
 use Rattle.sfv_spec.specs.Values.{AllFit}
-use Rattle.sfv_writer.specs.Versions.{NamesFirstUnfit}
-use Rattle.sfv_writer.proofs.Checks.{at_exit}
-use Rattle.sfv_serializer.proofs.Slices.{slice_more, slice_stops}
+use Rattle.sfv_writer.{specs.Versions.NamesFirstUnfit, proofs.Checks.at_exit}
 use Rattle.sfv_serializer.specs.Scripts.{param_of_call}
-use Rattle.sfv_serializer.proofs.Handed.{values_of_param, params_values}
+use Rattle.sfv_serializer.proofs.{Handed.{values_of_param, params_values}, Slices.{slice_more, slice_stops}}
 use Rattle.sfv_serializer.proofs.version_check_of_calls.check_param_calls.Goals as goal
 
 pub loop-call-preserved : goal.loop-call-preserved

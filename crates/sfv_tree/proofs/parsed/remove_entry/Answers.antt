@@ -2,8 +2,7 @@ use Rattle.std.proofs.Common.{◌∙◌, ap, option_map}
 use Rattle.sfv_spec.specs.Ordered.{last_of}
 use Rattle.sfv_values.specs.CheckedTexts.{text_of}
 use Rattle.sfv_tree.specs.Trees.{member_tree, dictionary_tree}
-use Rattle.sfv_tree.proofs.Distinct.{member_found}
-use Rattle.sfv_tree.proofs.Removed.{member_removed, last_of-without_same}
+use Rattle.sfv_tree.proofs.{Distinct.member_found, Removed.{member_removed, last_of-without_same}}
 use Rattle.sfv_tree.proofs.parsed.remove_entry.Goals as goal
 
 pub returns-clause-last : goal.returns-clause-last

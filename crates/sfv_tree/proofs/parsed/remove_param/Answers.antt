@@ -1,10 +1,8 @@
 use Rattle.std.proofs.Common.{◌∙◌, ap, option_map}
 use Rattle.sfv_spec.specs.Ordered.{last_of}
-use Rattle.sfv_values.specs.CheckedTexts.{text_of}
-use Rattle.sfv_values.specs.BareItems.{bare_value}
+use Rattle.sfv_values.specs.{BareItems.bare_value, CheckedTexts.text_of}
 use Rattle.sfv_tree.specs.Trees.{pairs_tree}
-use Rattle.sfv_tree.proofs.Distinct.{param_found}
-use Rattle.sfv_tree.proofs.Removed.{param_removed, last_of-without_same}
+use Rattle.sfv_tree.proofs.{Distinct.param_found, Removed.{param_removed, last_of-without_same}}
 use Rattle.sfv_tree.proofs.parsed.remove_param.Goals as goal
 
 pub returns-clause-last : goal.returns-clause-last

@@ -1,5 +1,4 @@
-use Rattle.std.proofs.Common.{◌∙◌, subst, eqb-true, sym, length, ◌-◌, take, drop, refl, arith}
-use Rattle.std.proofs.lemmas.List.{take_rest}
+use Rattle.std.proofs.{Common.{◌∙◌, subst, eqb-true, sym, length, ◌-◌, take, drop, refl, arith}, lemmas.List.take_rest}
 use Rattle.sfv_spec.specs.Base64.{base64_text}
 use Rattle.sfv_writer.specs.Written.{LacksRoom}
 use Rattle.sfv_writer.proofs.Encoded.{text_ascii, in_front, block_in_front, more_encoded, none_for_all, all_encoded}

@@ -1,8 +1,7 @@
 use Rattle.std.proofs.Common.{rules}
 use Rattle.sfv_spec.specs.declared.field_kind.FieldKind.TheVariants.{Dictionary as dictionary_field}
 use Rattle.sfv_tree.proofs.Words.{entry_tree}
-use Rattle.sfv_writer.proofs.ReadBack.{serialized}
-use Rattle.sfv_writer.proofs.Separated.{first_of_some, first_of_none, anyway}
+use Rattle.sfv_writer.proofs.{ReadBack.serialized, Separated.{first_of_some, first_of_none, anyway}}
 use Rattle.sfv_writer.proofs.dictionary.dictionary_text.Goals as goal
 
 pub returns-then-is_empty-clause-text : goal.returns-then-is_empty-clause-text

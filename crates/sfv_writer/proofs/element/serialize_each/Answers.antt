@@ -1,7 +1,5 @@
-use Rattle.std.proofs.Common.{rules}
-use Rattle.std.specs.Iterator.{IsFinite}
-use Rattle.sfv_writer.proofs.Checks.{each_more}
-use Rattle.sfv_writer.proofs.Separated.{anyway}
+use Rattle.std.{proofs.Common.rules, specs.Iterator.IsFinite}
+use Rattle.sfv_writer.proofs.{Checks.each_more, Separated.anyway}
 use Rattle.sfv_writer.proofs.Taken.{none_taken, one_taken, drained, extended, grown_from, grown_parted, stops_unfit}
 use Rattle.sfv_writer.proofs.Taken.{stops_full, lacks_part, lacks_separator}
 use Rattle.sfv_writer.proofs.element.serialize_each.Goals as goal

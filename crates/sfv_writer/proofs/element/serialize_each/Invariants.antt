@@ -1,4 +1,4 @@
-use Rattle.std.specs.List.{flat_map}
+use Rattle.std.proofs.Common.{flat_map}
 use Rattle.sfv_spec.specs.Values.{AllFit}
 use Rattle.sfv_writer.proofs.Taken.{HasTaken}
 use Rattle.sfv_writer.proofs.element.serialize_each.Given as goal

@@ -1,5 +1,4 @@
-use Rattle.std.proofs.Common.{◌∙◌, true, false, refl, sym, subst, string_bytes, rules}
-use Rattle.std.proofs.lemmas.List.{append-nil}
+use Rattle.std.proofs.Common.{◌∙◌, true, false, refl, sym, subst, string_bytes, rules, append-nil}
 use Rattle.std.specs.Iterator.{IsFinite}
 use Rattle.sfv_writer.proofs.Separated.{anyway}
 use Rattle.sfv_writer.proofs.Taken.{HasTaken, none_taken, one_taken, drained, grown_from, grown_parted, lacks_more}

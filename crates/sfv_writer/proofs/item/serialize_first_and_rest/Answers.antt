@@ -1,14 +1,10 @@
 use Rattle.std.proofs.Common.{[], ◌∷◌, subst}
 use Rattle.indexmap.proofs.MapLemmas.{OnOk-map}
-use Rattle.sfv_spec.specs.Values.{AllFit}
+use Rattle.sfv_spec.specs.{Canonical.parameters_text, Values.AllFit}
 use Rattle.sfv_values.specs.BareItems.{bare_value, ref_value}
-use Rattle.sfv_spec.specs.Canonical.{parameters_text}
-use Rattle.sfv_writer.specs.Written.{param_text}
-use Rattle.sfv_writer.specs.Pairs.{lent_pairs, pair_values}
-use Rattle.sfv_writer.proofs.Appended.{next, grows_after}
+use Rattle.sfv_writer.specs.{Pairs.{lent_pairs, pair_values}, Written.param_text}
+use Rattle.sfv_writer.proofs.{Appended.{next, grows_after}, Checks.fails_after, Room.room_before}
 use Rattle.sfv_writer.proofs.RoomOfIterators.{named_lacks, lacks_at_first, lacks_after}
-use Rattle.sfv_writer.proofs.Room.{room_before}
-use Rattle.sfv_writer.proofs.Checks.{fails_after}
 use Rattle.sfv_writer.proofs.item.serialize_first_and_rest.Goals as goal
 
 pub returns-clause-text : goal.returns-clause-text

@@ -1,8 +1,7 @@
 use Rattle.std.proofs.Common.{codes, string_bytes, subst, lit<}
 use Rattle.sfv_spec.specs.Canonical.{value_text}
-use Rattle.sfv_writer.specs.Written.{Appends, param_text}
 use Rattle.sfv_values.specs.BareItems.{bare_value}
-use Rattle.sfv_writer.proofs.Appended.{put, after, stops, unchanged}
+use Rattle.sfv_writer.{specs.Written.{Appends, param_text}, proofs.Appended.{put, after, stops, unchanged}}
 use Rattle.sfv_writer.proofs.item.serialize_parameter.Goals as goal
 
 pub returns-clause-text : goal.returns-clause-text

@@ -1,14 +1,10 @@
-use Rattle.std.proofs.Common.{[], ◌∷◌, refl, subst, arith, rules}
-use Rattle.std.specs.Iterator.{IsFinite, Yields}
+use Rattle.std.{proofs.Common.{[], ◌∷◌, refl, subst, arith, rules}, specs.Iterator.{IsFinite, Yields}}
+use Rattle.sfv_spec.specs.{Canonical.parameters_text, Values.AllFit}
 use Rattle.sfv_values.specs.BareItems.{bare_value, ref_value}
-use Rattle.sfv_spec.specs.Values.{AllFit}
-use Rattle.sfv_spec.specs.Canonical.{parameters_text}
-use Rattle.sfv_writer.specs.Pairs.{lent_pairs, pair_values}
-use Rattle.sfv_writer.specs.Versions.{NamesFirstUnfit}
+use Rattle.sfv_writer.specs.{Pairs.{lent_pairs, pair_values}, Versions.NamesFirstUnfit}
 use Rattle.sfv_writer.proofs.Appended.{unchanged, stops_grown}
+use Rattle.sfv_writer.proofs.{Checks.{fails_among, memory_among, singles}, Parameters.{text_more, valid_more, fit_more}}
 use Rattle.sfv_writer.proofs.RoomOfIterators.{named_lacks, lacks_among, one_lacks}
-use Rattle.sfv_writer.proofs.Checks.{fails_among, memory_among, singles}
-use Rattle.sfv_writer.proofs.Parameters.{text_more, valid_more, fit_more}
 use Rattle.sfv_writer.proofs.item.serialize_parameters.Goals as goal
 
 pub loop-key-preserved : goal.loop-key-preserved

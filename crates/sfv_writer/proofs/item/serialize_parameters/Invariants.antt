@@ -1,6 +1,5 @@
 use Rattle.std.proofs.Common.{◌≡◌, ◌≤◌, ◌++◌, string_bytes, string_capacity}
-use Rattle.sfv_spec.specs.Values.{AreParameters, AllFit}
-use Rattle.sfv_spec.specs.Canonical.{parameters_text}
+use Rattle.sfv_spec.specs.{Canonical.parameters_text, Values.{AreParameters, AllFit}}
 use Rattle.sfv_writer.specs.Pairs.{lent_pairs, pair_values}
 use Rattle.sfv_writer.proofs.item.serialize_parameters.Given as goal
 

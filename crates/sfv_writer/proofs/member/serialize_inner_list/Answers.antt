@@ -1,13 +1,8 @@
-use Rattle.std.proofs.Common.{◌≡◌, map, codes, subst, lit<}
-use Rattle.std.specs.List.{AllByRecursion}
-use Rattle.sfv_spec.specs.Values.{IsItem}
-use Rattle.sfv_spec.specs.Ordered.{ordered_item}
-use Rattle.sfv_spec.specs.Texts.{joined}
-use Rattle.sfv_spec.specs.Canonical.{item_text}
+use Rattle.std.{proofs.Common.{◌≡◌, map, codes, subst, lit<}, specs.List.AllByRecursion}
+use Rattle.sfv_spec.specs.{Canonical.item_text, Ordered.ordered_item, Texts.joined, Values.IsItem}
 use Rattle.sfv_spec.proofs.Distinct.{inner_list_own}
 use Rattle.sfv_tree.specs.Trees.{item_tree, inner_list_tree}
-use Rattle.sfv_writer.proofs.Appended.{put, after, between}
-use Rattle.sfv_writer.proofs.Separated.{all_both, parts_on_ok}
+use Rattle.sfv_writer.proofs.{Appended.{put, after, between}, Separated.{all_both, parts_on_ok}}
 use Rattle.sfv_writer.proofs.member.serialize_inner_list.Goals as goal
 
 pub returns-clause-text : goal.returns-clause-text

@@ -1,11 +1,7 @@
-use Rattle.std.proofs.Common.{◌≡◌, codes}
-use Rattle.std.specs.Slice.Iter.{iter_steps}
-use Rattle.sfv_spec.specs.Values.{IsItem, item_values}
-use Rattle.sfv_spec.specs.Ordered.{ordered_item}
-use Rattle.sfv_spec.specs.Canonical.{item_text}
+use Rattle.std.{proofs.Common.{◌≡◌, codes}, specs.Slice.Iter.iter_steps}
+use Rattle.sfv_spec.specs.{Canonical.item_text, Ordered.ordered_item, Values.{IsItem, item_values}}
 use Rattle.sfv_tree.specs.Trees.{item_tree}
-use Rattle.sfv_writer.proofs.Lent.{slice_gives}
-use Rattle.sfv_writer.proofs.AllTaken.{whole_written}
+use Rattle.sfv_writer.proofs.{AllTaken.whole_written, Lent.slice_gives}
 use Rattle.sfv_writer.proofs.member.serialize_items.Goals as goal
 
 pub returns : goal.returns

@@ -1,8 +1,5 @@
-use Rattle.std.proofs.Common.{◌≡◌, ◌++◌, ◌∙◌, codes, string_bytes, subst, lit<}
-use Rattle.std.specs.Fmt.{signed_decimal}
-use Rattle.sfv_writer.proofs.Appended.{put, next}
-use Rattle.sfv_writer.proofs.Room.{len_of}
-use Rattle.sfv_writer.proofs.Written.{cut_to}
+use Rattle.std.{proofs.Common.{◌≡◌, ◌++◌, ◌∙◌, codes, string_bytes, subst, lit<}, specs.Fmt.signed_decimal}
+use Rattle.sfv_writer.proofs.{Appended.{put, next}, Room.len_of, Written.cut_to}
 use Rattle.sfv_writer.proofs.number.serialize_date.Goals as goal
 
 pub returns-clause-text : goal.returns-clause-text

@@ -1,8 +1,6 @@
-use Rattle.std.proofs.Common.{◌∙◌, refl, ap, subst}
-use Rattle.std.specs.Prelude.{nat_abs}
+use Rattle.std.proofs.Common.{◌∙◌, refl, ap, subst, nat_abs}
 use Rattle.sfv_base.specs.Numbers.{integer_of}
-use Rattle.sfv_writer.specs.Written.{AppendsOrKeeps}
-use Rattle.sfv_writer.proofs.Decimals.{same_number, natural_text}
+use Rattle.sfv_writer.{specs.Written.AppendsOrKeeps, proofs.Decimals.{same_number, natural_text}}
 use Rattle.sfv_writer.proofs.number.serialize_integer.Goals as goal
 
 pub returns-clause-text : goal.returns-clause-text

@@ -1,7 +1,6 @@
 use Rattle.std.proofs.Common.{◌++◌, ◌∙◌, List, ℕ, string_bytes, sym, ap, subst, eqb-true, arith}
 use Rattle.sfv_spec.proofs.Marks.{plain_of}
-use Rattle.sfv_writer.specs.Quoted.{piece_of}
-use Rattle.sfv_writer.specs.Written.{LacksRoom}
+use Rattle.sfv_writer.specs.{Quoted.piece_of, Written.LacksRoom}
 use Rattle.sfv_writer.proofs.Room.{refused, rest_room, room_inside, run_itself}
 use Rattle.sfv_writer.proofs.Written.{none_written, run_written, rest_written, whole_written, plain_utf8, plain_itself}
 use Rattle.sfv_writer.proofs.quoted.serialize_inside.Goals as goal

@@ -1,4 +1,4 @@
-use Rattle.std.specs.Prelude.{flat_map}
+use Rattle.std.proofs.Common.{flat_map}
 use Rattle.sfv_spec.specs.Values.{AllFit}
 use Rattle.sfv_writer.proofs.version_check.check_all.Given as goal
 

@@ -1,10 +1,7 @@
-use Rattle.std.proofs.Common.{map, subst}
-use Rattle.std.specs.Prelude.{flat_map}
-use Rattle.sfv_spec.specs.Values.{AllFit, item_values}
+use Rattle.std.proofs.Common.{map, subst, flat_map}
+use Rattle.sfv_spec.{specs.Values.{AllFit, item_values}, proofs.Marks.parameter_values}
 use Rattle.sfv_tree.specs.Trees.{item_tree, pairs_tree}
-use Rattle.sfv_writer.specs.Versions.{NamesFirstUnfit}
-use Rattle.sfv_spec.proofs.Marks.{parameter_values}
-use Rattle.sfv_writer.proofs.Checks.{at_exit, names_front, looks_after}
+use Rattle.sfv_writer.{specs.Versions.NamesFirstUnfit, proofs.Checks.{at_exit, names_front, looks_after}}
 use Rattle.sfv_writer.proofs.version_check.check_inner_list.Goals as goal
 
 pub returns-in_err-check_items : goal.returns-in_err-check_items

@@ -1,10 +1,8 @@
 use Rattle.std.proofs.Common.{[], ◌∷◌, subst}
-use Rattle.sfv_spec.specs.Values.{AllFit}
+use Rattle.sfv_spec.{specs.Values.AllFit, proofs.Marks.parameter_values}
 use Rattle.sfv_values.specs.BareItems.{bare_value}
 use Rattle.sfv_tree.specs.Trees.{pairs_tree}
-use Rattle.sfv_writer.specs.Versions.{NamesFirstUnfit}
-use Rattle.sfv_spec.proofs.Marks.{parameter_values}
-use Rattle.sfv_writer.proofs.Checks.{at_exit, names_front, looks_after}
+use Rattle.sfv_writer.{specs.Versions.NamesFirstUnfit, proofs.Checks.{at_exit, names_front, looks_after}}
 use Rattle.sfv_writer.proofs.version_check.check_item.Goals as goal
 
 pub returns-in_err-check_bare_item : goal.returns-in_err-check_bare_item

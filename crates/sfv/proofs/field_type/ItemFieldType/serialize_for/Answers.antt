@@ -1,9 +1,7 @@
 use Rattle.std.proofs.Common.{Some, string_bytes}
-use Rattle.sfv_spec.specs.declared.field_kind.FieldKind.TheVariants.{Item as item_field}
-use Rattle.sfv_spec.specs.Values.{bare_values}
+use Rattle.sfv_spec.specs.{Values.bare_values, declared.field_kind.FieldKind.TheVariants.Item as item_field}
 use Rattle.sfv_tree.specs.Trees.{item_tree}
-use Rattle.sfv_writer.proofs.Checks.{look_fails, memory_fails}
-use Rattle.sfv_writer.proofs.ReadBack.{serialized_for}
+use Rattle.sfv_writer.proofs.{Checks.{look_fails, memory_fails}, ReadBack.serialized_for}
 use Rattle.sfv.proofs.field_type.ItemFieldType.serialize_for.Goals as goal
 
 pub returns-in_err-check_item-clause-unsupported : goal.returns-in_err-check_item-clause-unsupported

@@ -1,9 +1,6 @@
-use Rattle.sfv_spec.specs.declared.field_kind.FieldKind.TheVariants.{Item as item_field}
-use Rattle.sfv.specs.Parsers.{input_of, version_of}
-use Rattle.sfv.proofs.visits.Fields.{visits_answer, visits_syntax, visits_before}
-use Rattle.sfv.proofs.visits.Failed.{on_tree, visits_failure}
-use Rattle.sfv.proofs.visits.First.{visits_first}
-use Rattle.sfv.proofs.Memory.{visits_memory}
+use Rattle.sfv.specs.{Field.item_field, Parsers.{input_of, version_of}}
+use Rattle.sfv.proofs.{Memory.visits_memory, visits.Failed.{on_tree, visits_failure}}
+use Rattle.sfv.proofs.visits.{Fields.{visits_answer, visits_syntax, visits_before}, First.visits_first}
 use Rattle.sfv.proofs.parser.Parser.parse_item_with_visitor.Goals as goal
 
 pub returns-clause-visited : goal.returns-clause-visited

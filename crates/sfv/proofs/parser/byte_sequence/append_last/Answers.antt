@@ -1,5 +1,4 @@
-use Rattle.std.proofs.Common.{◌∙◌, ◌++◌, ℕ, List, ap, refl, sym}
-use Rattle.std.proofs.lemmas.Bool.{eqb-true}
+use Rattle.std.proofs.Common.{◌∙◌, ◌++◌, ℕ, List, ap, refl, sym, eqb-true}
 use Rattle.sfv.proofs.reads.Coded.{none_after, zeros, zeros_each, filled_each, filled_decoded}
 use Rattle.sfv.proofs.parser.byte_sequence.append_last.Goals as goal
 

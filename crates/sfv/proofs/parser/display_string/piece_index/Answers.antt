@@ -1,11 +1,8 @@
-use Rattle.std.proofs.Common.{◌≡◌, ℕ, suc, ◌+◌, ◌-◌, cond, sym, subst, arith, drop}
-use Rattle.std.specs.Prelude.{slice_index, ◌==◌}
-use Rattle.std.proofs.lemmas.Bool.{eq-eqb, ne_eqb}
+use Rattle.std.proofs.Common.{◌≡◌, ℕ, suc, ◌+◌, ◌-◌, cond, sym, subst, arith, drop, slice_index, ◌==◌, eq-eqb, ne_eqb}
 use Rattle.sfv_spec.proofs.Marks.{percent_sign}
-use Rattle.sfv_model.specs.Quoted.{after_pieces}
-use Rattle.sfv_model.proofs.quoted.DisplaySteps.{LeadsTo, leads_on}
-use Rattle.sfv.proofs.parser.display_string.piece_index.Goals as goal
+use Rattle.sfv_model.{specs.Quoted.after_pieces, proofs.quoted.DisplaySteps.{LeadsTo, leads_on}}
 use Rattle.sfv.proofs.parser.display_string.piece_index.Goals.{then-input-index-eq37, else-input-index-eq37}
+use Rattle.sfv.proofs.parser.display_string.piece_index.Goals as goal
 
 pub bounds-input-index : goal.bounds-input-index
 bounds-input-index c =

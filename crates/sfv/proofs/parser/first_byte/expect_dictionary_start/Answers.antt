@@ -1,11 +1,8 @@
 use Rattle.std.proofs.Common.{◌≡◌, ◌∙◌, Ok, ap, not}
 use Rattle.sfv_spec.proofs.Marks.{is_space}
 use Rattle.sfv_model.specs.Reader.{span}
-use Rattle.sfv.specs.Parsers.{input_of}
-use Rattle.sfv.specs.parser.Cursor.{rest}
-use Rattle.sfv.proofs.reads.Errors.{FaultOf-here}
-use Rattle.sfv.proofs.reads.Steps.{key_none}
-use Rattle.sfv.proofs.FirstByteFaults.{no_dictionary}
+use Rattle.sfv.specs.{Parsers.input_of, parser.Cursor.rest}
+use Rattle.sfv.proofs.{FirstByteFaults.no_dictionary, reads.Errors.FaultOf-here, reads.Steps.key_none}
 use Rattle.sfv.proofs.parser.first_byte.expect_dictionary_start.Goals as goal
 
 pub returns-clause-rejected : goal.returns-clause-rejected

@@ -1,9 +1,7 @@
 use Rattle.std.proofs.Common.{◌≡◌, ◌∙◌, Ok, ap, not}
 use Rattle.sfv_spec.proofs.Marks.{is_space}
 use Rattle.sfv_model.specs.Reader.{span}
-use Rattle.sfv.specs.Parsers.{input_of}
-use Rattle.sfv.specs.parser.Cursor.{rest}
-use Rattle.sfv.proofs.FirstByteFaults.{list_refused}
+use Rattle.sfv.{specs.Parsers.input_of, specs.parser.Cursor.rest, proofs.FirstByteFaults.list_refused}
 use Rattle.sfv.proofs.parser.first_byte.expect_list_start.Goals as goal
 
 pub returns-clause-rejected : goal.returns-clause-rejected

@@ -1,11 +1,8 @@
-use Rattle.std.proofs.Common.{◌∙◌, sym, ap, subst}
-use Rattle.std.specs.declared.alloc.Global.{Global}
+use Rattle.std.{proofs.Common.{◌∙◌, sym, ap, subst}, specs.declared.alloc.Global.Global}
 use Rattle.indexmap.specs.IndexMap.{hasher_of}
-use Rattle.sfv_tree.specs.Trees.{item_tree}
-use Rattle.sfv.proofs.trees.Items.{item_rejected, item_syntax_memory, item_trailing, item_read}
-use Rattle.sfv_spec.specs.declared.field_kind.FieldKind.TheVariants.{Item as item_field}
-use Rattle.sfv.specs.declared.parser.Parser.{Parser}
+use Rattle.sfv.specs.{Field.item_tree, Types.item_field, declared.parser.Parser.Parser}
 use Rattle.sfv.specs.parser.Cursor.{MayNeedMemory, kept_input}
+use Rattle.sfv.proofs.trees.Items.{item_rejected, item_syntax_memory, item_trailing, item_read}
 use Rattle.sfv.proofs.parser.tree.parse_item.Goals as goal
 
 pub returns-in-Err-Syntax-clause-rejected : goal.returns-in-Err-Syntax-clause-rejected

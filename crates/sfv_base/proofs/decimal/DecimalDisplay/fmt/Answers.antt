@@ -1,6 +1,5 @@
 -- Each branch writes the digits that the text of the decimal has for such a fraction.
-use Rattle.std.proofs.Common.{arith}
-use Rattle.std.proofs.Output.{has_written_of_eq}
+use Rattle.std.proofs.{Common.arith, Output.has_written_of_eq}
 use Rattle.sfv_base.specs.Numbers.{thousandths_of}
 use Rattle.sfv_base.proofs.DecimalText.{fraction-one, fraction-two, fraction-three, written-text}
 use Rattle.sfv_base.proofs.decimal.DecimalDisplay.fmt.Goals as goal

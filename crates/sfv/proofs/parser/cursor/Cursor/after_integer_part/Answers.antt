@@ -1,10 +1,7 @@
-use Rattle.std.proofs.Common.{refl}
-use Rattle.std.proofs.lemmas.Bool.{le-ltb, ne_eqb}
+use Rattle.std.proofs.Common.{refl, le-ltb, ne_eqb}
 use Rattle.sfv_model.specs.Bare.{whole_at, point_at}
 use Rattle.sfv.specs.parser.Values.{number_value_of}
-use Rattle.sfv.proofs.reads.Errors.{reads_same}
-use Rattle.sfv.proofs.reads.Steps.{whole_point}
-use Rattle.sfv.proofs.reads.Runs.{spelt_below}
+use Rattle.sfv.proofs.reads.{Errors.reads_same, Runs.spelt_below, Steps.whole_point}
 use Rattle.sfv.proofs.parser.cursor.Cursor.after_integer_part.Goals as goal
 
 pub signed-requires : goal.signed-requires

@@ -1,6 +1,5 @@
 use Rattle.std.proofs.Common.{◌∙◌, ap, not}
-use Rattle.sfv.proofs.reads.Errors.{FaultOf-here}
-use Rattle.sfv.proofs.reads.Delimiters.{no_member, no_comma, comma_last, comma_more}
+use Rattle.sfv.proofs.reads.{Delimiters.{no_member, no_comma, comma_last, comma_more}, Errors.FaultOf-here}
 use Rattle.sfv.proofs.parser.cursor.Cursor.consume_comma.Goals as goal
 
 pub returns-then-is_none : goal.returns-then-is_none

@@ -1,6 +1,5 @@
 use Rattle.std.proofs.Common.{◌∙◌, sym}
-use Rattle.sfv.proofs.reads.Errors.{FaultOf-here}
-use Rattle.sfv.proofs.reads.Delimiters.{parted_item, closed_item, undelimited_item, unended_item}
+use Rattle.sfv.proofs.reads.{Delimiters.{parted_item, closed_item, undelimited_item, unended_item}, Errors.FaultOf-here}
 use Rattle.sfv.proofs.parser.cursor.Cursor.consume_item_delimiter.Goals as goal
 
 pub returns-then-take_if : goal.returns-then-take_if

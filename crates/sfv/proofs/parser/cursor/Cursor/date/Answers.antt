@@ -1,6 +1,5 @@
 use Rattle.std.proofs.Common.{◌∙◌, true}
-use Rattle.sfv.proofs.reads.Steps.{date_integer, date_decimal, date_fault}
-use Rattle.sfv.proofs.reads.Errors.{left_with}
+use Rattle.sfv.proofs.reads.{Errors.left_with, Steps.{date_integer, date_decimal, date_fault}}
 use Rattle.sfv.proofs.parser.cursor.Cursor.date.Goals as goal
 
 pub returns-in_err-seconds : goal.returns-in_err-seconds

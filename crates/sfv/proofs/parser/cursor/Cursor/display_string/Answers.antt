@@ -1,13 +1,10 @@
-use Rattle.std.proofs.Common.{◌∙◌, ap, drop, sym, refl, true}
-use Rattle.std.specs.declared.alloc.Global.{Global}
-use Rattle.sfv_spec.specs.Values.{display_string}
+use Rattle.std.{proofs.Common.{◌∙◌, ap, drop, sym, refl, true}, specs.declared.alloc.Global.Global}
 use Rattle.sfv_model.specs.Quoted.{outside, pieces_from, display_at}
 use Rattle.sfv_model.proofs.quoted.DisplaySteps.{shown_text, plain_utf8}
-use Rattle.sfv.specs.declared.parser.Parser.{Parser}
-use Rattle.sfv.specs.parser.Cursor.{input, kept_input, rest}
+use Rattle.sfv.specs.{Field.display_string, declared.parser.Parser.Parser, parser.Cursor.{input, kept_input, rest}}
 use Rattle.sfv.proofs.reads.Errors.{left_with, ErrorOf-here, ErrorOf-part, ErrorOf-kept}
-use Rattle.sfv.proofs.reads.Steps.{quoted_no_quote, quoted_reads, given}
 use Rattle.sfv.proofs.reads.Escapes.{display_error, display_opens, after_opening}
+use Rattle.sfv.proofs.reads.Steps.{quoted_no_quote, quoted_reads, given}
 use Rattle.sfv.proofs.parser.cursor.Cursor.display_string.Goals as goal
 
 pub returns-then-not-take_if-clause-read : goal.returns-then-not-take_if-clause-read

@@ -1,9 +1,7 @@
-use Rattle.sfv_spec.specs.Events.{item_events, parameters_end}
-use Rattle.sfv_values.specs.BareItems.{bare_value}
+use Rattle.sfv_spec.specs.Events.{item_events}
 use Rattle.sfv_model.specs.Items.{item_at}
-use Rattle.sfv.proofs.reads.Errors.{left_with}
-use Rattle.sfv.proofs.trees.Errors.{fails_after, item_ends}
-use Rattle.sfv.proofs.trees.Parts.{later_fails, item_builds}
+use Rattle.sfv.{specs.Field.{parameters_end, bare_value}, proofs.reads.Errors.left_with}
+use Rattle.sfv.proofs.trees.{Errors.{fails_after, item_ends}, Parts.{later_fails, item_builds}}
 use Rattle.sfv.proofs.parser.cursor.Cursor.element_item.Goals as goal
 
 pub returns-in_err-bare_item-clause-tree : goal.returns-in_err-bare_item-clause-tree

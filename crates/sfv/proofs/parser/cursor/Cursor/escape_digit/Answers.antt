@@ -1,6 +1,5 @@
 use Rattle.std.proofs.Common.{refl, ◌∙◌, sym}
-use Rattle.sfv.specs.parser.Cursor.{kept, rest}
-use Rattle.sfv.proofs.reads.Errors.{FaultOf-here}
+use Rattle.sfv.{specs.parser.Cursor.{kept, rest}, proofs.reads.Errors.FaultOf-here}
 use Rattle.sfv.proofs.reads.Escapes.{digit_cut, digit_wrong, no_digit, digit_is, no_first, first_is}
 use Rattle.sfv.proofs.parser.cursor.Cursor.escape_digit.Goals as goal
 

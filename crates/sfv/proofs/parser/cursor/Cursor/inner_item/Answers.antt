@@ -1,10 +1,8 @@
 use Rattle.std.proofs.Common.{refl}
 use Rattle.sfv_spec.specs.Events.{item_events}
-use Rattle.sfv_model.specs.Items.{item_at}
-use Rattle.sfv_model.specs.Members.{inner_item_at}
+use Rattle.sfv_model.specs.{Items.item_at, Members.inner_item_at}
+use Rattle.sfv.proofs.{reads.Errors.left_with, visits.AsRead.{led_stops, led_reads}}
 use Rattle.sfv_tree.specs.declared.visitor.Event.TheVariants as event
-use Rattle.sfv.proofs.reads.Errors.{left_with}
-use Rattle.sfv.proofs.visits.AsRead.{led_stops, led_reads}
 use Rattle.sfv.proofs.parser.cursor.Cursor.inner_item.Goals as goal
 
 pub returns-in_err-visit-clause-visited : goal.returns-in_err-visit-clause-visited

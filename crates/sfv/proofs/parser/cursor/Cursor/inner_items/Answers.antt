@@ -1,14 +1,11 @@
-use Rattle.std.proofs.Common.{◌≡◌, ◌∙◌, true, false, ap, not, refl, []}
-use Rattle.std.specs.Prelude.{is_some}
+use Rattle.std.proofs.Common.{◌≡◌, ◌∙◌, true, false, ap, not, refl, [], is_some}
+use Rattle.sfv_spec.proofs.Marks.{right_parenthesis}
 use Rattle.sfv_model.specs.Reader.{first, byte}
 use Rattle.sfv.specs.parser.Cursor.{rest}
-use Rattle.sfv_spec.proofs.Marks.{right_parenthesis}
-use Rattle.sfv.proofs.reads.Delimiters.{items_closed, items_first}
-use Rattle.sfv.proofs.reads.Errors.{left_with}
-use Rattle.sfv.proofs.visits.Loops.{items_loop}
-use Rattle.sfv.proofs.visits.AsRead.{begun_reads, more_reads, ended_reads, shorter_reads, no_items_read}
-use Rattle.sfv.proofs.visits.AsRead.{first_stops, one_stops, delimiter_error}
-use Rattle.sfv.proofs.visits.Passed.{passes_then, passes_spaces, passes_if, Passing-item_delimiter}
+use Rattle.sfv.proofs.reads.{Delimiters.{items_closed, items_first}, Errors.left_with}
+use Rattle.sfv.proofs.visits.AsRead.{begun_reads, more_reads, ended_reads, shorter_reads, no_items_read, first_stops}
+use Rattle.sfv.proofs.visits.AsRead.{one_stops, delimiter_error}
+use Rattle.sfv.proofs.visits.{Loops.items_loop, Passed.{passes_then, passes_spaces, passes_if, Passing-item_delimiter}}
 use Rattle.sfv.proofs.parser.cursor.Cursor.inner_items.Goals as goal
 
 pub returns-in_err-inner_item-clause-visited : goal.returns-in_err-inner_item-clause-visited

@@ -1,5 +1,4 @@
-use Rattle.sfv.proofs.reads.Errors.{left_with}
-use Rattle.sfv.proofs.visits.AsRead.{items_stop, end_stops, inner_list_reads}
+use Rattle.sfv.proofs.{reads.Errors.left_with, visits.AsRead.{items_stop, end_stops, inner_list_reads}}
 use Rattle.sfv.proofs.parser.cursor.Cursor.inner_list.Goals as goal
 
 pub returns-in_err-inner_items-clause-visited : goal.returns-in_err-inner_items-clause-visited

@@ -1,7 +1,6 @@
 use Rattle.sfv_spec.proofs.Marks.{left_parenthesis}
 use Rattle.sfv_model.specs.Reader.{byte}
-use Rattle.sfv.proofs.reads.Errors.{left_with}
-use Rattle.sfv.proofs.reads.Steps.{skip_takes}
+use Rattle.sfv.proofs.reads.{Errors.left_with, Steps.skip_takes}
 use Rattle.sfv.proofs.visits.AsRead.{list_member_reads, list_member_stops}
 use Rattle.sfv.proofs.parser.cursor.Cursor.inner_list_member.Goals as goal
 

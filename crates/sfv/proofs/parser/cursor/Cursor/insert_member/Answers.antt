@@ -1,17 +1,11 @@
-use Rattle.std.proofs.Common.{◌∙◌, ap, Err}
-use Rattle.sfv_spec.specs.Events.{keyed_entry, member_events, keyed_events}
-use Rattle.sfv_values.specs.CheckedTexts.{text_of as key_text}
-use Rattle.std.specs.declared.alloc.Global.{Global}
-use Rattle.sfv.specs.declared.parser.Parser.{Parser}
+use Rattle.std.{proofs.Common.{◌∙◌, ap, Err}, specs.declared.alloc.Global.Global}
 use Rattle.sfv_model.specs.Members.{member_value_at, keyed_at}
-use Rattle.sfv.specs.parser.Cursor.{kept, version, rest}
-use Rattle.sfv.specs.parser.Trees.{HeadHasSeed}
-use Rattle.sfv.proofs.trees.Errors.{Any, NoMemory, as_answer, as_fault, fails_after, keyed_begins}
+use Rattle.sfv.specs.Field.{keyed_entry, member_events, keyed_events, text_of as key_text}
+use Rattle.sfv.specs.{declared.parser.Parser.Parser, parser.Cursor.{kept, version, rest}, parser.Trees.HeadHasSeed}
 use Rattle.sfv.proofs.reads.Errors.{left_with, kept_reads, ErrorOf-fault}
-use Rattle.sfv.proofs.visits.Keyed.{key_fails, keyed_visits}
-use Rattle.sfv.proofs.visits.Parts.{kept_visits}
-use Rattle.sfv.proofs.trees.Loops.{seed_kept}
-use Rattle.sfv.proofs.trees.Parts.{keyed_some, entered_tree, entered_seed}
+use Rattle.sfv.proofs.trees.Errors.{Any, NoMemory, as_answer, as_fault, fails_after, keyed_begins}
+use Rattle.sfv.proofs.trees.{Loops.seed_kept, Parts.{keyed_some, entered_tree, entered_seed}}
+use Rattle.sfv.proofs.visits.{Keyed.{key_fails, keyed_visits}, Parts.kept_visits}
 use Rattle.sfv.proofs.parser.cursor.Cursor.insert_member.Goals as goal
 
 pub returns-in_err-key-clause-tree : goal.returns-in_err-key-clause-tree

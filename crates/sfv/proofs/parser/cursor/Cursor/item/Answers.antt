@@ -1,5 +1,4 @@
-use Rattle.sfv.proofs.reads.Errors.{left_with}
-use Rattle.sfv.proofs.visits.AsRead.{item_error, item_stops, item_reads}
+use Rattle.sfv.proofs.{reads.Errors.left_with, visits.AsRead.{item_error, item_stops, item_reads}}
 use Rattle.sfv.proofs.parser.cursor.Cursor.item.Goals as goal
 
 pub returns-in_err-bare_item-clause-visited : goal.returns-in_err-bare_item-clause-visited

@@ -1,6 +1,5 @@
 use Rattle.std.proofs.Common.{refl}
-use Rattle.sfv.proofs.reads.Errors.{left_with}
-use Rattle.sfv.proofs.visits.AsRead.{item_member_reads, item_member_stops}
+use Rattle.sfv.proofs.{reads.Errors.left_with, visits.AsRead.{item_member_reads, item_member_stops}}
 use Rattle.sfv.proofs.parser.cursor.Cursor.member.Goals as goal
 
 pub returns-in_err-visit-clause-visited : goal.returns-in_err-visit-clause-visited

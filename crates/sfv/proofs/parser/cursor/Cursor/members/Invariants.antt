@@ -1,9 +1,7 @@
-use Rattle.std.proofs.Common.{◌≡◌, ◌+◌, ℕ, false, cond, length, []}
+use Rattle.std.proofs.Common.{◌≡◌, ◌+◌, false, cond, length, []}
 use Rattle.sfv_model.specs.Fields.{members_at}
-use Rattle.sfv.specs.parser.Cursor.{version, rest}
-use Rattle.sfv.specs.parser.Members.{member_parts, one_member_at}
-use Rattle.sfv.proofs.visits.Loops.{members_loop}
-use Rattle.sfv.proofs.visits.AsRead.{Awaits}
+use Rattle.sfv.specs.parser.{Cursor.{version, rest}, Members.{member_parts, one_member_at}}
+use Rattle.sfv.proofs.visits.{AsRead.Awaits, Loops.members_loop}
 use Rattle.sfv.proofs.parser.cursor.Cursor.members.Given as goal
 
 abbrev pub invariant-loop-wants : goal.invariant-loop-wants

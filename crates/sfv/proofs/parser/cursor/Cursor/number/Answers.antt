@@ -1,8 +1,6 @@
 use Rattle.std.proofs.Common.{◌∙◌}
 use Rattle.sfv_model.specs.Bare.{whole_at, number_at}
-use Rattle.sfv.specs.parser.Values.{number_value_of}
-use Rattle.sfv.proofs.reads.Errors.{reads_same}
-use Rattle.sfv.proofs.reads.Steps.{number_is}
+use Rattle.sfv.{specs.parser.Values.number_value_of, proofs.reads.Errors.reads_same, proofs.reads.Steps.number_is}
 use Rattle.sfv.proofs.parser.cursor.Cursor.number.Goals as goal
 
 pub returns : goal.returns

@@ -1,9 +1,7 @@
 use Rattle.std.proofs.Common.{◌∙◌, refl, false}
 use Rattle.sfv_model.specs.Bare.{number_at}
-use Rattle.sfv.specs.parser.Cursor.{kept}
-use Rattle.sfv.proofs.reads.Errors.{left_with, FaultOf-same}
-use Rattle.sfv.proofs.reads.Steps.{bare_number}
-use Rattle.sfv.proofs.parser.cursor.Cursor.number_item.Goals.{in-Integer, in-Decimal}
+use Rattle.sfv.{specs.parser.Cursor.kept, proofs.parser.cursor.Cursor.number_item.Goals.{in-Integer, in-Decimal}}
+use Rattle.sfv.proofs.reads.{Errors.{left_with, FaultOf-same}, Steps.bare_number}
 use Rattle.sfv.proofs.parser.cursor.Cursor.number_item.Goals as goal
 
 pub returns-in_err-value-clause-read : goal.returns-in_err-value-clause-read

@@ -1,8 +1,6 @@
 use Rattle.sfv.specs.parser.Cursor.{version, rest, input}
-use Rattle.sfv.proofs.reads.Errors.{left_with}
-use Rattle.sfv.proofs.visits.Parameters.{bare_faulty}
-use Rattle.sfv.proofs.trees.Errors.{Any, as_fault}
-use Rattle.sfv.proofs.trees.Parts.{owned_read, owned_fails}
+use Rattle.sfv.proofs.{reads.Errors.left_with, trees.Errors.{Any, as_fault}}
+use Rattle.sfv.proofs.{trees.Parts.{owned_read, owned_fails}, visits.Parameters.bare_faulty}
 use Rattle.sfv.proofs.parser.cursor.Cursor.owned_bare_item.Goals as goal
 
 pub returns-in_err-bare_item-clause-failed : goal.returns-in_err-bare_item-clause-failed

@@ -1,9 +1,8 @@
 use Rattle.std.proofs.Common.{◌∙◌, ap}
 use Rattle.sfv_model.specs.Items.{key_at, value_at}
-use Rattle.sfv.proofs.reads.Errors.{left_with, kept_reads, ErrorOf-fault, ErrorOf-part}
-use Rattle.sfv.proofs.reads.Steps.{parameter_is, parameter_keyed, parameter_some}
 use Rattle.sfv.specs.parser.Cursor.{kept_version}
-use Rattle.sfv.proofs.visits.AsRead.{parameter_next}
+use Rattle.sfv.proofs.reads.Errors.{left_with, kept_reads, ErrorOf-fault, ErrorOf-part}
+use Rattle.sfv.proofs.{reads.Steps.{parameter_is, parameter_keyed, parameter_some}, visits.AsRead.parameter_next}
 use Rattle.sfv.proofs.parser.cursor.Cursor.parameter.Goals as goal
 
 pub returns-in_err-key-clause-read : goal.returns-in_err-key-clause-read

@@ -1,23 +1,15 @@
-use Rattle.std.proofs.Common.{◌∙◌, ap, subst, sym, Err}
-use Rattle.std.specs.Prelude.{All}
-use Rattle.std.specs.declared.alloc.Global.{Global}
-use Rattle.std.specs.declared.vec.Vec.{Vec}
+use Rattle.std.proofs.Common.{◌∙◌, ap, subst, sym, Err, All}
+use Rattle.std.specs.declared.{alloc.Global.Global, vec.Vec.Vec}
 use Rattle.indexmap.specs.IndexMap.{hasher_of}
-use Rattle.sfv_spec.specs.Values.{item, inner_list}
-use Rattle.sfv_spec.specs.Events.{item_events, member_events, parameters_end}
-use Rattle.sfv_model.specs.Items.{item_at}
-use Rattle.sfv_model.specs.Members.{inner_at, member_at}
-use Rattle.sfv_tree.specs.Seeds.{ItemHasSeed}
-use Rattle.sfv_tree.specs.declared.parsed.Item.{Item}
-use Rattle.sfv_tree.specs.declared.parsed.ListEntry.TheVariants as entries
-use Rattle.sfv.specs.parser.Cursor.{kept, version}
-use Rattle.sfv.specs.parser.Members.{after_begin}
-use Rattle.sfv.proofs.trees.Errors.{Any, NoMemory, as_answer, as_fault, fails_after, member_ends}
+use Rattle.sfv_spec.specs.{Events.{item_events, member_events, parameters_end}, Values.{item, inner_list}}
+use Rattle.sfv_model.specs.{Items.item_at, Members.{inner_at, member_at}}
+use Rattle.sfv_tree.specs.{Seeds.ItemHasSeed, declared.parsed.Item.Item}
+use Rattle.sfv.specs.parser.{Cursor.{kept, version}, Members.after_begin}
 use Rattle.sfv.proofs.reads.Errors.{left_with, kept_reads}
-use Rattle.sfv.proofs.visits.InnerLists.{list_member_visits, item_member_visits}
-use Rattle.sfv.proofs.visits.Parts.{kept_visits}
-use Rattle.sfv.proofs.trees.Parts.{member_list_some, member_item_some, pushed_tree, pushed_seed}
-use Rattle.sfv.proofs.trees.Loops.{seed_kept}
+use Rattle.sfv.proofs.trees.Errors.{Any, NoMemory, as_answer, as_fault, fails_after, member_ends}
+use Rattle.sfv.proofs.trees.{Loops.seed_kept, Parts.{member_list_some, member_item_some, pushed_tree, pushed_seed}}
+use Rattle.sfv.proofs.visits.{InnerLists.{list_member_visits, item_member_visits}, Parts.kept_visits}
+use Rattle.sfv_tree.specs.declared.parsed.ListEntry.TheVariants as entries
 use Rattle.sfv.proofs.parser.cursor.Cursor.push_member.Goals as goal
 
 pub returns-in_err-make_room-clause-tree : goal.returns-in_err-make_room-clause-tree

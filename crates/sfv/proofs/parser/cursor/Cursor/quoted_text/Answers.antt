@@ -1,9 +1,6 @@
-use Rattle.std.proofs.Common.{◌∙◌, true, refl, sym}
-use Rattle.std.proofs.lemmas.Bool.{true≢false}
-use Rattle.sfv_model.specs.Reader.{byte}
-use Rattle.sfv_model.specs.Quoted.{after_bytes}
-use Rattle.sfv.specs.parser.Cursor.{rest, kept, NextIs}
-use Rattle.sfv.specs.parser.Quoted.{mark_of, inside}
+use Rattle.std.proofs.Common.{◌∙◌, true, refl, sym, true≢false}
+use Rattle.sfv_model.specs.{Quoted.after_bytes, Reader.byte}
+use Rattle.sfv.specs.parser.{Cursor.{rest, kept, NextIs}, Quoted.{mark_of, inside}}
 use Rattle.sfv.proofs.reads.Errors.{left_with, ErrorOf-same}
 use Rattle.sfv.proofs.reads.Escapes.{begins, all_plain, after_fault, no_escape, some_escape}
 use Rattle.sfv.proofs.parser.cursor.Cursor.quoted_text.Goals as goal

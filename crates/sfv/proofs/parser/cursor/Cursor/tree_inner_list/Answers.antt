@@ -1,13 +1,9 @@
 use Rattle.std.proofs.Common.{◌∙◌, Err}
 use Rattle.sfv_spec.specs.Events.{parameters_events}
-use Rattle.sfv_model.specs.Items.{parameters_at}
-use Rattle.sfv_model.specs.Members.{inner_of}
-use Rattle.sfv.specs.parser.Cursor.{kept, version, rest}
-use Rattle.sfv.proofs.trees.Errors.{Any, NoMemory, as_answer, as_fault, any_run}
-use Rattle.sfv.proofs.reads.Errors.{left_with, kept_reads}
-use Rattle.sfv.proofs.visits.InnerLists.{items_fail, inner_list_visits}
-use Rattle.sfv.proofs.visits.Parts.{kept_visits}
-use Rattle.sfv.proofs.trees.Parts.{inner_some, inner_list_parts}
+use Rattle.sfv_model.specs.{Items.parameters_at, Members.inner_of}
+use Rattle.sfv.{specs.parser.Cursor.{kept, version, rest}, proofs.reads.Errors.{left_with, kept_reads}}
+use Rattle.sfv.proofs.trees.{Errors.{Any, NoMemory, as_answer, as_fault, any_run}, Parts.{inner_some, inner_list_parts}}
+use Rattle.sfv.proofs.visits.{InnerLists.{items_fail, inner_list_visits}, Parts.kept_visits}
 use Rattle.sfv.proofs.parser.cursor.Cursor.tree_inner_list.Goals as goal
 
 pub returns-in_err-items-clause-tree : goal.returns-in_err-items-clause-tree

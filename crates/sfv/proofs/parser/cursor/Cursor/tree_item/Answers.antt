@@ -1,5 +1,4 @@
-use Rattle.sfv.proofs.reads.Errors.{left_with}
-use Rattle.sfv.proofs.trees.Parts.{later_fails, item_builds}
+use Rattle.sfv.proofs.{reads.Errors.left_with, trees.Parts.{later_fails, item_builds}}
 use Rattle.sfv.proofs.parser.cursor.Cursor.tree_item.Goals as goal
 
 pub returns-in_err-tree_parameters-clause-tree : goal.returns-in_err-tree_parameters-clause-tree

@@ -1,15 +1,10 @@
 use Rattle.std.proofs.Common.{◌∙◌, ap, Err}
-use Rattle.sfv_spec.specs.Events.{item_events}
-use Rattle.sfv_spec.specs.Values.{item}
-use Rattle.sfv_model.specs.Items.{item_at}
-use Rattle.sfv_model.specs.Members.{inner_at}
-use Rattle.sfv.specs.parser.Cursor.{kept, version}
-use Rattle.sfv.specs.parser.Members.{after_begin}
-use Rattle.sfv.proofs.trees.Errors.{Any, NoMemory, as_answer, as_fault}
+use Rattle.sfv_spec.specs.{Events.item_events, Values.item}
+use Rattle.sfv_model.specs.{Items.item_at, Members.inner_at}
+use Rattle.sfv.specs.parser.{Cursor.{kept, version}, Members.after_begin}
 use Rattle.sfv.proofs.reads.Errors.{left_with, kept_reads}
-use Rattle.sfv.proofs.visits.InnerLists.{list_member_visits, item_member_visits}
-use Rattle.sfv.proofs.visits.Parts.{kept_visits}
-use Rattle.sfv.proofs.trees.Parts.{member_list_some, member_item_some}
+use Rattle.sfv.proofs.trees.{Errors.{Any, NoMemory, as_answer, as_fault}, Parts.{member_list_some, member_item_some}}
+use Rattle.sfv.proofs.visits.{InnerLists.{list_member_visits, item_member_visits}, Parts.kept_visits}
 use Rattle.sfv.proofs.parser.cursor.Cursor.tree_member.Goals as goal
 
 pub returns-in_err-items-clause-tree : goal.returns-in_err-items-clause-tree

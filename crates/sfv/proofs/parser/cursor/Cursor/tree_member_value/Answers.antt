@@ -1,15 +1,10 @@
 use Rattle.std.proofs.Common.{◌∙◌, true, refl, ap, Err}
-use Rattle.sfv_spec.specs.Events.{parameters_events}
-use Rattle.sfv_spec.specs.Values.{item, boolean}
-use Rattle.sfv_spec.proofs.Marks.{true_with}
+use Rattle.sfv_spec.{specs.Events.parameters_events, specs.Values.{item, boolean}, proofs.Marks.true_with}
 use Rattle.sfv_model.specs.Items.{parameters_at}
-use Rattle.sfv.specs.parser.Cursor.{kept, version}
-use Rattle.sfv.specs.parser.Trees.{head_tree}
-use Rattle.sfv.proofs.trees.Errors.{Any, NoMemory, as_answer, as_fault}
+use Rattle.sfv.specs.parser.{Cursor.{kept, version}, Trees.head_tree}
 use Rattle.sfv.proofs.reads.Errors.{left_with, kept_reads}
-use Rattle.sfv.proofs.visits.Keyed.{true_visits}
-use Rattle.sfv.proofs.visits.Parts.{kept_visits}
-use Rattle.sfv.proofs.trees.Parts.{value_builds, true_some, item_parts}
+use Rattle.sfv.proofs.trees.{Errors.{Any, NoMemory, as_answer, as_fault}, Parts.{value_builds, true_some, item_parts}}
+use Rattle.sfv.proofs.visits.{Keyed.true_visits, Parts.kept_visits}
 use Rattle.sfv.proofs.parser.cursor.Cursor.tree_member_value.Goals as goal
 
 pub returns-then-take_if-clause-tree : goal.returns-then-take_if-clause-tree

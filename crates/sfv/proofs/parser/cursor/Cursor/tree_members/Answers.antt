@@ -1,15 +1,11 @@
-use Rattle.std.specs.Prelude.{is_some}
-use Rattle.std.proofs.Common.{◌≡◌, ◌∙◌, true, ap, not, []}
+use Rattle.std.proofs.Common.{◌≡◌, ◌∙◌, true, ap, not, [], is_some}
 use Rattle.sfv_model.specs.Reader.{first}
 use Rattle.sfv.specs.parser.Cursor.{version, rest}
-use Rattle.sfv.specs.parser.Members.{member_parts, one_member_at}
-use Rattle.sfv.specs.parser.Trees.{ordered_members, with_member}
-use Rattle.sfv.proofs.trees.Errors.{Any, NoMemory, as_answer, as_fault}
-use Rattle.sfv.proofs.reads.Delimiters.{members_none, members_first, ends_there, at_end}
-use Rattle.sfv.proofs.reads.Errors.{left_with}
-use Rattle.sfv.proofs.visits.Loops.{shorter, first_fails, delimiter_fails, one_fails, members_loop}
+use Rattle.sfv.specs.parser.{Members.{member_parts, one_member_at}, Trees.{ordered_members, with_member}}
+use Rattle.sfv.proofs.reads.{Delimiters.{members_none, members_first, ends_there, at_end}, Errors.left_with}
+use Rattle.sfv.proofs.trees.{Errors.{Any, NoMemory, as_answer, as_fault}, Fields.{member_added, members_need}}
 use Rattle.sfv.proofs.trees.Loops.{as_one, built_first, built_more, built_all, keeps_seed}
-use Rattle.sfv.proofs.trees.Fields.{member_added, members_need}
+use Rattle.sfv.proofs.visits.Loops.{shorter, first_fails, delimiter_fails, one_fails, members_loop}
 use Rattle.sfv.proofs.parser.cursor.Cursor.tree_members.Goals as goal
 
 pub returns-then-is_none-clause-tree : goal.returns-then-is_none-clause-tree

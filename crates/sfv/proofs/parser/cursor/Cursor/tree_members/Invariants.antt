@@ -1,10 +1,7 @@
 use Rattle.std.proofs.Common.{length}
 use Rattle.sfv_model.specs.Fields.{members_at}
-use Rattle.sfv.specs.parser.Cursor.{MayNeedMemory, version, rest}
-use Rattle.sfv.specs.parser.Members.{member_parts, one_member_at, field_of}
-use Rattle.sfv.specs.parser.Trees.{ordered_members}
-use Rattle.sfv.proofs.visits.Loops.{members_loop}
-use Rattle.sfv.proofs.trees.Loops.{BuiltSoFar}
+use Rattle.sfv.specs.parser.{Cursor.{MayNeedMemory, version, rest}, Members.{member_parts, one_member_at, field_of}}
+use Rattle.sfv.{specs.parser.Trees.ordered_members, proofs.trees.Loops.BuiltSoFar, proofs.visits.Loops.members_loop}
 use Rattle.sfv.proofs.parser.cursor.Cursor.tree_members.Given as goal
 
 abbrev pub invariant-loop-members : goal.invariant-loop-members

@@ -1,9 +1,7 @@
 use Rattle.std.proofs.Common.{◌∙◌, true}
 use Rattle.sfv_model.specs.Reader.{byte}
-use Rattle.sfv.specs.parser.Cursor.{kept, rest, TakesIf}
-use Rattle.sfv.specs.parser.Quoted.{mark_of}
-use Rattle.sfv.proofs.reads.Escapes.{closed_after, past_escape, past_run, escape_fails}
-use Rattle.sfv.proofs.reads.Errors.{left_with}
+use Rattle.sfv.specs.parser.{Cursor.{kept, rest, TakesIf}, Quoted.mark_of}
+use Rattle.sfv.proofs.reads.{Errors.left_with, Escapes.{closed_after, past_escape, past_run, escape_fails}}
 use Rattle.sfv.proofs.parser.cursor.Cursor.unescape_rest.Goals as goal
 
 pub returns-in_err-byte : goal.returns-in_err-byte

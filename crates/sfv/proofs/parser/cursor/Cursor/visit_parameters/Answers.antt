@@ -1,8 +1,6 @@
 use Rattle.std.proofs.Common.{◌∙◌, refl, ap}
-use Rattle.sfv_model.specs.Items.{parameter_at}
-use Rattle.sfv_model.proofs.sound.Items.{Consumes-parameter}
-use Rattle.sfv.specs.parser.Cursor.{version, kept_version, rest}
-use Rattle.sfv.proofs.reads.Errors.{left_with, kept_reads}
+use Rattle.sfv_model.{specs.Items.parameter_at, proofs.sound.Items.Consumes-parameter}
+use Rattle.sfv.{specs.parser.Cursor.{version, kept_version, rest}, proofs.reads.Errors.{left_with, kept_reads}}
 use Rattle.sfv.proofs.visits.AsRead.{read_none, read_more, parameter_error, parameter_stops, end_reads}
 use Rattle.sfv.proofs.parser.cursor.Cursor.visit_parameters.Goals as goal
 

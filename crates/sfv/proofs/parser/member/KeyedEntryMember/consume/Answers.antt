@@ -1,5 +1,4 @@
-use Rattle.sfv.proofs.reads.Errors.{left_with, ErrorOf-fault}
-use Rattle.sfv.proofs.visits.AsRead.{key_error, keyed_stops, keyed_reads}
+use Rattle.sfv.proofs.{reads.Errors.{left_with, ErrorOf-fault}, visits.AsRead.{key_error, keyed_stops, keyed_reads}}
 use Rattle.sfv.proofs.parser.member.KeyedEntryMember.consume.Goals as goal
 
 pub returns-in_err-key-clause-visited : goal.returns-in_err-key-clause-visited

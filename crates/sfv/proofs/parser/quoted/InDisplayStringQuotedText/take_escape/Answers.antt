@@ -1,7 +1,6 @@
 use Rattle.std.proofs.Common.{◌≡◌, ◌∷◌, ◌∙◌, ap, arith, length, ℕ}
 use Rattle.sfv.specs.parser.Cursor.{rest}
-use Rattle.sfv.proofs.reads.Escapes.{both_digits, second_fault}
-use Rattle.sfv.proofs.reads.Errors.{left_with}
+use Rattle.sfv.proofs.reads.{Errors.left_with, Escapes.{both_digits, second_fault}}
 use Rattle.sfv.proofs.parser.quoted.InDisplayStringQuotedText.take_escape.Goals as goal
 
 pub returns-in_err-high : goal.returns-in_err-high

@@ -1,7 +1,5 @@
-use Rattle.sfv_tree.specs.Trees.{list_tree}
-use Rattle.sfv.specs.parser.Trees.{with_member}
 use Rattle.std.proofs.Common.{false}
-use Rattle.sfv.proofs.trees.Fields.{entry_builds}
+use Rattle.sfv.{specs.Field.list_tree, specs.parser.Trees.with_member, proofs.trees.Fields.entry_builds}
 use Rattle.sfv.proofs.parser.tree.ListMembers.add_member.Goals as goal
 
 pub returns-clause-tree : goal.returns-clause-tree

@@ -1,6 +1,4 @@
-use Rattle.sfv_tree.specs.declared.hash_seed.HashSeed.{HashSeed}
-use Rattle.sfv_tree.specs.Builders.{HasSeedSoFar}
-use Rattle.sfv_tree.proofs.Members.{on_ok}
+use Rattle.sfv_tree.{specs.Builders.HasSeedSoFar, specs.declared.hash_seed.HashSeed.HashSeed, proofs.Members.on_ok}
 use Rattle.sfv_tree.proofs.visitor.member.Member.step.Goals as goal
 
 pub returns-in-ParametersEnd-clause-seed : goal.returns-in-ParametersEnd-clause-seed
