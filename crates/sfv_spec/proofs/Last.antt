@@ -26,8 +26,7 @@ last_of-over {A} f key ((k, v) ∷ ps) = rw (last_of-over f key ps) (go (last_of
 -- a dictionary that was read has under each key the last member of the text, its parameters ordered
 pub last_of-ordered : (key : List ℕ) (raw : List (List ℕ × RawMember))
     → last_of key (ordered dictionary_field raw) ≡ option_map ordered_member (last_of key raw)
-last_of-ordered key raw = last_of-over ordered_member key (collapse raw)
-    ∙ ap (option_map ordered_member) (last_of-collapse key raw)
+last_of-ordered key raw = last_of-over _ _ _ ∙ ap (option_map ordered_member) (last_of-collapse _ _)
 
 -- a key has no pair
 pub none-last_of : {A : Type 0} (key : List ℕ) (ps : List (List ℕ × A)) → last_of key ps ≡ None
