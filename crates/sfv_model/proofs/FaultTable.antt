@@ -39,8 +39,7 @@ wanted_kind version kind u _ _ = refl
 
 ruled_kind : (version : Version) (kind : FieldKind) (t : List ℕ) (f : ErrorKind) (i : ℕ)
     → RuledFault version kind t f i → is_want f ≡ false
-ruled_kind version kind t _ _ (faults.bare _ _ _ _ _
-    (faults.display _ _ _ _ _ _ _ (faults.open_display _ _))) = refl
+ruled_kind version kind t _ _ (faults.bare _ _ _ _ _ (faults.display _ _ _ _ _ _ _ (faults.open_display _ _))) = refl
 ruled_kind version kind t _ _ _ = refl
 
 begun_kind : (version : Version) (kind : FieldKind) (t : List ℕ) (f : ErrorKind) (i : ℕ)
@@ -122,13 +121,7 @@ module _ (version : Version) (kind : FieldKind) where
       }
   begun_given t _ _ (faults.open_inner_list accepted no_space) =
       let r = open_list_is_read version kind t accepted no_space in
-      record {
-        fault = r.0;
-        read = r.1;
-        kind_of = r.2;
-        exact_of = r.4;
-        here = omega (arith, ap (length {A = ℕ}) r.3);
-      }
+      record { fault = r.0; read = r.1; kind_of = r.2; exact_of = r.4; here = omega (arith, ap (length {A = ℕ}) r.3) }
 
   -- ---- the reader's fault is the table's
 
@@ -153,9 +146,8 @@ module _ (version : Version) (kind : FieldKind) where
         let same : length t - length e.rest ≡ length c.trails.before =
         omega (arith, n, length-drop c.index t, m, c.trails.here, length-append {A = ℕ}) in
         inl (rw (c.kind_of, same) (faults.comma c.trails.before c.trails.whitespace c.trails.raw
-        (not_item kind c.trails.many) c.trails.accepted c.trails.member c.trails.text c.trails.blank))
-    | inr (inr (x, inl w)) ↦
-        inr (inr (wanted_at t e h x (wanted_kind version kind w.before e.kind w.wanted) w.before w.text w.wanted))
+        (not_item _ c.trails.many) c.trails.accepted c.trails.member c.trails.text c.trails.blank))
+    | inr (inr (x, inl w)) ↦ inr (inr (wanted_at _ _ h x (wanted_kind _ _ _ _ w.wanted) _ w.text w.wanted))
     | inr (inr (x, inr o)) ↦
         let whole : length t - length e.rest ≡ length t = omega (arith, ap (length {A = ℕ}) o.rest) in
         inr (inl (rw (o.kind_of, whole) (faults.open_inner_list o.closes o.no_space)))

@@ -15,10 +15,9 @@ BeginsWithComplete version value = Spaces ⨾ IsBareText version value ⨾ IsEnd
 -- the spaces before a bare item
 spaces_read : (version : Version) (value : BareValue) (t spaces front rest : List ℕ) → t ≡ spaces ++ front ++ rest
     → Spaces spaces → IsBareText version value front → span is_space t ≡ Ok (spaces, front ++ rest)
-spaces_read version value t spaces front rest text blank means =
-    ap (span is_space) (text ∙ append_assoc spaces front rest)
-    ∙ span_complete is_space spaces (front ++ rest) blank
-    (item_no space version (item_of value []) front rest refl (record {
+spaces_read version value t spaces front rest text blank means = ap (span is_space)
+    (text ∙ append_assoc spaces front rest) ∙ span_complete _ _ _ blank
+    (item_no _ _ (item_of value []) _ _ refl (record {
       front = front;
       back = [];
       text = sym (append-nil front);
@@ -54,8 +53,7 @@ pub complete_is_longest : (version : Version) (value other : BareValue) (t : Lis
 complete_is_longest version value other t h l =
     let read = first_bare version value t h in
     let spaced = spaces_read version other t l.spaces l.front l.rest l.text l.blank l.means in
-    let here : h.back ≡ l.front ++ l.rest =
-    (let both : Result (List ℕ × List ℕ) Fault = Ok (h.front, h.back) in
+    let here : h.back ≡ l.front ++ l.rest = (let both : Result (List ℕ × List ℕ) Fault = Ok (h.front, h.back) in
     let same : both ≡ Ok (l.spaces, l.front ++ l.rest) = sym read.0 ∙ spaced in
     let parts : ◌≡◌ {A = List ℕ × List ℕ} (h.front, h.back) (l.spaces, l.front ++ l.rest) = cc in
     ap (λ (p : List ℕ × List ℕ). p.1) parts) in

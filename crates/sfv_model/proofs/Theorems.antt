@@ -39,9 +39,8 @@ module _ {A : Type 0} {f : Reader A} {P : A → List ℕ → Type 0} {parts : A 
   none_so : (p : List ℕ) (c : ℕ) → ((d : List ℕ) (v : A) → f (p ++ c ∷ d) ≡ Ok (v, []) → ⊥) → Starts P (p ++ c ∷ []) → ⊥
   none_so p c never b = never b.0 b.1.0 (cc (append_assoc p (c ∷ []) b.0, again b.1.0 ((p ++ c ∷ []) ++ b.0) b.1.1))
 
-  at_trailing : (t : List ℕ) (v : A) (c : ℕ) (q : List ℕ)
-      → Reached P (Goes P parts) (Somewhere (Goes P parts)) t (Ok (v, c ∷ q)) → Lasts f t (Ok (v, c ∷ q))
-      → Reaches t (c ∷ q)
+  at_trailing : (t : List ℕ) (v : A) (c : ℕ) (q : List ℕ) → Reached P (Goes P parts)
+      (Somewhere (Goes P parts)) t (Ok (v, c ∷ q)) → Lasts f t (Ok (v, c ∷ q)) → Reaches t (c ∷ q)
   at_trailing t v c q h m = record {
     front = m.0;
     parted = m.1;
@@ -142,7 +141,7 @@ read_is_accepted version kind t raw = (
 pub fault_is_placed : FaultIsPlaced
 unfolding read_field
 fault_is_placed version kind t e i =
-    let w = emitted (Sound-field version kind) (Local-field version kind) (field_complete version kind) t e i in
+    let w = emitted (Sound-field _ _) (Local-field _ _) (field_complete _ _) t e i in
     let g = w.0.1 in
     record {
       emitted = record {
@@ -151,7 +150,6 @@ fault_is_placed version kind t e i =
         more = g.2.0;
         all = g.2.1;
       };
-      exact = λ x. reach_of version kind t e.rest
-          (reaches (Sound-field version kind) (Local-field version kind) (field_complete version kind) t e i x);
+      exact = λ x. reach_of _ _ _ _ (reaches _ _ _ _ _ i x);
       ruled = w.1;
     }

@@ -46,9 +46,7 @@ Shuns-fail {A} k h = record { rules = λ t e i. fail_at A k (λ _ e. IsOther e.k
 
 pub Shuns-ruled : {A : Type 0} (k : ErrorKind) → IsOther k → Shuns {A = A} (ruled k)
 unfolding ruled
-Shuns-ruled {A} k h = record {
-  rules = λ t e i. fault_at {A = A} (λ _ e. IsOther e.kind) t (by_rule k t) e (Err (by_rule k t)) refl h i;
-}
+Shuns-ruled {A} k h = record { rules = λ t e i. fault_at {A = A} (λ _ e. IsOther e.kind) t _ _ _ refl h i }
 
 pub Shuns-led : {A : Type 0} (es : List TreeEvent) (f : Reader A) → Shuns f → Shuns (led es f)
 Shuns-led es f h = Rules-led es f _ h
@@ -228,8 +226,7 @@ pub record ReadBefore (version : Version) (kind : FieldKind) (t rest : List ℕ)
 pub read_before : (version : Version) (kind : FieldKind) (t : List ℕ) (f : Fault) → read_field version kind t ≡ Err f
     → f.kind ≡ TrailingCharactersAfterParsedValue → ReadBefore version kind t f.rest
 unfolding read_field
-read_before version kind t f e k =
-    on (whole_field_at version kind t) refl ((Sound-field version kind).sound t) e
+read_before version kind t f e k = on (whole_field_at version _ t) refl ((Sound-field _ _).sound t) e
   where
     on : (a : Answer (RawField kind)) → whole_field_at version kind t ≡ a
         → Reached (IsFieldText version kind) (FieldGoes version kind) (Somewhere (FieldGoes version kind)) t a

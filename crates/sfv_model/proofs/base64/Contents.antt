@@ -19,8 +19,7 @@ few_spare n = grind (arith, nat_tests)
 
 -- symbols and padding that are Base64
 pub well_formed : (run : List ℕ) (padding : ℕ) → list_all is_symbol run ≡ true → padding ≤ most_padding (length run)
-    → ¬ (length run % 4 ≡ 1)
-    → IsBase64Text (bytes_from (map symbol_value run)) (run ++ replicate padding equals_sign)
+    → ¬ (length run % 4 ≡ 1) → IsBase64Text (bytes_from (map symbol_value run)) (run ++ replicate padding equals_sign)
 well_formed run padding h most one =
     let vs : List ℕ = map symbol_value run in
     let same : length vs ≡ length run = length-map run symbol_value in
@@ -44,14 +43,11 @@ pub counted : (bytes t : List ℕ) (h : IsBase64Text bytes t)
     → (¬ (length h.values % 4 ≡ 1)) × (h.padding ≤ most_padding (length h.values))
 counted bytes t h =
     let total : 6 * length h.values ≡ 8 * length bytes + length h.spare =
-    sym (length-all_bits 6 h.values) ∙ ap (length {A = Bool}) h.same_bits
-    ∙ length-append (flat_map (bits 8) bytes) h.spare ∙ ap (λ n. n + length h.spare) (length-all_bits 8 bytes) in
+    sym (length-all_bits _ _) ∙ ap (length {A = Bool}) h.same_bits
+    ∙ length-append (flat_map (bits 8) bytes) h.spare ∙ ap (λ n. n + length h.spare) (length-all_bits _ _) in
     let n : ℕ = length h.values in
     let few = h.few_spare in
-    let padded = h.padded in (
-      λ e. absurd (omega (arith, total, e, few)),
-      grind (arith, nat_tests, total, few, padded),
-    )
+    let padded = h.padded in (λ e. absurd (omega (arith, total, e, few)), grind (arith, nat_tests, total, few, padded))
 
 no_symbol : (n : ℕ) → NotBegun is_symbol (replicate n equals_sign ++ [])
 unfolding is_symbol

@@ -120,9 +120,8 @@ quoted_complete s t q h = branch_take _ _ _ percent_sign (double_quote ∷ (t ++
 boolean_complete : (version : Version) (b : Bool) (q : List ℕ)
     → bare_at version (boolean_text b ++ q) ≡ Ok (boolean b, q)
 unfolding boolean_at give
-boolean_complete version true q = bare_boolean version (digit_one ∷ q)
-    ∙ branch_past _ _ _ (digit_one ∷ q) (Apart-cons (byte digit_zero) digit_one q refl)
-    ∙ branch_take _ _ _ digit_one q refl
+boolean_complete version true q = bare_boolean _ _ ∙ branch_past _ _ _ _ (Apart-cons _ _ _ refl) ∙ branch_take _ _ _ _ _
+    refl
 boolean_complete version false q = bare_boolean version (digit_zero ∷ q) ∙ branch_take _ _ _ digit_zero q refl
 
 token_complete : (version : Version) (s q : List ℕ) → IsTrue (is_token s) → Apart is_token_inner q
@@ -130,9 +129,8 @@ token_complete : (version : Version) (s q : List ℕ) → IsTrue (is_token s) �
 unfolding token_at give
 token_complete version [] q h a = absurd (true≢false (sym h))
 token_complete version (c ∷ s) q h a =
-    let p = and_parts (is_token_start c) (list_all is_token_inner s) h in
-    bare_token_start version c (s ++ q) p.0 ∙ branch_take _ _ _ c (s ++ q) p.0
-    ∙ bind_complete _ _ _ _ _ (span_complete is_token_inner s q p.1 a)
+    let p = and_parts _ _ h in
+    bare_token_start _ _ _ p.0 ∙ branch_take _ _ _ _ _ p.0 ∙ bind_complete _ _ _ _ _ (span_complete _ _ _ p.1 a)
 
 -- how a number begins
 pub front : (negative : Bool) (whole q : List ℕ) → 1 ≤ length whole → RunOf is_digit whole

@@ -7,8 +7,7 @@ use Rattle.sfv_model.proofs.{base64.Contents.gives_the_bytes, sound.ByteSequence
 -- Each Byte Sequence is read, whatever follows it.
 pub reads_its_texts : (bytes content rest : List ℕ) → IsBase64Text bytes content
     → bytes_at (content ++ colon ∷ rest) ≡ Ok (bytes, rest)
-reads_its_texts bytes content rest h = read_value content rest bytes (text_apart bytes content h)
-    ((gives_the_bytes content bytes).0 h)
+reads_its_texts bytes content rest h = read_value _ _ _ (text_apart _ _ h) ((gives_the_bytes content bytes).0 h)
 
 pub bytes_complete : (bytes t q : List ℕ) → IsBytesEnd bytes t → bytes_at (t ++ q) ≡ Ok (bytes, q)
 bytes_complete bytes t q h =

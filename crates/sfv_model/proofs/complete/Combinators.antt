@@ -47,11 +47,9 @@ pub up_to_taken : (class : ℕ → Bool) (n : ℕ) (cs q : List ℕ) → RunOf c
 unfolding up_to give bind
 up_to_taken class zero [] q each le h = refl
 up_to_taken class zero (c ∷ cs) q each le h = absurd (omega arith)
-up_to_taken class (suc n) [] q each le h = branch_past class (λ c. up_to class n
-    >>= λ cs. give (c ∷ cs)) (give []) q (h (omega arith))
-up_to_taken class (suc n) (c ∷ cs) q each le h =
-    branch_take class (λ c. up_to class n >>= λ cs. give (c ∷ cs)) (give []) c (cs ++ q) (run_head class c cs each)
-    ∙ rw (up_to_taken class n cs q (run_tail class c cs each) (omega arith) (λ lt. h (omega arith))) refl
+up_to_taken class (suc n) [] q each le h = branch_past _ _ _ _ (h (omega arith))
+up_to_taken class (suc n) (c ∷ cs) q each le h = branch_take _ _ _ _ _ (run_head class c cs each) ∙ rw (up_to_taken
+    class n cs q (run_tail class c cs each) (omega arith) (λ lt. h (omega arith))) refl
 
 pub up_to_complete : (class : ℕ → Bool) (n : ℕ) (cs q : List ℕ) → RunOf class cs → length cs ≤ n → Apart class q
     → up_to class n (cs ++ q) ≡ Ok (cs, q)

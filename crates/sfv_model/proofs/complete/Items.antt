@@ -22,23 +22,19 @@ abbrev pub lengthens_item : ℕ → Bool
 lengthens_item b = lengthens b || eqb b semicolon
 
 token_apart : (q : List ℕ) → Apart lengthens q → Apart is_token_inner q
-token_apart q h = Apart-part is_token_inner lengthens q
-    (λ c e. (or_parts (is_token_inner c) (is_key_inner c || eqb c equals_sign) e).0) h
+token_apart q h = Apart-part _ _ _ (λ c e. (or_parts _ _ e).0) h
 
 pub key_apart : (q : List ℕ) → Apart lengthens q → Apart is_key_inner q
-key_apart q h = Apart-part is_key_inner lengthens q
-    (λ c e. grind (arith, nat_tests)) h
+key_apart q h = Apart-part _ _ _ (λ c e. grind (arith, nat_tests)) h
 
 pub equals_apart : (q : List ℕ) → Apart lengthens q → Apart (byte equals_sign) q
-equals_apart q h = Apart-part (byte equals_sign) lengthens q
-    (λ c e. grind (arith, nat_tests)) h
+equals_apart q h = Apart-part _ _ _ (λ c e. grind (arith, nat_tests)) h
 
 pub item_part : (q : List ℕ) → Apart lengthens_item q → Apart lengthens q
 item_part q h = Apart-part lengthens lengthens_item q (λ c e. (or_parts (lengthens c) (eqb c semicolon) e).0) h
 
 semicolon_apart : (q : List ℕ) → Apart lengthens_item q → Apart (byte semicolon) q
-semicolon_apart q h = Apart-part (byte semicolon) lengthens_item q
-    (λ c e. (or_parts (lengthens c) (eqb c semicolon) e).1) h
+semicolon_apart q h = Apart-part _ _ _ (λ c e. (or_parts _ _ e).1) h
 
 pub key_complete : (key t q : List ℕ) → IsKeyText key t → Apart is_key_inner q → key_at (t ++ q) ≡ Ok (key, q)
 unfolding key_at give
@@ -62,8 +58,7 @@ value_complete version v t q (inr e) h = ap (value_at version) (after_sign equal
 value_apart : (version : Version) (v : BareValue) (t q : List ℕ) → IsValueText version v t → Apart is_key_inner q
     → Apart is_key_inner (t ++ q)
 value_apart version v t q (inl e) h = rw e.1 h
-value_apart version v t q (inr e) h = rw (after_sign equals_sign t q e)
-    (Apart-cons is_key_inner equals_sign (e.back ++ q) refl)
+value_apart version v t q (inr e) h = rw (after_sign equals_sign t q e) (Apart-cons _ _ _ refl)
 
 -- a key begins with no byte n that begins none
 pub key_no : (n : ℕ) (key t q : List ℕ) → is_key_start n ≡ false → IsKeyText key t → Apart (byte n) (t ++ q)
@@ -81,13 +76,10 @@ parameter_complete version p t q i h =
     let inner : i.back ++ q ≡ s.front ++ (k.front ++ (k.back ++ q)) =
     ap (λ (l : List ℕ). l ++ q) (s.text ∙ ap (λ (l : List ℕ). s.front ++ l) k.text) ∙ simp append_assoc in
     let all : t ++ q ≡ semicolon ∷ (s.front ++ (k.front ++ (k.back ++ q))) = cc (after_sign semicolon t q i) in (
-      ap (parameter_at version) all ∙ branch_take _ _ _ semicolon (s.front ++ (k.front ++ (k.back ++ q))) refl
-          ∙ bind_complete _ _ _ _ _ (span_complete is_space s.front (k.front ++ (k.back ++ q)) s.first
-          (key_no space p.0 k.front (k.back ++ q) refl k.first))
-          ∙ bind_complete _ _ _ _ _ (key_complete p.0 k.front (k.back ++ q) k.first
-          (value_apart version p.1 k.back q k.second (key_apart q h)))
-          ∙ bind_complete _ _ _ _ _ (value_complete version p.1 k.back q k.second h),
-      rw all (Apart-cons lengthens semicolon _ refl),
+      ap (parameter_at version) all ∙ branch_take _ _ _ _ _ refl ∙ bind_complete _ _ _ _ _ (span_complete _ _ _ s.first
+          (key_no _ _ _ _ refl k.first)) ∙ bind_complete _ _ _ _ _ (key_complete _ _ _ k.first
+          (value_apart _ _ _ _ k.second (key_apart _ h))) ∙ bind_complete _ _ _ _ _ (value_complete _ _ _ _ k.second h),
+      rw all (Apart-cons _ _ _ refl),
     )
 
 no_parameter : (version : Version) (q : List ℕ) → Apart (byte semicolon) q → parameter_at version q ≡ Ok (None, q)
@@ -97,23 +89,19 @@ no_parameter version q stop = branch_past _ _ _ q stop
 pub parameters_complete : (version : Version) (ps : RawParameters) (t q : List ℕ) → IsParametersText version ps t
     → Apart lengthens_item q → (parameters_at version (t ++ q) ≡ Ok (ps, q)) × Apart lengthens (t ++ q)
 unfolding parameters_at
-parameters_complete version ps t q i h = many_complete parameter_event (parameter_at version)
-    (Consumes-parameter version) (IsParameterText version) (Exactly []) (Apart lengthens) q
-    (λ p a q i f. parameter_complete version p a q i f)
-    (λ e n. (
+parameters_complete version ps t q i h = many_complete _ _ (Consumes-parameter _) _ _ _ _
+    (λ p a q i f. parameter_complete _ _ _ _ i f) (λ e n. (
       simp (n, no_parameter version q (semicolon_apart q h)),
-      rw n (item_part q h),
-    )) ps t
-    (end_joined (IsParameterText version) ps t i)
+      rw n (item_part _ h),
+    )) _ _ (end_joined _ _ _ i)
 
 pub item_complete : (version : Version) (i : RawItem) (t q : List ℕ) → IsItemText version i t → Apart lengthens_item q
     → item_at version (t ++ q) ≡ Ok (i, q)
 unfolding item_at give
 item_complete version i t q h f =
-    let ps = parameters_complete version i.parameters h.back q h.second f in
+    let ps = parameters_complete _ _ _ _ h.second f in
     let all : t ++ q ≡ h.front ++ (h.back ++ q) = ap (λ (l : List ℕ). l ++ q) h.text ∙ append_assoc h.front h.back q in
-    ap (item_at version) all ∙ bind_complete _ _ _ _ _
-    (bare_complete version i.bare h.front (h.back ++ q) h.first (token_apart (h.back ++ q) ps.1))
+    ap (item_at version) all ∙ bind_complete _ _ _ _ _ (bare_complete _ _ _ _ h.first (token_apart _ ps.1))
     ∙ led_complete _ _ _ _ _ (bind_complete _ _ _ _ _ ps.0)
 
 -- ---- how items begin

@@ -22,8 +22,7 @@ pub display_complete : (s t q : List ℕ) → IsDisplayEnd s t → display_at (t
 unfolding display_at
 display_complete s t q h =
     let pieces = h.first.0.pieces in
-    let whole : t ++ q ≡ concat pieces ++ double_quote ∷ q =
-    rw (h.text, h.first.0.text, h.second, append_assoc) refl in
+    let whole : t ++ q ≡ concat pieces ++ double_quote ∷ q = rw (h.text, h.first.0.text, h.second, append_assoc) refl in
     let read : pieces_from outside (t ++ q) ≡ Ok (s, q) = simp
     (whole, past_display s pieces (double_quote ∷ q) h.first.0.each, quote_display q, append-nil) in
-    ap (checked (t ++ q)) read ∙ passes (t ++ q) s q h.first.1
+    ap (checked (t ++ q)) read ∙ passes _ _ _ h.first.1

@@ -119,11 +119,8 @@ display_short t there k h = let w = display_stops_whole k h.left there h.ends in
 
 display_row : (t : List ℕ) (e : Fault) → display_at t ≡ Err e → HasRow Rfc9651 (percent_sign ∷ double_quote ∷ t) e
 display_row t e i =
-    let f = display_fault t e i in
-    inr (
-      ap (λ (e : Fault). e.exact) f.1,
-      λ kind w before place. ruled Rfc9651 kind w before t e.rest e.kind refl place f.0,
-    )
+    let f = display_fault _ _ i in
+    inr (ap (λ (e : Fault). e.exact) f.1, λ kind w before place. ruled _ _ _ _ _ _ _ refl place f.0)
 
 -- what is read after the percent sign and the quote
 pub quoted_read : (t : List ℕ) → quoted_at Rfc9651 (percent_sign ∷ double_quote ∷ t)

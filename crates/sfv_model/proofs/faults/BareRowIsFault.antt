@@ -26,8 +26,7 @@ use Rattle.sfv_model.proofs.{faults.Quoted.{string_faulty, traced}, sound.ByteSe
 -- ---- numbers and Dates
 
 pub date_given : (version : Version) (t : List ℕ) (a : Answer BareValue) → version ≡ Rfc9651 → number_at true t ≡ a
-    → bare_at version (at_sign ∷ t)
-    ≡ at_start NonIntegerDate (at_sign ∷ t) (and_then a (λ v. give (as_date v)))
+    → bare_at version (at_sign ∷ t) ≡ at_start NonIntegerDate (at_sign ∷ t) (and_then a (λ v. give (as_date v)))
 date_given version t a known read = ap (λ e. bare_at e (at_sign ∷ t)) known ∙ bare_at_sign Rfc9651 t ∙ date_read t
     ∙ ap (λ a. at_start NonIntegerDate (at_sign ∷ t) (and_then a (λ v. give (as_date v)))) read
 
@@ -41,9 +40,8 @@ number_given version false t e known start h = number_from version t (start refl
 pub signed_given : (version : Version) (s sign digits q : List ℕ) (e : Fault) (n : IsNumberSign version sign)
     → 1 ≤ length digits → RunOf is_digit digits → s ≡ sign ++ digits ++ q
     → NumberShape n.0 (minus_text n.1 ++ (digits ++ q)) (Err e) → bare_at version s ≡ Err e
-signed_given version s sign digits q e (dated, negative, known, same) some each text h =
-    ap (bare_at version) (rw same at text ∙ simp append_assoc)
-    ∙ number_given version dated _ e known (λ _. front negative digits q some each) h
+signed_given version s sign digits q e (dated, negative, known, same) some each text h = ap (bare_at version)
+    (rw same at text ∙ simp append_assoc) ∙ number_given _ _ _ _ known (λ _. front _ _ _ some each) h
 
 begins_apart : (p q : ℕ → Bool) (t : List ℕ) → begins_with (λ c. p c || q c) t ≡ false
     → (begins_with p t ≡ false) × (begins_with q t ≡ false)
@@ -54,10 +52,8 @@ begins_apart p q (c ∷ t) h = or_parts (p c) (q c) h
 
 string_given : (version : Version) (s left there : List ℕ) (k : ErrorKind) → OpensString s left
     → StringStops k left there → bare_at version s ≡ Err (at_reach k there)
-string_given version s left there k (bytes, content, h, text) ends = ap (bare_at version) text
-    ∙ bare_quote version (content ++ left) ∙ bind_met string_at (λ s. give (string s)) _ (at_reach k there)
-    (string_faulty (content ++ left) there k
-    (traced _ bytes h.pieces left (ap (λ (l : List ℕ). l ++ left) h.text) h.each ends))
+string_given version s left there k (bytes, content, h, text) ends = ap (bare_at version) text ∙ bare_quote _ _
+    ∙ bind_met _ _ _ _ (string_faulty _ _ _ (traced _ _ _ _ (ap (λ (l : List ℕ). l ++ left) h.text) h.each ends))
 
 pub bytes_given : (version : Version) (t : List ℕ) (e : Fault) → bytes_at t ≡ Err e
     → bare_at version (colon ∷ t) ≡ Err e
@@ -72,25 +68,20 @@ row_read version s there _ (no_boolean text h) = rw text (bare_boolean version t
 row_read version s there _ (old_date rest known text same) = rw (same, known, text) (bare_at_sign Rfc8941 rest)
 row_read version s there _ (old_display rest known text same) = rw (same, known, text) (bare_percent Rfc8941 rest)
 row_read version s there _ (no_quote known text h) = rw (known, text) (bare_percent Rfc9651 there ∙ quote_fault there h)
-row_read version s there _ (no_digit dated known text h) =
-    ap (bare_at version) (text ∙ append_assoc (at_text dated) (codes "-") there)
-    ∙ number_given version dated (minus_sign ∷ there) (at_reach ExpectedDigit there) known
+row_read version s there _ (no_digit dated known text h) = ap (bare_at version) (text ∙ append_assoc (at_text dated)
+    (codes "-") there) ∙ number_given version dated (minus_sign ∷ there) (at_reach ExpectedDigit there) known
     (λ _. refl) (no_digits true there refl h (λ e. absurd (true≢false e)))
 row_read version s there _ (no_number known text h) =
     let n = begins_apart is_digit (byte minus_sign) there h in
-    ap (bare_at version) text
-    ∙ number_given version true there (at_reach ExpectedDigit there) (λ _. known) (λ e. absurd (true≢false e))
-    (no_digits false there refl n.0 (λ _. n.1))
-row_read version s there _ (long_integer sign digits signed counted text h) =
-    signed_given version s sign digits there _ signed (omega (arith, counted.0)) counted.2 text
-    (sixteen_digits signed.1 digits there refl counted h)
-row_read version s there _ (late_point sign digits signed counted text h) =
-    signed_given version s sign digits there _ signed (omega (arith, counted.0)) counted.2 text
-    (point_too_late signed.1 digits there refl counted h)
-row_read version s there _ (long_decimal negative whole fraction counted three text h) =
-    signed_given version s (minus_text negative) whole (dot ∷ (fraction ++ there)) _
-    (false, negative, λ e. absurd (true≢false (sym e)), refl) counted.0 counted.2 (text ∙ simp append_assoc)
-    (long_fraction negative whole fraction there refl counted three h)
+    ap (bare_at version) text ∙ number_given version true there (at_reach ExpectedDigit there) (λ _. known)
+    (λ e. absurd (true≢false e)) (no_digits false there refl n.0 (λ _. n.1))
+row_read version s there _ (long_integer sign digits signed counted text h) = signed_given version s sign digits there _
+    signed (omega (arith, counted.0)) counted.2 text (sixteen_digits signed.1 digits there refl counted h)
+row_read version s there _ (late_point sign digits signed counted text h) = signed_given version s sign digits there _
+    signed (omega (arith, counted.0)) counted.2 text (point_too_late signed.1 digits there refl counted h)
+row_read version s there _ (long_decimal negative whole fraction counted three text h) = signed_given version s
+    (minus_text negative) whole (dot ∷ (fraction ++ there)) _ (false, negative, λ e. absurd (true≢false (sym e)), refl)
+    counted.0 counted.2 (text ∙ simp append_assoc) (long_fraction negative whole fraction there refl counted three h)
 row_read version s there _ (open_string opened end) = string_given version s [] there _ opened (refl, end)
 row_read version s there _ (wrong_string_byte opened wrong) =
     let n = next_of (λ c. not (is_string_byte c)) there wrong in

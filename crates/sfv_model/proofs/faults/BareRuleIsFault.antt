@@ -23,14 +23,12 @@ item_given version s there _ (point sign digits rest signed counted text left no
   omega (arith, ap (length {A = ℕ}) text, ap (length {A = ℕ}) left, length-append {A = ℕ}),
 )
 item_given version s there _ (decimal_date z number rest known is_decimal text left no_digit) = (
-  rw (left, text) (date_given version (number ++ rest) _ known
-      (shape_read true (number ++ rest) _ (a_decimal z number rest is_decimal refl no_digit))),
+  rw (left, text) (date_given _ _ _ known (shape_read _ _ _ (a_decimal _ _ _ is_decimal refl no_digit))),
   omega (arith, ap (length {A = ℕ}) left),
 )
 item_given version s there _ (long_decimal_date negative whole fraction known counted three text more) = (
-  signed_given version s (codes "@" ++ minus_text negative) whole (dot ∷ (fraction ++ there)) _
-      (true, negative, λ _. known, refl) counted.0 counted.2 (text ∙ simp append_assoc)
-      (long_fraction negative whole fraction there refl counted three more),
+  signed_given _ _ _ _ _ _ (true, negative, λ _. known, refl) counted.0 counted.2 (text ∙ simp append_assoc)
+      (long_fraction _ _ _ _ refl counted three more),
   omega (arith, simp length-append at (ap (length {A = ℕ}) text)),
 )
 item_given version s there _ (open_bytes rest text left no_colon) = (
@@ -49,10 +47,9 @@ item_given version s there _ (lone_symbol content rest text left only one) =
     )
 item_given version s there k (display rest bytes pieces known text content longest fault) =
     let inside : List ℕ = concat pieces ++ rest in
-    let f = faults_ruled bytes pieces rest there k content longest fault in (
-      ap (bare_at version) text ∙ ap (λ e. bare_at e (percent_sign ∷ double_quote ∷ inside)) known
-          ∙ bare_percent Rfc9651 (double_quote ∷ inside) ∙ quoted_read inside
-          ∙ ap (λ a. and_then a (λ s. give (display_string s))) (display_faulty inside there k f),
+    let f = faults_ruled _ _ _ _ _ content longest fault in (
+      ap (bare_at version) text ∙ ap (λ e. bare_at e (percent_sign ∷ double_quote ∷ inside)) known ∙ bare_percent _ _
+          ∙ quoted_read _ ∙ ap (λ a. and_then a (λ s. give (display_string s))) (display_faulty _ _ _ f),
       omega (arith, ap (length {A = ℕ}) text, display_short inside there k f),
     )
 

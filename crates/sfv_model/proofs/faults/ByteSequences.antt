@@ -26,15 +26,14 @@ closed_fault content rest e None h v i =
     inr (content, rest, refl, h, v, sym same)
 
 pub bytes_fault : (t : List ℕ) (e : Fault) → bytes_at t ≡ Err e → IsBytesFault t e
-bytes_fault t e i = elim (cases_Bool (list_any is_colon t)) [
+bytes_fault t e i = elim (cases_Bool _) [
   | inl y ↦
-      let s = content_split t y in
+      let s = content_split _ y in
       let content : List ℕ = content_in t in
-      subst (λ (t : List ℕ). IsBytesFault t e) (sym s.1)
-      (closed_fault content s.0 e (bytes_of content) s.2 refl (sym (read_closed content s.0 s.2)
-      ∙ ap bytes_at (sym s.1) ∙ i))
+      subst (λ (t : List ℕ). IsBytesFault t e) (sym s.1) (closed_fault _ _ _ _ s.2 refl (sym (read_closed _ _ s.2) ∙ ap
+      bytes_at (sym s.1) ∙ i))
   | inr n ↦
-      let both = sym (read_unclosed t n) ∙ i in
+      let both = sym (read_unclosed _ n) ∙ i in
       let same : by_rule UnterminatedByteSequence [] ≡ e = cc in
       inl (no_colon t n, sym same)
 ]
@@ -42,8 +41,7 @@ bytes_fault t e i = elim (cases_Bool (list_any is_colon t)) [
 -- what a reading from a place answers, as the reader says it
 pub gives_value : (input bytes : List ℕ) (start end : ℕ) → IsBytesAt input start bytes end
     → bytes_at (drop start input) ≡ Ok (bytes, drop (end + 1) input)
-gives_value input bytes start end h = rw h.closed.text
-    (read_value h.content (drop (end + 1) input) bytes h.closed.no_colon h.value)
+gives_value input bytes start end h = rw h.closed.text (read_value _ _ _ h.closed.no_colon h.value)
 
 pub gives_fault : (input : List ℕ) (start index : ℕ) (h : IsInvalidAt input start index)
     → bytes_at (drop start input) ≡ Err (content_fault h.content (drop index input))

@@ -65,9 +65,8 @@ Rules-bind P W T f g V s h k = record {
 -- after a run of a class
 pub Rules-span : {B : Type 0} (class : ℕ → Bool) (g : List ℕ → Reader B) (V : List ℕ → Fault → Type 0)
     → ((v : List ℕ) → RunOf class v → Rules (g v) (λ u x. V (v ++ u) x)) → Rules (span class >>= g) V
-Rules-span class g V h = Rules-bind (IsSpan class) (λ _ _. Unit {0}) (λ _. Unit {0}) (span class) g V
-    (Sound-steady _ _ _ _ (Steady-span class)) (Rules-steady _ _ _ (Steady-span class))
-    (λ s v i. rw i.0 (h v i.1))
+Rules-span class g V h = Rules-bind _ (λ _ _. Unit {0}) (λ _. Unit {0}) _ _ _ (Sound-steady _ _ _ _ (Steady-span _))
+    (Rules-steady _ _ _ (Steady-span _)) (λ s v i. rw i.0 (h v i.1))
 
 cond_on : {A : Type 0} (V : List ℕ → Fault → Type 0) (t : List ℕ) (e : Fault) (b : Bool) (x y : Answer A)
     → (b ≡ true → x ≡ Err e → V t e) → (b ≡ false → y ≡ Err e → V t e) → cond b x y ≡ Err e → V t e

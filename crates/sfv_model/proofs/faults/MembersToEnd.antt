@@ -91,7 +91,6 @@ pub field_none : (version : Version) (kind : FieldKind) → HasManyMembers kind
     → (t r : List ℕ) (raw : RawField kind) → whole_field_at version kind t ≡ Ok (raw, r) → r ≡ []
 unfolding whole_field_at
 field_none version item_field many t r raw i = absurd many
-field_none version list_field many t r raw i = members_none (IsMemberText version) entry_events (entry_at version)
-    (Sound-entry version) t r raw i
+field_none version list_field many t r raw i = members_none (IsMemberText version) _ _ (Sound-entry _) _ _ _ i
 field_none version dictionary_field many t r raw i = members_none (IsDictionaryMemberText version) keyed_events
     (keyed_at version) (Sound-keyed version) t r raw i

@@ -24,19 +24,17 @@ module _ (version : Version) where
 
   parameters_longer : (ps : RawParameters) (t : List ℕ) → IsParametersText version ps t
       → IsParametersText version (more_parameters ps) (t ++ codes ";a")
-  parameters_longer ps t h = joining_push (IsParameterText version) ps (codes "a", boolean true) t (codes ";a") h
-      (parameter_a version)
+  parameters_longer ps t h = joining_push _ _ _ _ _ h (parameter_a version)
 
   member_longer : (m : RawMember) (t : List ℕ) → IsMemberText version m t
       → (n : RawMember) × IsMemberText version n (t ++ codes ";a")
   member_longer (item i) t h = let j = item_longer version i t h in (item j.0, j.1)
   member_longer (inner_list l) t h =
-      let p = inner_parts version l.items l.parameters t h in (
+      let p = inner_parts _ _ _ _ h in (
         inner_of l.items (more_parameters l.parameters),
-        subst (IsMemberText version (inner_of l.items (more_parameters l.parameters)))
-            (sym (ap (λ (l : List ℕ). l ++ codes ";a") p.text ∙ simp append_assoc))
-            (inner_text version l.items (more_parameters l.parameters) p.items (p.rest ++ codes ";a") p.are_items
-            (parameters_longer l.parameters p.rest p.are_parameters)),
+        subst (IsMemberText version (inner_of l.items (more_parameters l.parameters))) (sym (ap
+            (λ (l : List ℕ). l ++ codes ";a") p.text ∙ simp append_assoc)) (inner_text _ _ _ _ _ p.are_items
+            (parameters_longer _ _ p.are_parameters)),
       )
 
   value_longer : (m : RawMember) (t : List ℕ) → IsMemberValueText version m t
@@ -88,12 +86,10 @@ not_spaced : (version : Version) (kind : FieldKind) (raw : RawField kind) (u t z
     → RunOf is_space_or_tab (c ∷ z) → ¬ IsAccepted version kind (u ++ codes ";a)")
 not_spaced version kind raw u t z c many has e h each a =
     let q : List ℕ = (c ∷ z) ++ codes ";a)" in
-    let fault = met version kind raw t q (at_reach TrailingCharactersAfterMember (codes ";a)")) many has h
-    (λ A one y blank. ap (next_at one) (sym (append_assoc y (c ∷ z) (codes ";a)")))
-    ∙ byte_met one semicolon (codes "a)") (y ++ c ∷ z) refl refl
-    (list_all-append is_space_or_tab y (c ∷ z) ∙ and_from _ _ blank each))
-    (blank_ends c (z ++ codes ";a)") (run_head is_space_or_tab c z each)) in
-    let read = field_complete version kind a.0 _ a.1 in
+    let fault = met _ _ _ _ _ _ many has h (λ A one y blank. ap (next_at one)
+    (sym (append_assoc y (c ∷ z) (codes ";a)"))) ∙ byte_met _ _ _ _ refl refl (list_all-append is_space_or_tab y (c ∷ z)
+    ∙ and_from _ _ blank each)) (blank_ends _ _ (run_head is_space_or_tab c z each)) in
+    let read = field_complete _ _ _ _ a.1 in
     let same : u ++ codes ";a)" ≡ t ++ q = ap (λ (l : List ℕ). l ++ codes ";a)") e ∙ append_assoc t (c ∷ z) _ in
     absurd (let both = sym read ∙ ap (whole_field_at version kind) same ∙ fault in cc)
 
@@ -125,12 +121,10 @@ pub not_longer : (version : Version) (kind : FieldKind) (raw : RawField kind) (u
     → IsFieldText version kind raw u → ¬ IsAccepted version kind (u ++ codes ";a)")
 not_longer version item_field raw u has h a = item_not version raw u h a
 not_longer version list_field [] u has h a = absurd (let none = has.2 in cc)
-not_longer version list_field (m ∷ ms) u has h a =
-    ending (IsMemberText version) entry_events (entry_at version) (member_longer version) m ms u ⊥ h
-    (λ ns k. not_after version list_field u (ns, k) a)
-    (λ n ns t c z e k each. not_spaced version list_field (n ∷ ns) u t z c tt (n, ns, refl) e k each a)
+not_longer version list_field (m ∷ ms) u has h a = ending (IsMemberText version) entry_events (entry_at version)
+    (member_longer version) m ms u ⊥ h (λ ns k. not_after version list_field u (ns, k) a) (λ n ns t c z e k each.
+    not_spaced version list_field (n ∷ ns) u t z c tt (n, ns, refl) e k each a)
 not_longer version dictionary_field [] u has h a = absurd (let none = has.2 in cc)
-not_longer version dictionary_field (m ∷ ms) u has h a =
-    ending (IsDictionaryMemberText version) keyed_events (keyed_at version) (keyed_longer version) m ms u ⊥ h
-    (λ ns k. not_after version dictionary_field u (ns, k) a)
-    (λ n ns t c z e k each. not_spaced version dictionary_field (n ∷ ns) u t z c tt (n, ns, refl) e k each a)
+not_longer version dictionary_field (m ∷ ms) u has h a = ending (IsDictionaryMemberText version) keyed_events
+    (keyed_at version) (keyed_longer version) m ms u ⊥ h (λ ns k. not_after version dictionary_field u (ns, k) a) (λ n
+    ns t c z e k each. not_spaced version dictionary_field (n ∷ ns) u t z c tt (n, ns, refl) e k each a)

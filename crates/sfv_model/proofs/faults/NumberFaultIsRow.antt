@@ -15,11 +15,9 @@ use Rattle.sfv_model.proofs.faults.NumberShapes.{begins_neither}
 
 -- what the table says of a fault of the bare item that s begins with
 abbrev pub HasRow : Version → List ℕ → Fault → Type 0
-HasRow version s e =
-    ((e.exact ≡ true)
-    × (((e.kind ≡ ExpectedStartOfBareItem) × (e.rest ≡ s)) ⊎ BareItemFault version s e.rest e.kind))
-    ⊎ ((e.exact ≡ false) × ((kind : FieldKind) (whole before : List ℕ) → WantsBetween version kind whole before s
-    → RuledFault version kind whole e.kind (length whole - length e.rest)))
+HasRow version s e = ((e.exact ≡ true) × (((e.kind ≡ ExpectedStartOfBareItem) × (e.rest ≡ s))
+    ⊎ BareItemFault version s e.rest e.kind)) ⊎ ((e.exact ≡ false) × ((kind : FieldKind) (whole before : List ℕ)
+    → WantsBetween version kind whole before s → RuledFault version kind whole e.kind (length whole - length e.rest)))
 
 -- each fault of the answer is one of these
 abbrev pub HasRows : {A : Type 0} → Version → List ℕ → Answer A → Type 0

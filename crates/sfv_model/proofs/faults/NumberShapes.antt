@@ -95,8 +95,7 @@ pub data NumberShape (dated : Bool) (t : List ℕ) : Answer BareValue → Type 0
       → NumberShape dated t (Err (by_rule TrailingDecimalPoint (dot ∷ q)))
   long_fraction : (negative : Bool) (whole fraction q : List ℕ)
       → t ≡ minus_text negative ++ (whole ++ dot ∷ (fraction ++ q)) → AreDigits 1 12 whole → AreDigits 3 3 fraction
-      → begins_with is_digit q ≡ true
-      → NumberShape dated t (Err (placed (not dated) TooManyDigitsAfterDecimalPoint q))
+      → begins_with is_digit q ≡ true → NumberShape dated t (Err (placed (not dated) TooManyDigitsAfterDecimalPoint q))
   a_decimal : (z : ℤ) (number q : List ℕ) → IsDecimalText z number → t ≡ number ++ q → begins_with is_digit q ≡ false
       → NumberShape dated t (Ok (decimal z, q))
   an_integer : (z : ℤ) (number q : List ℕ) → IsIntegerText z number → t ≡ number ++ q → begins_with goes_on q ≡ false
@@ -107,8 +106,7 @@ pub data NumberShape (dated : Bool) (t : List ℕ) : Answer BareValue → Type 0
 digits_whole : (least : ℕ) (digits : List ℕ) → AreDigits (suc least) 15 digits → AreDigits 1 15 digits
 digits_whole least digits h = (omega (arith, h.0), h.1, h.2)
 
-long_read : (dated : Bool) (q : List ℕ)
-    → long_at dated q ≡ Err (placed (not dated) TooManyDigitsAfterDecimalPoint q)
+long_read : (dated : Bool) (q : List ℕ) → long_at dated q ≡ Err (placed (not dated) TooManyDigitsAfterDecimalPoint q)
 unfolding long_at fail ruled
 long_read true q = refl
 long_read false q = refl
@@ -119,34 +117,27 @@ up_to_point : (dated negative : Bool) (whole q : List ℕ) → AreDigits 1 12 wh
     ≡ at_start TrailingDecimalPoint (dot ∷ q) (fraction_at dated negative whole q)
 unfolding whole_at point_at back
 up_to_point dated negative whole q counted =
-    let point : Apart is_digit (dot ∷ q) = Apart-cons is_digit dot q refl in
-    start_complete dated negative whole (dot ∷ q) (counted.0, omega (arith, counted.1), counted.2) point
-    ∙ rw (some_eqb (length whole) counted.0) (ahead_past _ _ _ (dot ∷ q) point
-    ∙ ahead_take _ _ _ dot q refl
-    ∙ rw (le-ltb 12 (length whole) counted.1) (ap (at_start TrailingDecimalPoint (dot ∷ q))
-    (branch_take _ _ _ dot q refl)))
+    let point : Apart is_digit (dot ∷ q) = Apart-cons _ _ _ refl in
+    start_complete _ _ _ _ (counted.0, omega (arith, counted.1), counted.2) point ∙ rw
+    (some_eqb (length whole) counted.0) (ahead_past _ _ _ _ point ∙ ahead_take _ _ _ _ _ refl ∙ rw
+    (le-ltb 12 (length whole) counted.1) (ap (at_start TrailingDecimalPoint (dot ∷ q)) (branch_take _ _ _ _ _ refl)))
 
 pub shape_read : (dated : Bool) (t : List ℕ) (a : Answer BareValue) → NumberShape dated t a → number_at dated t ≡ a
 unfolding whole_at fraction_at decimal_at fail give
-shape_read dated t _ (no_digits negative q text h plain) = ap (number_at dated) text
-    ∙ start_read dated negative [] q refl (omega arith) (λ _. none_apart is_digit q h)
-    (λ e. none_apart (byte minus_sign) q (plain e))
-shape_read dated t _ (sixteen_digits negative whole q text counted h) = ap (number_at dated) text
-    ∙ start_read dated negative whole q counted.2 counted.1 (λ l. absurd (omega (arith, l, counted.0)))
-    (λ _. minus_apart whole q (digits_whole 14 whole counted))
-    ∙ rw (some_eqb (length whole) (omega (arith, counted.0))) (ahead_next _ _ _ q h)
+shape_read dated t _ (no_digits negative q text h plain) = ap (number_at dated) text ∙ start_read dated negative [] q
+    refl (omega arith) (λ _. none_apart is_digit q h) (λ e. none_apart (byte minus_sign) q (plain e))
+shape_read dated t _ (sixteen_digits negative whole q text counted h) = ap (number_at dated) text ∙ start_read dated
+    negative whole q counted.2 counted.1 (λ l. absurd (omega (arith, l, counted.0))) (λ _. minus_apart whole q
+    (digits_whole 14 whole counted)) ∙ rw (some_eqb (length whole) (omega (arith, counted.0))) (ahead_next _ _ _ q h)
 shape_read dated t _ (point_too_late negative whole q text counted h) =
     let n = next_of (byte dot) q h in
     let apart : begins_with is_digit q ≡ false = rw (n.text, eqb-true n.c dot n.is) refl in
-    ap (number_at dated) text
-    ∙ start_complete dated negative whole q (digits_whole 12 whole counted) (none_apart is_digit q apart)
-    ∙ rw (some_eqb (length whole) (omega (arith, counted.0))) (ahead_past _ _ _ q (none_apart is_digit q apart)
-    ∙ ahead_next _ _ _ q h
-    ∙ rw (lt-ltb 12 (length whole) counted.0) refl)
-shape_read dated t _ (no_fraction negative whole q text counted h) = ap (number_at dated) text
-    ∙ up_to_point dated negative whole q counted
-    ∙ ap (at_start TrailingDecimalPoint (dot ∷ q)) (bind_complete _ _ _ _ _
-    (up_to_taken is_digit 3 [] q refl (omega arith) (λ _. none_apart is_digit q h)))
+    ap (number_at dated) text ∙ start_complete dated negative whole q (digits_whole 12 whole counted)
+    (none_apart is_digit q apart) ∙ rw (some_eqb (length whole) (omega (arith, counted.0))) (ahead_past _ _ _ q
+    (none_apart is_digit q apart) ∙ ahead_next _ _ _ q h ∙ rw (lt-ltb 12 (length whole) counted.0) refl)
+shape_read dated t _ (no_fraction negative whole q text counted h) = ap (number_at dated) text ∙ up_to_point dated
+    negative whole q counted ∙ ap (at_start TrailingDecimalPoint (dot ∷ q)) (bind_complete _ _ _ _ _ (up_to_taken
+    is_digit 3 [] q refl (omega arith) (λ _. none_apart is_digit q h)))
 shape_read dated t _ (long_fraction negative whole fraction q text counted three h) =
     let after : fraction_at dated negative whole (fraction ++ q)
     ≡ Err (placed (not dated) TooManyDigitsAfterDecimalPoint q) = bind_complete _ _ _ _ _

@@ -19,8 +19,7 @@ traced t bytes pieces left e h ends =
     record { bytes = bytes; pieces = pieces; left = left; text = e; content = h; ends = ends }
 
 -- Exactly such a fault is given.
-pub string_faulty : (t there : List ℕ) (k : ErrorKind) → IsStringFault t k there
-    → string_at t ≡ Err (at_reach k there)
+pub string_faulty : (t there : List ℕ) (k : ErrorKind) → IsStringFault t k there → string_at t ≡ Err (at_reach k there)
 string_faulty t there k h = ap string_at h.text ∙ past_string h.bytes h.pieces h.left h.content
     ∙ ap (after_bytes h.bytes) (string_stops k h.left there h.ends)
 
@@ -39,11 +38,9 @@ pub display_faulty : (t there : List ℕ) (k : ErrorKind) → IsDisplayFault t k
     → display_at t ≡ Err (by_rule k there)
 unfolding display_at
 display_faulty t there InvalidUtf8InDisplayString h =
-    let read : pieces_from outside t ≡ Ok (h.bytes, h.ends.0) =
-    ap (pieces_from outside) (h.text ∙ ap (λ (l : List ℕ). concat h.pieces ++ l) h.ends.1)
-    ∙ past_display h.bytes h.pieces (double_quote ∷ h.ends.0) h.content
-    ∙ ap (after_bytes h.bytes) (quote_display h.ends.0)
-    ∙ ap (λ (l : List ℕ). Ok (l, h.ends.0)) (append-nil h.bytes) in
+    let read : pieces_from outside t ≡ Ok (h.bytes, h.ends.0) = ap (pieces_from outside) (h.text ∙ ap
+    (λ (l : List ℕ). concat h.pieces ++ l) h.ends.1) ∙ past_display _ _ _ h.content ∙ ap (after_bytes h.bytes)
+    (quote_display _) ∙ ap (λ (l : List ℕ). Ok (l, h.ends.0)) (append-nil h.bytes) in
     ap (checked t) read ∙ rw (not_text h.bytes h.ends.2)
     (ap (λ (l : List ℕ). Err (by_rule InvalidUtf8InDisplayString l)) (sym h.ends.3))
 display_faulty t there k h = ap (checked t) (ap (pieces_from outside) h.text
@@ -73,5 +70,4 @@ fault_is t (Ok x) h = elim (cases_Bool (is_utf8 x.0)) [
 pub display_fault : (t : List ℕ) (e : Fault) → display_at t ≡ Err e
     → IsDisplayFault t e.kind e.rest × (e ≡ by_rule e.kind e.rest)
 unfolding display_at
-display_fault t e i = subst (λ (a : Answer (List ℕ)). FaultIs t a) i
-    (fault_is t (pieces_from outside t) (trace_of_display t))
+display_fault t e i = subst (λ (a : Answer (List ℕ)). FaultIs t a) i (fault_is _ _ (trace_of_display _))

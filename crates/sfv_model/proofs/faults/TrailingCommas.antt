@@ -37,19 +37,17 @@ comma_met : {A : Type 0} (one : Reader A) (w z : List ℕ) → RunOf is_space_or
 unfolding next_at comma_at back give
 comma_met one w z each' each =
     let end : span is_space_or_tab w ≡ Ok (w, []) = ap (span is_space_or_tab) (sym (append-nil w))
-    ∙ span_complete is_space_or_tab w [] each' (Apart-nil is_space_or_tab) in
-    bind_complete _ _ _ _ _ (span_complete is_space_or_tab z (comma ∷ w) each (Apart-cons is_space_or_tab comma w refl))
-    ∙ ahead_any _ _ _ (omega arith) ∙ ahead_take _ _ _ comma w refl
-    ∙ bind_met _ _ _ _ (ap (at_start TrailingComma (comma ∷ w)) (branch_take _ _ _ comma w refl
-    ∙ bind_complete _ _ _ _ _ end ∙ ahead_past _ _ _ [] (Apart-nil any)))
+    ∙ span_complete _ _ _ each' (Apart-nil _) in
+    bind_complete _ _ _ _ _ (span_complete _ _ _ each (Apart-cons _ _ _ refl)) ∙ ahead_any _ _ _ (omega arith)
+    ∙ ahead_take _ _ _ _ _ refl ∙ bind_met _ _ _ _ (ap (at_start TrailingComma (comma ∷ w)) (branch_take _ _ _ _ _ refl
+    ∙ bind_complete _ _ _ _ _ end ∙ ahead_past _ _ _ _ (Apart-nil _)))
 
 -- blanks, and another byte
 pub byte_met : {A : Type 0} (one : Reader A) (c : ℕ) (w z : List ℕ) → is_space_or_tab c ≡ false → eqb c comma ≡ false
     → RunOf is_space_or_tab z → next_at one (z ++ c ∷ w) ≡ Err (at_reach TrailingCharactersAfterMember (c ∷ w))
 unfolding next_at fail
-byte_met one c w z none no_comma each =
-    bind_complete _ _ _ _ _ (span_complete is_space_or_tab z (c ∷ w) each (Apart-cons is_space_or_tab c w none))
-    ∙ ahead_any _ _ _ (omega arith) ∙ ahead_past _ _ _ (c ∷ w) (Apart-cons (byte comma) c w no_comma)
+byte_met one c w z none no_comma each = bind_complete _ _ _ _ _ (span_complete _ _ _ each (Apart-cons _ _ _ none))
+    ∙ ahead_any _ _ _ (omega arith) ∙ ahead_past _ _ _ _ (Apart-cons _ _ _ no_comma)
 
 -- a fault that comes after any member is the field's
 pub met : (version : Version) (kind : FieldKind) (raw : RawField kind) (t q : List ℕ) (e : Fault) → HasManyMembers kind
@@ -59,24 +57,21 @@ pub met : (version : Version) (kind : FieldKind) (raw : RawField kind) (t q : Li
 unfolding whole_field_at
 met version item_field raw t q e many has h after f = absurd many
 met version list_field [] t q e many has h after f = absurd (let none = has.2 in cc)
-met version list_field (m ∷ ms) t q e many has h after f =
-    members_met (IsMemberText version) entry_events (entry_at version) (Apart lengthens_item) (entry_complete version)
-    (entry_fresh version) blank_ends comma_ends (Apart-nil lengthens_item) (Sound-entry version) m ms t q e h
-    (after _ (entry_at version) h.second.back h.second.second) f
+met version list_field (m ∷ ms) t q e many has h after f = members_met _ _ _ (Apart lengthens_item) (entry_complete _)
+    (entry_fresh _) blank_ends comma_ends (Apart-nil _) (Sound-entry _) _ _ t q _ h (after _ (entry_at version)
+    h.second.back h.second.second) f
 met version dictionary_field [] t q e many has h after f = absurd (let none = has.2 in cc)
-met version dictionary_field (m ∷ ms) t q e many has h after f =
-    members_met (IsDictionaryMemberText version) keyed_events (keyed_at version) (Apart lengthens_item)
-    (keyed_complete version) (keyed_fresh version) blank_ends comma_ends (Apart-nil lengthens_item)
-    (Sound-keyed version) m ms t q e h (after _ (keyed_at version) h.second.back h.second.second) f
+met version dictionary_field (m ∷ ms) t q e many has h after f = members_met _ _ _ (Apart lengthens_item)
+    (keyed_complete _) (keyed_fresh _) blank_ends comma_ends (Apart-nil _) (Sound-keyed _) _ _ t q _ h (after _
+    (keyed_at version) h.second.back h.second.second) f
 
 -- a comma and blanks at the end
 pub comma_after : (version : Version) (kind : FieldKind) (raw : RawField kind) (t w : List ℕ) → HasManyMembers kind
     → HasMember kind raw → IsFieldText version kind raw t → RunOf is_space_or_tab w
     → whole_field_at version kind (t ++ comma ∷ w)
     ≡ Err (after_events (events kind raw) (by_rule TrailingComma (comma ∷ w)))
-comma_after version kind raw t w many has h each =
-    met version kind raw t (comma ∷ w) (by_rule TrailingComma (comma ∷ w)) many has h
-    (λ A one z blank. comma_met one w z each blank) (comma_ends w)
+comma_after version kind raw t w many has h each = met _ _ _ _ _ _ many has h
+    (λ A one z blank. comma_met _ _ _ each blank) (comma_ends _)
 
 -- a byte that is none of the field, nor a blank or a comma
 pub byte_after : (version : Version) (kind : FieldKind) (raw : RawField kind) (t w : List ℕ) (c : ℕ)
@@ -84,9 +79,8 @@ pub byte_after : (version : Version) (kind : FieldKind) (raw : RawField kind) (t
     → eqb c comma ≡ false → lengthens_item c ≡ false
     → whole_field_at version kind (t ++ c ∷ w)
     ≡ Err (after_events (events kind raw) (at_reach TrailingCharactersAfterMember (c ∷ w)))
-byte_after version kind raw t w c many has h none no_comma no_more =
-    met version kind raw t (c ∷ w) (at_reach TrailingCharactersAfterMember (c ∷ w)) many has h
-    (λ A one z blank. byte_met one c w z none no_comma blank) (Apart-cons lengthens_item c w no_more)
+byte_after version kind raw t w c many has h none no_comma no_more = met _ _ _ _ _ _ many has h (λ A one z blank.
+    byte_met _ _ _ _ none no_comma blank) (Apart-cons _ _ _ no_more)
 
 -- ---- a parenthesis
 
@@ -138,6 +132,5 @@ comma_row version kind t index h =
     ∙ ap (drop (length h.before)) text ∙ drop_at h.before (comma ∷ h.whitespace) _ refl in (
       h.raw,
       ap (λ (l : List ℕ). ending (events kind) (whole_field_at version kind l)) text ∙ ap (ending (events kind))
-          (comma_after version kind h.raw h.before h.whitespace h.many h.member h.accepted h.blank)
-          ∙ rw (left, append-nil) refl,
+          (comma_after _ _ _ _ _ h.many h.member h.accepted h.blank) ∙ rw (left, append-nil) refl,
     )

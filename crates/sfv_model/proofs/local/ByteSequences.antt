@@ -52,8 +52,7 @@ lasts_closed : (content rest : List ℕ) (value : Option (List ℕ)) → HasNoCo
 lasts_closed content rest (Some bytes) h e = (
   content ++ colon ∷ [],
   rw (after_colon content rest) (sym (append_assoc content (colon ∷ []) rest)),
-  λ r i.
-      rw (append_assoc content (colon ∷ []) r) (read_value content r bytes h e),
+  λ r i. rw (append_assoc content (colon ∷ []) r) (read_value content r bytes h e),
 )
 lasts_closed content rest None h e = λ l. let t = content ++ colon ∷ rest in
     let f = fault_at content l in

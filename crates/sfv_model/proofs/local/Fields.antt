@@ -8,7 +8,5 @@ use Rattle.sfv_model.proofs.sound.{Members.{Sound-entry, Sound-keyed}, Separated
 pub Local-field : (version : Version) (kind : FieldKind) → Local (whole_field_at version kind)
 unfolding whole_field_at
 Local-field version item_field = search (local_rules, Local-item) depth 40
-Local-field version list_field = Local-members (IsMemberText version) entry_events (entry_at version)
-    (Sound-entry version) (Local-entry version)
-Local-field version dictionary_field = Local-members (IsDictionaryMemberText version) keyed_events (keyed_at version)
-    (Sound-keyed version) (Local-keyed version)
+Local-field version list_field = Local-members _ _ _ (Sound-entry _) (Local-entry _)
+Local-field version dictionary_field = Local-members _ _ _ (Sound-keyed _) (Local-keyed _)

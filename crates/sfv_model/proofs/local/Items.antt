@@ -19,8 +19,7 @@ Local-parameter version = search (local_rules, Local-key, Local-value) depth 40
 
 pub Local-parameters : (version : Version) → Local (parameters_at version)
 unfolding parameters_at
-Local-parameters version = Local-many parameter_event (parameter_at version) (Consumes-parameter version)
-    (Local-parameter version)
+Local-parameters version = Local-many _ _ (Consumes-parameter _) (Local-parameter _)
 
 pub Local-item : (version : Version) → Local (item_at version)
 unfolding item_at

@@ -17,8 +17,7 @@ unfolding next_item_at
 Local-next_item version = search (local_rules, Local-inner_item) depth 40
 
 pub Local-next_items : (version : Version) → Local (many inner_item_events (next_item_at version))
-Local-next_items version = Local-many inner_item_events (next_item_at version) (Consumes-next_item version)
-    (Local-next_item version)
+Local-next_items version = Local-many _ _ (Consumes-next_item _) (Local-next_item _)
 
 pub Local-items : (version : Version) → Local (inner_items_at version)
 unfolding inner_items_at

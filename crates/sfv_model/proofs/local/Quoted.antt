@@ -38,8 +38,7 @@ lasts_from f t (Ok x) h = (h.0, h.1, λ r e. h.2 r)
 lasts_from f t (Err e) h = λ l. (h.0, h.1, λ r i. (with_rest e r, h.2 r i))
 
 pub string_stays : (t : List ℕ) → Stays string_at t (string_at t)
-string_stays t = stays true IsStringPiece StringStops string_at past_string quote_string string_stops string_stops_whole
-    t (string_at t) (trace_of_string t)
+string_stays t = stays _ _ _ _ past_string quote_string string_stops string_stops_whole _ _ (trace_of_string _)
 
 -- An answer rests on the bytes up to its place, and on the one that stands there.
 pub Local-string : Local string_at
@@ -47,8 +46,7 @@ Local-string = record { lasts = λ t. lasts_from string_at t (string_at t) (stri
 
 -- the pieces, without the look at UTF-8
 pub pieces_stay : (t : List ℕ) → Stays (pieces_from outside) t (pieces_from outside t)
-pieces_stay t = stays false IsDisplayPiece DisplayStops (pieces_from outside) past_display quote_display display_stops
-    display_stops_whole t (pieces_from outside t) (trace_of_display t)
+pieces_stay t = stays _ _ _ _ past_display quote_display display_stops display_stops_whole _ _ (trace_of_display _)
 
 display_stays_on : (t : List ℕ) (a : Answer (List ℕ)) → Stays (pieces_from outside) t a
     → StaysButText display_at t (checked t a)
@@ -71,6 +69,5 @@ display_lasts t (Err e) h l = λ i. absurd (true≢false (sym i ∙ l e refl))
 
 pub Local-display : Local display_at
 Local-display = record {
-  lasts = λ t. display_lasts t (display_at t) (display_stays t)
-      (λ e i. ap (λ (e : Fault). e.exact) (display_fault t e i).1);
+  lasts = λ t. display_lasts _ _ (display_stays _) (λ e i. ap (λ (e : Fault). e.exact) (display_fault _ _ i).1);
 }

@@ -30,16 +30,14 @@ begins_to version kind u r e i exact rest =
     rw (← take_at u r h.0 (sym n)) h.2.holds
 
 -- a fault of the readers is one of the field
-pub ends_faulty : (version : Version) (kind : FieldKind) (t : List ℕ) (e : Fault) → whole_field_at version kind t
-    ≡ Err e
-    → read_field version kind t ≡ Err e
+pub ends_faulty : (version : Version) (kind : FieldKind) (t : List ℕ) (e : Fault)
+    → whole_field_at version kind t ≡ Err e → read_field version kind t ≡ Err e
 unfolding read_field
 ends_faulty version kind t e i = ap (ending (events kind)) i
 
 -- what is read up to the byte 0 begins an accepted text
 pub begins_stuck : (version : Version) (kind : FieldKind) (u : List ℕ)
-    → Stuck (whole_field_at version kind (u ++ 0 ∷ []))
-    → BeginsAccepted version kind u
+    → Stuck (whole_field_at version kind (u ++ 0 ∷ [])) → BeginsAccepted version kind u
 unfolding read_field
 begins_stuck version kind u s = on (whole_field_at version kind (u ++ 0 ∷ [])) refl s
   where
@@ -70,10 +68,8 @@ pub wants_key : (version : Version) (kind : FieldKind) (u : List ℕ)
     → Calls version key (whole_field_at version kind) u → WantsKey version kind u
 unfolding key_at branch fail span bind give
 wants_key version kind u h = record {
-  key_follows = begins_stuck version kind (u ++ codes "*")
-      (rw (append_assoc u (codes "*") (0 ∷ [])) (h.follows asterisk (0 ∷ []) refl refl));
-  not_in_word = λ b. not_accepted version kind ((u ++ codes "1") ++ b.0)
-      (let m = h.follows digit_one b.0 refl in
+  key_follows = begins_stuck _ _ _ (rw (append_assoc u (codes "*") (0 ∷ [])) (h.follows asterisk (0 ∷ []) refl refl));
+  not_in_word = λ b. not_accepted _ _ _ (let m = h.follows digit_one b.0 refl in
       (m.0, ap (whole_field_at version kind) (append_assoc u (codes "1") b.0) ∙ m.1)) b.1;
 }
 
@@ -83,9 +79,8 @@ abbrev Sorted : Version → FieldKind → List ℕ → Fault → Type 0
 Sorted version kind t e = IsOfBare version kind t e ⊎ (IsOfComma version kind t e
     ⊎ ((e.exact ≡ true) × (IsOfWanted version kind t e ⊎ IsOfOpenList version kind t e)))
 
-at_comma : (version : Version) (kind : FieldKind) (t : List ℕ) (e : Fault)
-    → IsLastComma (IsFieldText version kind) (HasMembers kind) t e.rest → e.kind ≡ TrailingComma → e.exact ≡ false
-    → IsOfComma version kind t e
+at_comma : (version : Version) (kind : FieldKind) (t : List ℕ) (e : Fault) → IsLastComma (IsFieldText version kind)
+    (HasMembers kind) t e.rest → e.kind ≡ TrailingComma → e.exact ≡ false → IsOfComma version kind t e
 at_comma version kind t e c k x = record {
   index = length c.front;
   here = ap (drop (length c.front)) c.text ∙ drop_at c.front (comma ∷ c.whitespace) _ refl ∙ sym c.here;
@@ -110,11 +105,7 @@ by_kind : (version : Version) (kind : FieldKind) (t : List ℕ) (e : Fault) (k :
     → Stands (IsFieldText version kind) (events kind) (HasMembers kind) k t e.rest e.events → Sorted version kind t e
 by_kind version kind t e ExpectedInnerListDelimiter true i x h s = inr (inr (
   x,
-  inl (record {
-    before = s.front;
-    text = s.text;
-    wanted = rw i (delimiter (s.longer refl));
-  }),
+  inl (record { before = s.front; text = s.text; wanted = rw i (delimiter (s.longer refl)) }),
 ))
 by_kind version kind t e UnterminatedInnerList true i x h s =
     let whole : t ≡ s.front = s.text ∙ ap (λ (l : List ℕ). s.front ++ l) (s.ends refl) ∙ append-nil s.front in
@@ -176,8 +167,7 @@ of_field : (version : Version) (kind : FieldKind) (t : List ℕ) (e : Fault) →
     → Found version (faulty e) (whole_field_at version kind) Ever t → Sorted version kind t e
 of_field version kind t e i (called bare before s parts c some m) = of_bare version kind t before s e parts c m
 of_field version kind t e i (called key before s parts c some m) = of_key version kind t before s e parts c m
-of_field version kind t e i (elsewhere o) = by_kind version kind t e e.kind e.exact refl refl o
-    ((field_rules version kind).rules t e i)
+of_field version kind t e i (elsewhere o) = by_kind _ _ _ _ _ _ refl refl o ((field_rules _ _).rules t e i)
 
 -- something stands after an item
 after_item : (version : Version) (kind : FieldKind) (raw : RawField kind) (t s r : List ℕ) (c : ℕ)

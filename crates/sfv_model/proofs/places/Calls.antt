@@ -65,10 +65,7 @@ pub calls_as : {A : Type 0} (version : Version) (leaf : Leaf) (f g : Reader A) (
 calls_as version leaf f g p u h same = record {
   follows = λ c r b. rw (ap f (append_assoc p u (c ∷ r)) ∙ same c r (no_blank leaf c b)) (h.follows c r b);
   barred = λ r.
-      let m = h.barred r in (
-        m.0,
-        simp (append_assoc, same left_parenthesis (left_parenthesis ∷ r) refl, m.1),
-      );
+      let m = h.barred r in (m.0, simp (append_assoc, same left_parenthesis (left_parenthesis ∷ r) refl, m.1));
 }
 
 pub stuck_led : {A : Type 0} (es : List TreeEvent) (b : Answer A) → Stuck b → Stuck (led_answer es b)

@@ -73,12 +73,10 @@ comma_and_more = back TrailingComma comma_at
 comma_again : (after : List ℕ) → RunOf is_space_or_tab after → (c : ℕ) (q : List ℕ) → is_space_or_tab c ≡ false
     → comma_and_more (comma ∷ (after ++ c ∷ q)) ≡ Ok (tt, c ∷ q)
 unfolding comma_at give
-comma_again after each c q none = back_complete _ _ _ _ _ (branch_take _ _ _ comma (after ++ c ∷ q) refl
-    ∙ bind_complete _ _ _ _ _ (span_complete is_space_or_tab after (c ∷ q) each (Apart-cons is_space_or_tab c q none))
-    ∙ ahead_any _ _ (c ∷ q) (omega arith))
+comma_again after each c q none = back_complete _ _ _ _ _ (branch_take _ _ _ _ _ refl ∙ bind_complete _ _ _ _ _
+    (span_complete _ _ _ each (Apart-cons _ _ _ none)) ∙ ahead_any _ _ _ (omega arith))
 
-comma_read : (t r : List ℕ) (v : Unit {0}) → comma_and_more t ≡ Ok (v, r)
-    → (s : List ℕ) × (t ≡ s ++ r) × IsComma v s
+comma_read : (t r : List ℕ) (v : Unit {0}) → comma_and_more t ≡ Ok (v, r) → (s : List ℕ) × (t ≡ s ++ r) × IsComma v s
 comma_read t r v i = sound_at (Sound-back TrailingComma comma_at IsComma (λ _ _. Unit {0}) (λ _. Unit {0}) refl tt
     (Sound-comma _ _)) t _ i
 
@@ -100,12 +98,11 @@ skips_comma = record {
 
 comma_some : (r : List ℕ) (v : Unit {0}) → ¬ (comma_and_more r ≡ Ok (v, r))
 comma_some r v i =
-    let m = comma_read r r v i in
+    let m = comma_read _ _ _ i in
     omega (
       arith,
       ap (length {A = ℕ}) m.1,
-      ap (length {A = ℕ})
-          (m.2.text ∙ ap (λ (l : List ℕ). l ++ m.2.back) m.2.first),
+      ap (length {A = ℕ}) (m.2.text ∙ ap (λ (l : List ℕ). l ++ m.2.back) m.2.first),
       length-append {A = ℕ},
     )
 
@@ -175,16 +172,13 @@ module _ (version : Version) (mark : Mark) where
 
   walk-parameter : Walk version mark (parameter_at version) Never
   unfolding parameter_at
-  walk-parameter = Walk-branch_never (refl, refl)
-      (λ _ _. Walk-skip skips_spaces (Local-span _) (λ _. Walk-bind Walk-key Local-key
-      (λ k. Walk-bind walk-value (Local-value version) (λ v. Walk-give _) (λ v. stuck_give _))
-      (λ k. stuck_then _ _ (stuck_value version) (λ v. stuck_give _))))
-      (Walk-give _)
+  walk-parameter = Walk-branch_never (refl, refl) (λ _ _. Walk-skip skips_spaces (Local-span _) (λ _. Walk-bind Walk-key
+      Local-key (λ k. Walk-bind walk-value (Local-value _) (λ v. Walk-give _) (λ v. stuck_give _)) (λ k. stuck_then _ _
+      (stuck_value _) (λ v. stuck_give _)))) (Walk-give _)
 
   walk-parameters : Walk version mark (parameters_at version) Never
   unfolding parameters_at
-  walk-parameters = Walk-many parameter_event (parameter_at version) (Consumes-parameter version)
-      (Local-parameter version) walk-parameter (stuck_parameters version)
+  walk-parameters = Walk-many _ _ (Consumes-parameter _) (Local-parameter _) walk-parameter (stuck_parameters _)
 
   -- parameters, of which a value is made
   walk-last : {A : Type 0} (make : RawParameters → A)
@@ -193,8 +187,7 @@ module _ (version : Version) (mark : Mark) where
 
   walk-item : Walk version mark (item_at version) (Only bare)
   unfolding item_at
-  walk-item = Walk-bind Walk-bare (Local-bare version) (λ b. Walk-led _ (walk-last (item_of b)))
-      (λ b. stuck_after _ _ (stuck_last version (item_of b)))
+  walk-item = Walk-bind Walk-bare (Local-bare _) (λ b. Walk-led _ (walk-last _)) (λ b. stuck_after _ _ (stuck_last _ _))
 
   walk-inner_item : Walk version mark (inner_item_at version) (Only bare)
   unfolding inner_item_at
@@ -215,12 +208,11 @@ module _ (version : Version) (mark : Mark) where
 
   pub walk-next_item : Walk version mark (next_item_at version) Never
   unfolding next_item_at
-  walk-next_item = Walk-branch_never (refl, refl)
-      (λ _ _. Walk-skip skips_spaces (Local-span _) (λ _. Walk-branch {E' = Never} (refl, refl) (λ _ _. Walk-give _)
-      (Walk-bind walk-inner_item (Local-inner_item version) (λ i. Walk-give _) (λ i. stuck_give _))
-      (λ leaf is. (λ c free. (no_bracket leaf is c free).1, λ r. barred-another (left_parenthesis ∷ r)))))
-      (Walk-branch_never {E' = Never} (refl, refl) (λ _ _. Walk-give _)
-      (Walk-ahead _ (Walk-fail _ tt) (Walk-fail _ tt)))
+  walk-next_item = Walk-branch_never (refl, refl) (λ _ _. Walk-skip skips_spaces (Local-span _) (λ _. Walk-branch
+      {E' = Never} (refl, refl) (λ _ _. Walk-give _) (Walk-bind walk-inner_item (Local-inner_item _) (λ i. Walk-give _)
+      (λ i. stuck_give _)) (λ leaf is. (λ c free. (no_bracket _ is _ free).1, λ r. barred-another _))))
+      (Walk-branch_never {E' = Never} (refl, refl) (λ _ _. Walk-give _) (Walk-ahead _ (Walk-fail _ tt)
+      (Walk-fail _ tt)))
 
   barred-items : (r : List ℕ) → IsFault (branch (byte right_parenthesis) (λ _. give [])
       (one_and_more inner_item_events (inner_item_at version) (next_item_at version)) (left_parenthesis ∷ r))
@@ -233,14 +225,11 @@ module _ (version : Version) (mark : Mark) where
 
   walk-items : Walk version mark (inner_items_at version) (Only bare)
   unfolding inner_items_at
-  walk-items = Walk-any _
-      (Walk-skip skips_spaces (Local-span _) (λ _. Walk-branch {E' = Never} (refl, refl) (λ _ _. Walk-give _)
-      (Walk-bind walk-inner_item (Local-inner_item version) (λ i. Walk-led _ (Walk-bind
-      (Walk-many inner_item_events (next_item_at version) (Consumes-next_item version) (Local-next_item version)
-      walk-next_item (stuck_next_items version)) (Local-next_items version) (λ is. Walk-give _) (λ is. stuck_give _)))
-      (λ i. stuck_after _ _ (stuck_then _ _ (stuck_next_items version) (λ is. stuck_give _))))
-      (λ leaf is. (λ c free. (no_bracket leaf is c free).1, λ r. barred-items (left_parenthesis ∷ r)))))
-      met_end
+  walk-items = Walk-any _ (Walk-skip skips_spaces (Local-span _) (λ _. Walk-branch {E' = Never} (refl, refl)
+      (λ _ _. Walk-give _) (Walk-bind walk-inner_item (Local-inner_item _) (λ i. Walk-led _ (Walk-bind (Walk-many _ _
+      (Consumes-next_item _) (Local-next_item _) walk-next_item (stuck_next_items _)) (Local-next_items _)
+      (λ is. Walk-give _) (λ is. stuck_give _))) (λ i. stuck_after _ _ (stuck_then _ _ (stuck_next_items _)
+      (λ is. stuck_give _)))) (λ leaf is. (λ c free. (no_bracket _ is _ free).1, λ r. barred-items _)))) met_end
 
   walk-inner : Walk version mark (inner_at version) (Only bare)
   unfolding inner_at
@@ -253,9 +242,8 @@ module _ (version : Version) (mark : Mark) where
 
   walk-member : Walk version mark (member_at version) (Only bare)
   unfolding member_at
-  walk-member = Walk-branch (refl, refl) (λ _ _. Walk-led _ walk-inner)
-      (Walk-led _ (Walk-bind walk-item (Local-item version) (λ i. Walk-give _) (λ i. stuck_give _)))
-      (λ leaf is. (λ c free. (no_bracket leaf is c free).0, λ r. barred-member r))
+  walk-member = Walk-branch (refl, refl) (λ _ _. Walk-led _ walk-inner) (Walk-led _ (Walk-bind walk-item (Local-item _)
+      (λ i. Walk-give _) (λ i. stuck_give _))) (λ leaf is. (λ c free. (no_bracket _ is _ free).0, λ r. barred-member _))
 
   walk-entry : Walk version mark (entry_at version) (Only bare)
   unfolding entry_at
@@ -267,10 +255,9 @@ module _ (version : Version) (mark : Mark) where
 
   walk-keyed : Walk version mark (keyed_at version) (Only key)
   unfolding keyed_at
-  walk-keyed = Walk-bind Walk-key Local-key
-      (λ k. Walk-led _ (Walk-bind walk-member_value (Local-member_value version) (λ m. Walk-give _)
+  walk-keyed = Walk-bind Walk-key Local-key (λ k. Walk-led _ (Walk-bind walk-member_value (Local-member_value _)
+      (λ m. Walk-give _) (λ m. stuck_give _))) (λ k. stuck_after _ _ (stuck_then _ _ (stuck-member_value _)
       (λ m. stuck_give _)))
-      (λ k. stuck_after _ _ (stuck_then _ _ (stuck-member_value version) (λ m. stuck_give _)))
 
   -- ---- members
 
@@ -284,12 +271,10 @@ module _ (version : Version) (mark : Mark) where
 
     walk-members : Walk version mark (members_at parts one) E
     unfolding members_at
-    walk-members = Walk-skip skips_spaces (Local-span _) (λ _. Walk-any _ (Walk-bind h l
-        (λ m. Walk-led _ (Walk-bind (Walk-many parts (next_at one) (Consumes-next P parts one reads)
-        (Local-next P parts one l) walk-next (stuck_next parts one)) (Local-many parts (next_at one)
-        (Consumes-next P parts one reads) (Local-next P parts one l)) (λ ms. Walk-give _) (λ ms. stuck_give _)))
-        (λ m. stuck_after _ _ (stuck_then _ _ (stuck_next parts one) (λ ms. stuck_give _))))
-        (λ m. met_nothing mark [] m))
+    walk-members = Walk-skip skips_spaces (Local-span _) (λ _. Walk-any _ (Walk-bind h l (λ m. Walk-led _ (Walk-bind
+        (Walk-many _ _ (Consumes-next _ _ _ reads) (Local-next P parts _ l) walk-next (stuck_next _ _)) (Local-many _ _
+        (Consumes-next _ _ _ reads) (Local-next P parts _ l)) (λ ms. Walk-give _) (λ ms. stuck_give _))) (λ m.
+        stuck_after _ _ (stuck_then _ _ (stuck_next _ _) (λ ms. stuck_give _)))) (λ m. met_nothing _ _ m))
 
   -- ---- fields
 

@@ -68,10 +68,9 @@ tells version kind u f (key w) = inr (tells_key version kind u (calls_wanted_key
 tells version kind u f (delimiter a) = inl (refl, a)
 tells version kind u f (WantedFault.comma raw other h has) = inr (record {
   fault = _;
-  is_fault = ends_faulty version kind (u ++ codes ",") _
-      (comma_after version kind raw u [] (has_many kind other) has h refl);
+  is_fault = ends_faulty _ _ _ _ (comma_after _ _ _ _ _ (has_many _ other) has h refl);
   kind_of = refl;
-  outside = not_longer version kind raw u has h;
+  outside = not_longer _ _ _ _ has h;
 })
 tells version kind u f (end e a) = inr (tells_end version kind u e a)
 

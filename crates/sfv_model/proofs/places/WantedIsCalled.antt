@@ -22,8 +22,7 @@ use Rattle.sfv_model.proofs.{sound.Items.Sound-key, visits.BareFaultOffReach.{no
 -- ---- lists
 
 -- a byte that was read stands in what was read
-front_split : (u m p r : List ℕ) (c : ℕ) → u ++ c ∷ m ≡ p ++ r → length r ≤ length m
-    → (w : List ℕ) × (p ≡ u ++ c ∷ w)
+front_split : (u m p r : List ℕ) (c : ℕ) → u ++ c ∷ m ≡ p ++ r → length r ≤ length m → (w : List ℕ) × (p ≡ u ++ c ∷ w)
 front_split u m [] r c e le = absurd (omega (arith, le, ap (length {A = ℕ}) e, length-append u (c ∷ m)))
 front_split [] m (x ∷ p) r c e le = let same : x ≡ c = cc in (p, ap (λ (x : ℕ). x ∷ p) same)
 front_split (y ∷ u) m (x ∷ p) r c e le =
@@ -114,9 +113,8 @@ module _ (version : Version) (kind : FieldKind) where
   -- ---- bare items
 
   no_mark_in_key : (x w v : List ℕ) → IsKeyText v (x ++ question_mark ∷ w) → ⊥
-  no_mark_in_key x w v h = true≢false (sym
-      (run_has is_key_inner x w (x ++ question_mark ∷ w) [] question_mark (sym (append-nil _)) (omega arith)
-      (key_run v (x ++ question_mark ∷ w) h)))
+  no_mark_in_key x w v h = true≢false (sym (run_has is_key_inner x w (x ++ question_mark ∷ w) [] question_mark
+      (sym (append-nil _)) (omega arith) (key_run v (x ++ question_mark ∷ w) h)))
 
   -- the mark begins a bare item, or two parentheses can stand in its place
   by_mark : (u before x w : List ℕ) (v : BareValue) → u ≡ before ++ x → Calls version bare Field before
@@ -171,8 +169,7 @@ module _ (version : Version) (kind : FieldKind) where
       (rw (← sym (append_assoc before (d ∷ x) (codes "1")) ∙ ap (λ (l : List ℕ). l ++ codes "1") (sym parts)) b))
 
   pub calls_wanted_key : (u : List ℕ) → WantsKey version kind u → Calls version key Field u
-  calls_wanted_key u h =
-      on (found u false h.key_follows.0 (rw (← append_assoc u (codes "*") h.key_follows.0) h.key_follows.1))
+  calls_wanted_key u h = on (found _ _ _ (rw (← append_assoc u (codes "*") h.key_follows.0) h.key_follows.1))
     where
       on : Found version (eaten false h.key_follows.0) Field Ever (u ++ asterisk ∷ h.key_follows.0) → Calls version key Field u
       on (called bare before s parts c some met) =

@@ -66,16 +66,15 @@ one_piece (b ∷ bytes) (p ∷ pieces) left rest t h e f n =
     let whole : t ≡ p ++ tail = f ∙ append_assoc p (concat pieces) left in
     elim h.0 as (λ x. OnePiece t (b ∷ bytes) rest) [
       | inl q ↦
-          let a = and_parts (is_string_byte b) (not ((b == percent_sign) || (b == double_quote))) q.0 in
-          let o = or_parts (b == percent_sign) (b == double_quote)
-          (not-true ((b == percent_sign) || (b == double_quote)) a.1) in
+          let a = and_parts _ _ q.0 in
+          let o = or_parts _ _ (not-true ((b == percent_sign) || (b == double_quote)) a.1) in
           record {
             c = b;
             r = tail;
             text = whole ∙ ap (λ (l : List ℕ). l ++ tail) q.1;
             long = λ i. absurd (both_ways (b == percent_sign) o.0 (rw i refl));
             later = bytes;
-            read = rw o.0 (read_pieces bytes pieces left rest h.1 e);
+            read = rw o.0 (read_pieces _ _ _ _ h.1 e);
             count = refl;
           }
       | inr q ↦ let here : t ≡ percent_sign ∷ q.0 ∷ q.1 ∷ tail = cc in
@@ -85,7 +84,7 @@ one_piece (b ∷ bytes) (p ∷ pieces) left rest t h e f n =
             text = here;
             long = λ i. let len = ap (length {A = ℕ}) here in omega (arith, len);
             later = bytes;
-            read = read_pieces bytes pieces left rest h.1 e;
+            read = read_pieces _ _ _ _ h.1 e;
             count = refl;
           }
     ]

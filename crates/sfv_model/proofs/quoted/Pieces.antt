@@ -64,9 +64,8 @@ module _ (P : ℕ → List ℕ → Type 0) (f : Reader (List ℕ)) (step : (c : 
   past_pieces [] [] t h = sym (after_bytes_none (f t))
   past_pieces [] (p ∷ ps) t h = absurd h
   past_pieces (c ∷ bytes) [] t h = absurd h
-  past_pieces (c ∷ bytes) (p ∷ ps) t h =
-      ap f (append_assoc p (concat ps) t) ∙ step c p (concat ps ++ t) h.0
-      ∙ ap (after_bytes (c ∷ [])) (past_pieces bytes ps t h.1) ∙ after_bytes_more (c ∷ []) bytes (f t)
+  past_pieces (c ∷ bytes) (p ∷ ps) t h = ap f (append_assoc p (concat ps) t) ∙ step c p (concat ps ++ t) h.0 ∙ ap
+      (after_bytes (c ∷ [])) (past_pieces bytes ps t h.1) ∙ after_bytes_more (c ∷ []) bytes (f t)
 
 pub past_string : (bytes : List ℕ) (pieces : List (List ℕ)) (t : List ℕ) → AllZip IsStringPiece bytes pieces
     → string_from false (concat pieces ++ t) ≡ after_bytes bytes (string_from false t)
@@ -266,6 +265,5 @@ pub stuck : (k : ErrorKind) (left there : List ℕ) → DisplayStops k left ther
 stuck UnterminatedDisplayString left there h = rw h.0 (λ n m. absurd (omega (arith, m)))
 stuck UnterminatedEscapeSequence left there h = rw h.1 (stuck_cut h.0 h.3 h.4)
 stuck InvalidEscapeSequence left there h = rw h.3 (stuck_wrong h.0 h.1 h.2 h.5 h.6 h.7)
-stuck InvalidDisplayStringCharacter left there h =
-    rw h.2 (stuck_byte h.0 h.1 (not_byte h.0 percent_sign h.4 refl) (and_left (is_string_byte h.0) _ h.4))
+stuck InvalidDisplayStringCharacter left there h = rw h.2 (stuck_byte _ _ (not_byte _ _ h.4 refl) (and_left _ _ h.4))
 stuck _ left there h = absurd h

@@ -77,8 +77,7 @@ pub read_fault : (content rest : List ℕ) → HasNoColon content → bytes_of c
     (drop (fault_place content) (content ++ colon ∷ rest)))
 read_fault content rest h e = read_closed content rest h ∙ rw e refl
 
-pub read_unclosed : (t : List ℕ) → list_any is_colon t ≡ false
-    → bytes_at t ≡ Err (by_rule UnterminatedByteSequence [])
+pub read_unclosed : (t : List ℕ) → list_any is_colon t ≡ false → bytes_at t ≡ Err (by_rule UnterminatedByteSequence [])
 unfolding bytes_at
 read_unclosed t h = rw h refl
 
@@ -138,13 +137,12 @@ sound_closed content rest None e =
 -- What is read is a Byte Sequence, and an exact fault stands after a beginning of one.
 pub Sound-bytes : Sound bytes_at IsBytesEnd (Mute IsBytesEnd) Quiet
 Sound-bytes = record {
-  sound = λ t. elim (cases_Bool (list_any is_colon t)) [
+  sound = λ t. elim (cases_Bool _) [
     | inl y ↦
-        let s = content_split t y in
+        let s = content_split _ y in
         let content : List ℕ = content_in t in
         let r : Reached IsBytesEnd (Mute IsBytesEnd) Quiet (content ++ colon ∷ s.0)
-        (bytes_at (content ++ colon ∷ s.0)) =
-        rw (read_closed content s.0 s.2) (sound_closed content s.0 (bytes_of content) refl) in
+        (bytes_at (content ++ colon ∷ s.0)) = rw (read_closed content s.0 s.2) (sound_closed _ _ _ refl) in
         rw s.1 r
     | inr n ↦ rw (read_unclosed t n) (λ l. absurd (true≢false (sym l)), λ l. (refl, refl))
   ];

@@ -19,18 +19,14 @@ spaced version i s t z each h each' = in_turn s (t ++ z) each (in_turn t z h eac
 Sound-item_field : (version : Version) → Reads (whole_field_at version item_field) (IsFieldText version item_field)
     (FieldGoes version item_field)
 unfolding whole_field_at
-Sound-item_field version = Sound-span _ _ _ _ _ (λ s each.
-    Sound-bind (IsItemText version) (item_at version) _ _ _ _
-    (Sound-within (λ u. s ++ u) (λ es. es) (FieldGoes version item_field) (Sound-item version) (λ v t h. h)
-    (λ u es g. ([], (g.0, spaced version g.0 s u [] each g.1 refl, g.2))))
-    (λ t i h. Sound-span _ _ _ _ _ (λ z each'. Sound-give _ _ _ _
-    (spaced version i s t (z ++ []) each h (rw (append-nil z) each')))))
+Sound-item_field version = Sound-span _ _ _ _ _ (λ s each. Sound-bind (IsItemText version) (item_at version) _ _ _ _
+    (Sound-within (λ u. s ++ u) (λ es. es) (FieldGoes version item_field) (Sound-item version) (λ v t h. h) (λ u es g.
+    ([], (g.0, spaced version g.0 s u [] each g.1 refl, g.2)))) (λ t i h. Sound-span _ _ _ _ _ (λ z each'.
+    Sound-give _ _ _ _ (spaced version i s t (z ++ []) each h (rw (append-nil z) each')))))
 
 pub Sound-field : (version : Version) (kind : FieldKind)
     → Reads (whole_field_at version kind) (IsFieldText version kind) (FieldGoes version kind)
 unfolding whole_field_at
 Sound-field version item_field = Sound-item_field version
-Sound-field version list_field = Sound-members (IsMemberText version) entry_events (entry_at version)
-    (Sound-entry version)
-Sound-field version dictionary_field = Sound-members (IsDictionaryMemberText version) keyed_events (keyed_at version)
-    (Sound-keyed version)
+Sound-field version list_field = Sound-members _ _ _ (Sound-entry _)
+Sound-field version dictionary_field = Sound-members _ _ _ (Sound-keyed _)

@@ -36,9 +36,8 @@ module _ {A : Type 0} (P : A → List ℕ → Type 0) (E : List ℕ → Type 0)
     (h : (s : List ℕ) (vs : List A) → IsJoining P vs s
     → Sound step (Step P E) (Behind parts W s vs) (Told parts V vs)) (z : (s : List ℕ) (vs : List A)
     → IsJoining P vs s → Told parts V vs []) where
-  moved : (s u : List ℕ) (vs : List A) (x : List ℕ) (v : A) (es : List TreeEvent)
-      → Behind parts W (s ++ u) (vs ++ v ∷ []) x es
-      → (d : List ℕ) × W (s ++ (u ++ (x ++ d))) (flat_map parts vs ++ (parts v ++ es))
+  moved : (s u : List ℕ) (vs : List A) (x : List ℕ) (v : A) (es : List TreeEvent) → Behind parts W (s ++ u)
+      (vs ++ v ∷ []) x es → (d : List ℕ) × W (s ++ (u ++ (x ++ d))) (flat_map parts vs ++ (parts v ++ es))
   moved s u vs x v es w = (
     [],
     rw (← append_assoc s u x ∙ ap (λ (l : List ℕ). s ++ (u ++ l)) (sym (append-nil x)))
@@ -51,10 +50,9 @@ module _ {A : Type 0} (P : A → List ℕ → Type 0) (E : List ℕ → Type 0)
       → Sound (go_on parts more o) (λ w x. Joined P E w (u ++ x)) (λ x es. Behind parts W s vs (u ++ x) es)
       (Told parts V vs)
   next more k s vs j u None e = Sound-give [] _ _ _ (rw (append-nil u) e)
-  next more k s vs j u (Some v) e =
-      Sound-led (parts v) (Sound-map (λ ws. v ∷ ws)
-      (Sound-weaker (k (s ++ u) (vs ++ v ∷ []) (joining_push P vs v s u j e))
-      (λ ws x m. in_turn u x e m) (λ x es w. moved s u vs x v es w) (λ es w. rw (← events_push parts vs v es) w)))
+  next more k s vs j u (Some v) e = Sound-led _ (Sound-map _ (Sound-weaker (k (s ++ u) (vs ++ v ∷ [])
+      (joining_push _ _ _ _ _ j e)) (λ ws x m. in_turn _ _ e m) (λ x es w. moved s u _ x _ _ w)
+      (λ es w. rw (← events_push parts vs v es) w)))
 
   within : (n : ℕ) (s : List ℕ) (vs : List A) → IsJoining P vs s
       → Sound (many_within parts n step) (Joined P E) (Behind parts W s vs) (Told parts V vs)
@@ -70,8 +68,7 @@ module _ {A : Type 0} (P : A → List ℕ → Type 0) (E : List ℕ → Type 0)
 -- a step whose pieces are not empty
 pub Consumes-from : {A : Type 0} (P : A → List ℕ → Type 0) (E : List ℕ → Type 0)
     (W : List ℕ → List TreeEvent → Type 0) (V : List TreeEvent → Type 0) (step : Reader (Option A))
-    → Sound step (Step P E) W V
-    → ((v : A) (s : List ℕ) → P v s → 1 ≤ length s) → Consumes step
+    → Sound step (Step P E) W V → ((v : A) (s : List ℕ) → P v s → 1 ≤ length s) → Consumes step
 Consumes-from P E W V step h k = record {
   consumes = λ t r v e. let m = sound_at h t (Ok (Some v, r)) e in
       let len = ap length m.1 in

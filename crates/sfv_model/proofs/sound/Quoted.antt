@@ -12,9 +12,8 @@ use Rattle.sfv_model.proofs.{Types.{InvalidEscapeSequence, InvalidUtf8InDisplayS
 use Rattle.sfv_model.proofs.{quoted.Traces.{Ends, trace_of_string, trace_of_display}, texts.Joining.in_turn}
 
 -- where a reader stopped, without how its fault is placed
-pub stopped_at : (exact : Bool) (P : ℕ → List ℕ → Type 0)
-    (Stops : ErrorKind → List ℕ → List ℕ → Type 0) (t : List ℕ) (e : Fault) → Traced P t (Ends exact Stops (Err e))
-    → Traced P t (λ bytes left. Stops e.kind left e.rest)
+pub stopped_at : (exact : Bool) (P : ℕ → List ℕ → Type 0) (Stops : ErrorKind → List ℕ → List ℕ → Type 0) (t : List ℕ)
+    (e : Fault) → Traced P t (Ends exact Stops (Err e)) → Traced P t (λ bytes left. Stops e.kind left e.rest)
 stopped_at exact P Stops t e h = record {
   bytes = h.bytes;
   pieces = h.pieces;

@@ -38,16 +38,14 @@ module _ {A : Type 0} (P : A → List ℕ → Type 0) (E : List ℕ → Type 0) 
     z,
     (
       vs ++ v ∷ [],
-      rw (← append_assoc s u z) (joined_split P E (vs ++ v ∷ []) (s ++ u) z (joining_push P vs v s u j h) e),
+      rw (← append_assoc s u z) (joined_split _ _ _ _ _ (joining_push _ _ _ _ _ j h) e),
       rw (sym (append-nil (flat_map parts (vs ++ v ∷ []))) ∙ events_push parts vs v [] ∙ ap
-          (λ (l : List TreeEvent). flat_map parts vs ++ l) (append-nil (parts v)))
-          (begins_after (flat_map parts vs) (parts v) es b),
+          (λ (l : List TreeEvent). flat_map parts vs ++ l) (append-nil (parts v))) (begins_after _ _ _ b),
     ),
   )
 
   pub Sound-steps : (step : Reader (Option A)) → Reads step (Step P E) (StepGoes P E parts)
       → Reads (many parts step) (Joined P E) (ManyGoes P E parts)
-  Sound-steps step k = Sound-many P E (ManyGoes P E parts) (Somewhere (ManyGoes P E parts)) parts step
-      (λ s vs j. Sound-within (λ u. s ++ u) (λ es. flat_map parts vs ++ es) (ManyGoes P E parts) k (λ v t p. p)
-      (λ u es g. goes_on s vs j u es g.0 g.1 g.2))
-      (λ s vs j. let m = goes_on s vs j z [] None e ([], refl) in (s ++ (z ++ m.0), m.1))
+  Sound-steps step k = Sound-many _ _ _ _ _ _ (λ s vs j. Sound-within (λ u. s ++ u) (λ es. flat_map parts vs ++ es)
+      (ManyGoes P E parts) k (λ v t p. p) (λ u es g. goes_on _ _ j _ _ _ g.1 g.2)) (λ s vs j. let m = goes_on _ _ j _ _
+      None e ([], refl) in (s ++ (z ++ m.0), m.1))

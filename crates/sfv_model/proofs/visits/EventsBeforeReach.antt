@@ -26,9 +26,8 @@ module _ (version : Version) (kind : FieldKind) (leaf : Early (bare_at version) 
   emitted_after : (t : List ℕ) (es : List TreeEvent) → (m : Tells (whole_field_at version kind) (events kind) t es)
       → (raw : RawField kind) (r : List ℕ) → IsFieldText version kind raw (m.before ++ m.next ∷ r)
       → Begins (events kind raw) es
-  emitted_after t es m raw r h =
-      subst (λ a. Begins (visited (events kind) a) es)
-      (field_complete version kind raw (m.before ++ m.next ∷ r) h) (m.emitted r)
+  emitted_after t es m raw r h = subst (λ a. Begins (visited (events kind) a) es) (field_complete _ _ _ _ h)
+      (m.emitted r)
 
   begun_after : (t : List ℕ) (es : List TreeEvent) → (m : Tells (whole_field_at version kind) (events kind) t es)
       → BeginsAccepted version kind (m.before ++ m.next ∷ [])
@@ -89,8 +88,7 @@ front_is t front rest n e d le =
 pub reached_events : (version : Version) (kind : FieldKind) (t : List ℕ) (e : Fault) → read_field version kind t ≡ Err e
     → (n : ℕ) → IsReach version kind t n → TellsFrom version kind (take n t) e.events
 unfolding read_field
-reached_events version kind t e i n reach = on (whole_field_at version kind t) refl
-    ((Sound-field version kind).sound t) i
+reached_events version kind t e i n reach = on (whole_field_at version _ t) refl ((Sound-field _ _).sound t) i
   where
     placed_at : e.exact ≡ true → drop n t ≡ e.rest
     placed_at x =

@@ -75,21 +75,18 @@ pub expected_events : (version : Version) (kind : FieldKind) (t : List ℕ) (fau
     → IsWantedAt version kind t fault n → (raw : RawField kind) → IsFieldText version kind raw (take n t)
     → Begins (visited (events kind) (whole_field_at version kind t)) (events kind raw)
 expected_events version item_field t fault n w raw h =
-    let r = is_read version item_field t fault n w in
-    let named = one_wanted version item_field (take n t) fault _ w.wanted (faults.end refl (raw, h)) in
-    let b = read_before version item_field t r.e r.read (r.kind_of ∙ named) in
+    let r = is_read _ _ _ _ _ w in
+    let named = one_wanted _ _ _ _ _ w.wanted (faults.end refl (raw, h)) in
+    let b = read_before version item_field _ r.e r.read (r.kind_of ∙ named) in
     let value : b.raw ≡ raw = one_field_lem version item_field (take n t) b.raw raw
-    (subst (IsFieldText version item_field b.raw) (front_is t b.front r.e.rest n b.text r.here) b.means) h in (
+    (subst (IsFieldText version item_field b.raw) (front_is _ _ _ _ b.text r.here) b.means) h in (
       [],
-      ap (visited (events item_field)) b.read ∙ ap (events item_field) value
-          ∙ sym (append-nil (events item_field raw)),
+      ap (visited (events item_field)) b.read ∙ ap (events item_field) value ∙ sym (append-nil (events item_field raw)),
     )
 expected_events version list_field t fault n w [] h = begins_all _
-expected_events version list_field t fault n w (m ∷ ms) h =
-    after_members version list_field t fault n w tt (m ∷ ms) (m, ms, refl) h
+expected_events version list_field t fault n w (m ∷ ms) h = after_members _ _ _ _ _ w tt _ (m, ms, refl) h
 expected_events version dictionary_field t fault n w [] h = begins_all _
-expected_events version dictionary_field t fault n w (m ∷ ms) h =
-    after_members version dictionary_field t fault n w tt (m ∷ ms) (m, ms, refl) h
+expected_events version dictionary_field t fault n w (m ∷ ms) h = after_members _ _ _ _ _ w tt _ (m, ms, refl) h
 
 -- the events in front of a delimiter that is expected after an item of an inner list
 pub delimited_events : (version : Version) (kind : FieldKind) (t : List ℕ) (fault : ErrorKind) (n : ℕ)

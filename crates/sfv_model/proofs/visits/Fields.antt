@@ -27,5 +27,4 @@ visited_on version kind t (Err x) h = elim (cases_Bool x.exact) [
 
 -- what is visited, on a success or before a fault, begins some field's events
 pub visited_begins : VisitedBegins
-visited_begins version kind t = begun_by version kind _
-    (visited_on version kind t (whole_field_at version kind t) ((Sound-field version kind).sound t))
+visited_begins version kind t = begun_by _ _ _ (visited_on _ _ _ _ ((Sound-field _ _).sound t))
