@@ -12,8 +12,7 @@ abbrev rows_are : (ℕ → ℕ) → List ℕ → Bool
 rows_are row table = agree_below (λ b. eqb (get_or table b 0) (row b)) (λ _. true) 256
 
 row_at : (row : ℕ → ℕ) (table : List ℕ) (b : ℕ) → b < 256 → rows_are row table ≡ true → get_or table b 0 ≡ row b
-row_at row table b lt all =
-    eqb-true _ _ (agree_below_at (λ k. eqb (get_or table k 0) (row k)) (λ _. true) 256 b all lt)
+row_at row table b lt all = eqb-true _ _ (agree_below_at (λ k. eqb (get_or table k 0) (row k)) (λ _. true) 256 b all lt)
 
 pub classes_at : (b : ℕ) → b < 256 → rows_are class_sum CLASSES ≡ true → get_or CLASSES b 0 ≡ class_sum b
 classes_at = row_at class_sum CLASSES

@@ -71,18 +71,15 @@ module _ (class : ℕ → Bool) where
       (room : end + n ≤ length xs)
       (masked : mask ≡ outside_mask class (get_or blocks i [])) where
     mask_is : mask ≡ outside_mask class (chunk end n xs)
-    mask_is =
-        masked ∙ ap (outside_mask class) (ap (λ l. get_or l i []) front
-        ∙ chunk_at n (length xs / n) xs i (omega (arith, count, lt)))
-        ∙ ap (λ k. outside_mask class (chunk k n xs)) (sym place)
+    mask_is = masked ∙ ap (outside_mask class) (ap (λ l. get_or l i []) front ∙ chunk_at n
+        (length xs / n) xs i (omega (arith, count, lt))) ∙ ap (λ k. outside_mask class (chunk k n xs)) (sym place)
 
     pub block_passed : mask ≡ 0 → prefix_len class xs ≡ end + n + prefix_len class (drop (end + n) xs)
     block_passed none = omega (arith, so_far, run_through xs end n room (sym mask_is ∙ none))
 
     pub block_ends : (mask ≡ 0 → ⊥) → prefix_len class xs ≡ end + count_trailing_zeros 64 mask
-    block_ends some =
-        so_far ∙ ap (λ k. end + k) (run_stops xs end n room short (omega (arith, some, mask_is))
-        ∙ ap (count_trailing_zeros 64) (sym mask_is))
+    block_ends some = so_far ∙ ap (λ k. end + k)
+        (run_stops xs end n room short (omega (arith, some, mask_is)) ∙ ap (count_trailing_zeros 64) (sym mask_is))
 
   -- ---- the last n bytes, of which those before let the run go on
 
@@ -112,10 +109,8 @@ module _ (class : ℕ → Bool) where
         )
 
     pub last_ends : (mask ≡ 0 → ⊥) → prefix_len class xs ≡ start + count_trailing_zeros 64 mask
-    last_ends some =
-        run_from xs start (omega (arith, so_far, near))
-        ∙ ap (λ k. start + k) (run_stops xs start n (omega (arith, room)) short (omega (arith, some, masked))
-        ∙ ap (count_trailing_zeros 64) (sym masked))
+    last_ends some = run_from xs start (omega (arith, so_far, near)) ∙ ap (λ k. start + k) (run_stops xs start n
+        (omega (arith, room)) short (omega (arith, some, masked)) ∙ ap (count_trailing_zeros 64) (sym masked))
 
   -- the mask of a last chunk
   pub last_mask : (n : ℕ) (xs last : List ℕ) (start mask : ℕ) → mask ≡ outside_mask class last

@@ -3,7 +3,7 @@ use Rattle.std.proofs.Common.{◌≡◌, List, [], ◌++◌, length, take, drop,
 use Rattle.std.proofs.Common.{◌∙◌, arith, append_assoc, append-nil, take_at, take-append-drop, length-append}
 use Rattle.std.proofs.Common.{length-take-le}
 use Rattle.sfv_spec.specs.{Grammar.{Spaces, IsBareText, IsEnded, BeginsWithLongest}, Texts.{IsLongestBeginning, ◌⨾◌}}
-use Rattle.sfv_spec.{specs.Values.BareValue, specs.declared.version.Version.Version, proofs.Marks.{space, is_space}}
+use Rattle.sfv_spec.{specs.Values.BareValue, specs.declared.version.Version.Version, proofs.Marks.is_space}
 use Rattle.sfv_model.specs.{Bare.bare_at, Claims.BeginsWithBare, Items.item_of, Reader.{Fault, span}}
 use Rattle.sfv_model.proofs.LongestBareItem.{ended_apart, bare_is_exact}
 use Rattle.sfv_model.proofs.complete.{Bare.bare_complete, Combinators.span_complete, Items.item_no}

@@ -10,8 +10,8 @@ use Rattle.sfv_model.specs.Bare.{token_at, date_at, quoted_at, bare_at}
 use Rattle.sfv_model.specs.{Claims.IsBytesFault, Content.bytes_at, Fields.{whole_field_at, ending, read_field}}
 use Rattle.sfv_model.specs.Items.{key_at, value_at, parameter_at, parameters_at, item_at}
 use Rattle.sfv_model.specs.{Judgements.Reached, Quoted.{string_at, display_at, StringStops, IsDisplayFault}}
-use Rattle.sfv_model.specs.Reader.{Fault, Answer, Reader, at_reach, by_rule, and_then, give, fail, ruled, ◌>>=◌, bind}
-use Rattle.sfv_model.specs.Reader.{branch, ahead, back, up_to, span, led, go_on, many_within, many}
+use Rattle.sfv_model.specs.Reader.{Fault, Answer, Reader, at_reach, and_then, give, fail, ruled, ◌>>=◌, bind, branch}
+use Rattle.sfv_model.specs.Reader.{ahead, back, up_to, span, led, go_on, many_within, many}
 use Rattle.sfv_model.proofs.Types.{FieldKind, Version, Rfc8941, Rfc9651, ErrorKind, TrailingCharactersAfterMember}
 use Rattle.sfv_model.proofs.Types.{TrailingComma, TrailingCharactersAfterParsedValue, ExpectedInnerListDelimiter}
 use Rattle.sfv_model.proofs.Types.{UnterminatedInnerList, ExpectedStartOfKey}

@@ -8,7 +8,7 @@ use Rattle.sfv_spec.specs.declared.field_kind.FieldKind.TheVariants.{Item as ite
 use Rattle.sfv_spec.specs.declared.field_kind.FieldKind.TheVariants.{Dictionary as dictionary_field}
 use Rattle.sfv_spec.proofs.Collapse.{collapse-distinct, no_repeats-collapse}
 use Rattle.sfv_spec.proofs.Each.{each, each_within, each_map, map_own}
-use Rattle.sfv_spec.proofs.{Marks.keys, Repeats.{no_repeats, IsOrderedItem, IsOrderedMember, IsOrdered}}
+use Rattle.sfv_spec.proofs.{Marks.keys, Repeats.{no_repeats, IsOrderedMember, IsOrdered}}
 
 -- ---- parts that are their own ordered values
 

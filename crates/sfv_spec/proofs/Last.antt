@@ -3,7 +3,7 @@ use Rattle.std.proofs.Common.{◌≡◌, ℕ, List, [], ◌∷◌, ◌++◌, map
 use Rattle.std.proofs.Common.{bytes_eq, not, Option, Some, None, option_map}
 use Rattle.std.specs.{List.list_any, Map.lookup, Option.option_or}
 use Rattle.std.proofs.lemmas.{Bool.{and_parts, not-true, cases_Bool}, Option.same_Some, Slice.Eq.bytes_eq-Decides}
-use Rattle.sfv_spec.specs.Ordered.{last_of, collapse, ordered, ordered_member}
+use Rattle.sfv_spec.specs.Ordered.{last_of, ordered, ordered_member}
 use Rattle.sfv_spec.specs.{Values.RawMember, declared.field_kind.FieldKind.TheVariants.Dictionary as dictionary_field}
 use Rattle.sfv_spec.proofs.{Collapse.{last_of-absent, last_of-collapse, or_none}, Marks.keys, Repeats.no_repeats}
 

@@ -1,6 +1,6 @@
 -- Canonical texts are printable ASCII.
 use Rattle.std.proofs.Common.{◌≡◌, ℕ, zero, suc, Bool, true, false, List, [], ◌∷◌, ◌++◌, map, refl, replicate, inl, inr}
-use Rattle.std.{proofs.Common.{arith, IsTrue, flat_map, codes, nat_lt, not, ltb-true}, specs.Char.is_ascii_digit}
+use Rattle.std.{proofs.Common.{arith, IsTrue, flat_map, codes, nat_lt, ltb-true}, specs.Char.is_ascii_digit}
 use Rattle.std.{specs.List.{list_all, AllByRecursion}, proofs.lemmas.Bool.{and_parts, and_from, agree_below_at}}
 use Rattle.std.proofs.lemmas.{Bool.Decides.nat_tests, List.Folds.list_all-append}
 use Rattle.sfv_spec.specs.Base64.{symbol, IsBase64Text}

@@ -19,8 +19,7 @@ module _ {A B : Type 0} (f : A → B) where
   seen-insert : (es : List (List ℕ × A)) (k : List ℕ) (v : A)
       → seen (insert_entry bytes_eq es k v) ≡ insert_entry bytes_eq (seen es) k (f v)
   seen-insert [] k v = refl
-  seen-insert (e ∷ es) k v =
-      cond_seen (bytes_eq k e.0) ((e.0, v) ∷ es) (e ∷ insert_entry bytes_eq es k v)
+  seen-insert (e ∷ es) k v = cond_seen (bytes_eq k e.0) ((e.0, v) ∷ es) (e ∷ insert_entry bytes_eq es k v)
       ∙ ap (λ (rest : List (List ℕ × B)). cond (bytes_eq k e.0) ((e.0, f v) ∷ seen es) ((e.0, f e.1) ∷ rest))
       (seen-insert es k v)
 

@@ -7,13 +7,10 @@ use Rattle.sfv_spec.specs.Values as values
 use Rattle.sfv_values.specs.declared.bare.GenericBareItem.TheVariants as bare
 
 -- what holds of a copy of the bytes, whatever else does
-pub copied_value :
-    (s : List ℕ → List ℕ → Type 0) (b : Vec ℕ Global → Vec ℕ Global → Type 0)
+pub copied_value : (s : List ℕ → List ℕ → Type 0) (b : Vec ℕ Global → Vec ℕ Global → Type 0)
     (t : List ℕ → List ℕ → Type 0) (d : std_string.String Global → std_string.String Global → Type 0)
-    → ((x y : List ℕ) → s x y → y ≡ x)
-    → ((x y : Vec ℕ Global) → b x y → AllZip (λ m n. n ≡ m) x.items y.items)
-    → ((x y : List ℕ) → t x y → y ≡ x)
-    → ((x y : std_string.String Global) → d x y → string_bytes y ≡ string_bytes x)
+    → ((x y : List ℕ) → s x y → y ≡ x) → ((x y : Vec ℕ Global) → b x y → AllZip (λ m n. n ≡ m) x.items y.items)
+    → ((x y : List ℕ) → t x y → y ≡ x) → ((x y : std_string.String Global) → d x y → string_bytes y ≡ string_bytes x)
     → (x y : GenericBareItem (List ℕ) (Vec ℕ Global) (List ℕ) (std_string.String Global))
     → IsCopyBy s b t d x y → bare_value y ≡ bare_value x
 copied_value s b t d on_s on_b on_t on_d (bare.String x) (bare.String y) h = ap values.string (on_s x y h)

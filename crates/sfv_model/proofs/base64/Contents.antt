@@ -111,7 +111,7 @@ text_accepted bytes content h =
     let n : (length (values_in content) % 4 == 1) ≡ false = ne_eqb _ 1 (λ e. c.0 (rw r.1 at e)) in
     rw (eq-eqb (valid_from 0 content) (length content) r.0, n) refl
 
-one_meaning : (x y content : List ℕ) → IsBase64Text x content → IsBase64Text y content → x ≡ y
+pub one_meaning : (x y content : List ℕ) → IsBase64Text x content → IsBase64Text y content → x ≡ y
 one_meaning x y content h k = let same = bytes_settle x y content content (colon ∷ []) (colon ∷ []) h k refl refl
     refl in same.values
 

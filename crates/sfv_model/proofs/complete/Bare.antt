@@ -1,13 +1,13 @@
 -- A text of a bare item is read, as that bare item.
 use Rattle.std.proofs.Common.{◌≡◌, ℕ, ◌≤◌, Bool, true, false, eqb, ℤ, List, [], ◌∷◌, ◌++◌, length, Ok, refl, sym, ap}
-use Rattle.std.{proofs.Common.{◌∙◌, arith, inl, inr, ◌⊎◌, IsTrue, eqb-true, ne_eqb, true≢false}, specs.List.list_all}
+use Rattle.std.proofs.Common.{◌∙◌, arith, inl, inr, ◌⊎◌, IsTrue, eqb-true, ne_eqb, true≢false}
 use Rattle.std.proofs.lemmas.Bool.{or_left, or_from, and_parts, cases_Bool, Decides.nat_tests}
 use Rattle.sfv_spec.specs.{Classes.{is_token, is_token_start, is_token_inner}, Grammar.{IsBareText, boolean_text}}
 use Rattle.sfv_spec.specs.{Numbers.{IsIntegerText, IsDecimalText}, Texts.{begins_with, RunOf}}
 use Rattle.sfv_spec.specs.Values.{BareValue, integer, decimal, string, token, byte_sequence, boolean, date}
 use Rattle.sfv_spec.specs.Values.{display_string}
-use Rattle.sfv_spec.proofs.Marks.{double_quote, percent_sign, digit_zero, colon, minus_sign, dot, digit_one}
-use Rattle.sfv_spec.proofs.Marks.{question_mark, at_sign, is_digit, minus_text}
+use Rattle.sfv_spec.proofs.Marks.{double_quote, percent_sign, digit_zero, colon, minus_sign, dot, question_mark}
+use Rattle.sfv_spec.proofs.Marks.{at_sign, is_digit, minus_text}
 use Rattle.sfv_spec.proofs.Parts.{no_digit, no_point, integer_text, decimal_text}
 use Rattle.sfv_model.specs.Bare.{is_number_start, number_at, boolean_at, token_at, date_at, quoted_at, bare_at}
 use Rattle.sfv_model.specs.{Content.bytes_at, Quoted.{string_at, IsDisplayEnd}}

@@ -1,9 +1,8 @@
 -- A text of a field is read, as that field.
 use Rattle.std.proofs.Common.{◌≡◌, ℕ, List, [], ◌∷◌, ◌++◌, Ok, refl, sym, ap, ◌∙◌, append_assoc, append-nil, eqb-true}
-use Rattle.sfv_spec.specs.Events.{entry_events, keyed_events}
-use Rattle.sfv_spec.specs.{Grammar.{IsMemberText, IsDictionaryMemberText, IsFieldText}, Texts.RunOf}
-use Rattle.sfv_spec.{specs.Values.{RawField, RawItem}, proofs.Marks.{space, comma, is_space}}
-use Rattle.sfv_model.specs.{Fields.whole_field_at, Members.{entry_at, keyed_at}, Reader.{Apart, give}}
+use Rattle.sfv_spec.specs.{Grammar.IsFieldText, Texts.RunOf, Values.{RawField, RawItem}}
+use Rattle.sfv_spec.proofs.Marks.{space, comma, is_space}
+use Rattle.sfv_model.specs.{Fields.whole_field_at, Reader.{Apart, give}}
 use Rattle.sfv_model.proofs.Types.{FieldKind, item_field, list_field, dictionary_field, Version}
 use Rattle.sfv_model.proofs.complete.Combinators.{Apart-nil, Apart-cons, bind_complete, span_complete}
 use Rattle.sfv_model.proofs.complete.Items.{lengthens_item, item_complete, item_no, blank_ends, space_ends}

@@ -6,10 +6,10 @@ use Rattle.sfv_spec.specs.Classes.{is_key_start, is_key_inner, is_token_inner}
 use Rattle.sfv_spec.specs.{Grammar.{IsKeyText, IsValueText, IsParametersText, IsItemText}, Texts.{Exactly, ◌⨾◌}}
 use Rattle.sfv_spec.specs.{Values.{BareValue, RawParameters, RawItem}, declared.version.Version.Version}
 use Rattle.sfv_spec.proofs.Bare.{is_bare_start, bare_begins}
-use Rattle.sfv_spec.proofs.Marks.{space, equals_sign, semicolon, is_space, is_space_or_tab, IsParameterText}
+use Rattle.sfv_spec.proofs.Marks.{space, equals_sign, semicolon, is_space_or_tab, IsParameterText}
 use Rattle.sfv_spec.proofs.Settled.{begins, begins-append}
-use Rattle.sfv_model.specs.Items.{key_at, value_at, parameter_at, parameter_event, parameters_at, item_at}
-use Rattle.sfv_model.{specs.Reader.{Apart, byte, give}, proofs.complete.Bare.bare_complete}
+use Rattle.sfv_model.specs.{Items.{key_at, value_at, parameter_at, parameters_at, item_at}, Reader.{Apart, byte, give}}
+use Rattle.sfv_model.proofs.complete.Bare.{bare_complete}
 use Rattle.sfv_model.proofs.complete.Combinators.{Apart-cons, Apart-part, branch_past, branch_take, bind_complete}
 use Rattle.sfv_model.proofs.complete.Combinators.{led_complete, span_complete}
 use Rattle.sfv_model.proofs.{sound.Items.Consumes-parameter, sound.Many.many_complete, texts.Joining.end_joined}
@@ -21,7 +21,7 @@ lengthens b = is_token_inner b || (is_key_inner b || eqb b equals_sign)
 abbrev pub lengthens_item : ℕ → Bool
 lengthens_item b = lengthens b || eqb b semicolon
 
-token_apart : (q : List ℕ) → Apart lengthens q → Apart is_token_inner q
+pub token_apart : (q : List ℕ) → Apart lengthens q → Apart is_token_inner q
 token_apart q h = Apart-part _ _ _ (λ c e. (or_parts _ _ e).0) h
 
 pub key_apart : (q : List ℕ) → Apart lengthens q → Apart is_key_inner q
@@ -47,7 +47,7 @@ key_complete (c ∷ cs) t q k h =
 after_sign : {Q : List ℕ → Type 0} (n : ℕ) (t q : List ℕ) (h : (Exactly (n ∷ []) ⨾ Q) t) → t ++ q ≡ n ∷ (h.back ++ q)
 after_sign n t q h = ap (λ (l : List ℕ). l ++ q) (h.text ∙ ap (λ (l : List ℕ). l ++ h.back) h.first)
 
-value_complete : (version : Version) (v : BareValue) (t q : List ℕ) → IsValueText version v t → Apart lengthens q
+pub value_complete : (version : Version) (v : BareValue) (t q : List ℕ) → IsValueText version v t → Apart lengthens q
     → value_at version (t ++ q) ≡ Ok (v, q)
 unfolding value_at give
 value_complete version v t q (inl e) h = cc (e.1, branch_past _ _ _ q (equals_apart q h), e.0)
@@ -55,7 +55,7 @@ value_complete version v t q (inr e) h = ap (value_at version) (after_sign equal
     ∙ branch_take _ _ _ equals_sign (e.back ++ q) refl ∙ bare_complete version v e.back q e.second (token_apart q h)
 
 -- what stands after a key is no more of it
-value_apart : (version : Version) (v : BareValue) (t q : List ℕ) → IsValueText version v t → Apart is_key_inner q
+pub value_apart : (version : Version) (v : BareValue) (t q : List ℕ) → IsValueText version v t → Apart is_key_inner q
     → Apart is_key_inner (t ++ q)
 value_apart version v t q (inl e) h = rw e.1 h
 value_apart version v t q (inr e) h = rw (after_sign equals_sign t q e) (Apart-cons _ _ _ refl)
@@ -67,7 +67,7 @@ key_no n (c ∷ cs) t q none k =
     let p = and_parts (is_key_start c) (list_all is_key_inner cs) k.0 in
     rw k.1 (Apart-cons (byte n) c (cs ++ q) (ne_eqb c n (λ i. true≢false (sym p.0 ∙ ap is_key_start i ∙ none))))
 
-parameter_complete : (version : Version) (p : List ℕ × BareValue) (t q : List ℕ) → IsParameterText version p t
+pub parameter_complete : (version : Version) (p : List ℕ × BareValue) (t q : List ℕ) → IsParameterText version p t
     → Apart lengthens q → (parameter_at version (t ++ q) ≡ Ok (Some p, q)) × Apart lengthens (t ++ q)
 unfolding parameter_at give
 parameter_complete version p t q i h =

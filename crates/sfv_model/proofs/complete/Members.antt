@@ -63,7 +63,7 @@ closed_complete : (version : Version) (e q : List ℕ) → IsClosed e
     → (next_item_at version (e ++ q) ≡ Ok (None, q)) × Apart lengthens_item (e ++ q)
 closed_complete version e q h = rw (closed_whole e q h) (closed_on version h.front q h.first)
 
-items_complete : (version : Version) (is : List RawItem) (t q : List ℕ) → IsItems version is t
+pub items_complete : (version : Version) (is : List RawItem) (t q : List ℕ) → IsItems version is t
     → inner_items_at version (t ++ q) ≡ Ok (is, q)
 unfolding inner_items_at give
 items_complete version [] t q h = ap (inner_items_at version) (closed_whole t q h)

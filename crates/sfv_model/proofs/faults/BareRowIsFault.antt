@@ -6,13 +6,11 @@ use Rattle.sfv_spec.specs.Classes.{is_string_byte}
 use Rattle.sfv_spec.specs.Faults.{BareItemFault, no_boolean, old_date, old_display, no_quote, no_digit, no_number}
 use Rattle.sfv_spec.specs.Faults.{IsNumberSign, OpensString, long_integer, late_point, long_decimal, open_string}
 use Rattle.sfv_spec.specs.Faults.{wrong_string_byte, open_string_escape, wrong_string_escape, wrong_bytes}
-use Rattle.sfv_spec.specs.{Strings.is_escaped_in_string, Texts.{begins_with, RunOf}}
-use Rattle.sfv_spec.specs.Values.{BareValue, string, byte_sequence}
+use Rattle.sfv_spec.specs.{Strings.is_escaped_in_string, Texts.{begins_with, RunOf}, Values.{BareValue, byte_sequence}}
 use Rattle.sfv_spec.proofs.Marks.{colon, backslash, minus_sign, dot, at_sign, is_digit, minus_text, at_text}
 use Rattle.sfv_spec.proofs.Versions.{one_longest}
 use Rattle.sfv_model.specs.Bare.{is_number_start, number_at, date_at, quoted_at, as_date, bare_at}
-use Rattle.sfv_model.specs.{BareFaults.BareRowIsGiven, Content.{valid_from, fault_place, bytes_at}}
-use Rattle.sfv_model.specs.Quoted.{string_at, StringStops}
+use Rattle.sfv_model.specs.{BareFaults.BareRowIsGiven, Content.{valid_from, fault_place, bytes_at}, Quoted.StringStops}
 use Rattle.sfv_model.specs.Reader.{Fault, Answer, byte, give, fail, and_then, at_start, at_reach}
 use Rattle.sfv_model.proofs.Types.{Version, Rfc8941, Rfc9651, ErrorKind, NonIntegerDate, ExpectedDigit}
 use Rattle.sfv_model.proofs.{Types.InvalidByteSequence, base64.Contents.{longest_valid, rejected_at}}

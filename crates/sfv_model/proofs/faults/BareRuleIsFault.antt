@@ -3,10 +3,10 @@ use Rattle.std.proofs.Common.{◌≡◌, ℕ, true, List, ◌∷◌, ◌++◌, l
 use Rattle.std.{proofs.Common.{inl, inr, codes, eq-eqb, length-append, length-drop}, specs.List.concat}
 use Rattle.sfv_spec.specs.Faults.{RuledItemFault, bare, comma, point, decimal_date, long_decimal_date, open_bytes}
 use Rattle.sfv_spec.specs.{Faults.{lone_symbol, display}, Values.display_string}
-use Rattle.sfv_spec.proofs.Marks.{double_quote, percent_sign, colon, dot, minus_text}
+use Rattle.sfv_spec.proofs.Marks.{double_quote, percent_sign, colon, dot}
 use Rattle.sfv_model.specs.{Bare.bare_at, BareFaults.RuledIsGiven, Content.{valid_from, fault_place, HasNoColon}}
-use Rattle.sfv_model.{specs.Reader.{give, and_then, by_rule}, proofs.Types.{Version, Rfc9651, ErrorKind}}
-use Rattle.sfv_model.proofs.base64.Lone.{is_left_over, symbols_of_run, leaves_one_over}
+use Rattle.sfv_model.specs.Reader.{give, and_then, by_rule}
+use Rattle.sfv_model.proofs.{Types.{Version, ErrorKind}, base64.Lone.{is_left_over, symbols_of_run, leaves_one_over}}
 use Rattle.sfv_model.proofs.{complete.Bare.bare_percent, faults.BareFaultIsRow.{quoted_read, display_short}}
 use Rattle.sfv_model.proofs.faults.BareRowIsFault.{date_given, signed_given, bytes_given}
 use Rattle.sfv_model.proofs.faults.{ByteSequences.no_colon_any, DisplayRuleIsFault.faults_ruled}

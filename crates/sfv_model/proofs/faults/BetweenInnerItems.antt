@@ -3,11 +3,11 @@ use Rattle.std.proofs.Common.{◌≡◌, ℕ, true, List, [], ◌∷◌, ◌++�
 use Rattle.std.{proofs.Common.{codes, flat_map, append-nil, eqb-true}, specs.Prelude.⊤}
 use Rattle.sfv_spec.specs.Events.{TreeEvent, entry, keyed_entry, begins_inner_list, inner_list_end, parameters_end}
 use Rattle.sfv_spec.specs.Events.{inner_item_events, member_events, entry_events, keyed_events}
-use Rattle.sfv_spec.specs.Grammar.{IsItemText, IsMemberText, IsMemberValueText, IsDictionaryMemberText, IsKeyText}
+use Rattle.sfv_spec.specs.Grammar.{IsItemText, IsMemberText, IsMemberValueText, IsDictionaryMemberText}
 use Rattle.sfv_spec.specs.{Texts.{RunOf, IsJoining, ◌⨾◌}, Values.{boolean, RawItem}}
 use Rattle.sfv_spec.proofs.Marks.{space, equals_sign, left_parenthesis, right_parenthesis, comma, is_space}
 use Rattle.sfv_spec.proofs.{Marks.{is_space_or_tab, IsParameterText}, Settled.joining-nil}
-use Rattle.sfv_model.specs.Items.{key_at, item_of}
+use Rattle.sfv_model.specs.Items.{item_of}
 use Rattle.sfv_model.specs.Members.{inner_item_at, next_item_at, inner_items_at, inner_of, inner_at, member_at}
 use Rattle.sfv_model.specs.{Members.{entry_at, member_value_at, keyed_at}, Reader.{Fault, Reader, many, any}}
 use Rattle.sfv_model.proofs.TrailingBytes.{IsOther, Shuns, Shuns-item, Shuns-key, Shuns-parameters, Shuns-led}

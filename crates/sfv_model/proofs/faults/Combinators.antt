@@ -5,7 +5,7 @@ use Rattle.sfv_spec.specs.{Events.TreeEvent, Texts.RunOf, declared.error_kind.Er
 use Rattle.sfv_model.specs.Judgements.{Reached, Sound}
 use Rattle.sfv_model.specs.Reader.{Fault, Answer, Reader, any, at_reach, by_rule, after_events, and_then, give, fail}
 use Rattle.sfv_model.specs.Reader.{◌>>=◌, bind, led_answer, led, span, branch, ahead, at_start, back}
-use Rattle.sfv_model.proofs.sound.Combinators.{Steady, Steady-span, Sound-steady, IsSpan}
+use Rattle.sfv_model.proofs.sound.Combinators.{Steady, Steady-span, Sound-steady}
 
 pub record Rules {A : Type 0} (f : Reader A) (V : List ℕ → Fault → Type 0) : Type 0 where
   pub rules : (t : List ℕ) (e : Fault) → f t ≡ Err e → V t e

@@ -1,7 +1,7 @@
 -- A rule for a Display String holds only where the reader gives that fault, at that place.
-use Rattle.std.proofs.Common.{◌≡◌, ℕ, ◌≤◌, ◌+◌, ◌*◌, ◌&&◌, List, [], ◌∷◌, ◌++◌, length, take, refl, sym, ap, subst, ◌∙◌}
+use Rattle.std.proofs.Common.{◌≡◌, ℕ, ◌≤◌, ◌+◌, ◌*◌, List, [], ◌∷◌, ◌++◌, length, take, refl, sym, ap, subst, ◌∙◌}
 use Rattle.std.proofs.Common.{append_assoc, arith, inr, not, length-append, append-nil, take_at}
-use Rattle.std.specs.{Char.digit_value as hexadecimal_value, List.{concat, AllZip, list_all}, Str.Lossy.utf8_valid_len}
+use Rattle.std.specs.{Char.digit_value as hexadecimal_value, List.{concat, AllZip, list_all}}
 use Rattle.std.proofs.lemmas.{Bool.{and_parts, and_from, not-true}, Str.utf8_valid_len_le}
 use Rattle.sfv_spec.specs.Classes.{is_string_byte, is_lower_hexadecimal}
 use Rattle.sfv_spec.specs.Faults.{DisplayFault, open_display, open_escape, wrong_escape, wrong_byte, wrong_utf8}

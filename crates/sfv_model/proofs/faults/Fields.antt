@@ -7,7 +7,7 @@ use Rattle.sfv_spec.specs.{Grammar.AreMembersText, Texts.{RunOf, IsJoining}, Val
 use Rattle.sfv_spec.proofs.Marks.{comma, is_space, is_space_or_tab}
 use Rattle.sfv_model.specs.{Commas.HasManyMembers, Fields.{comma_at, next_at, members_at, whole_field_at}}
 use Rattle.sfv_model.specs.Members.{entry_at, keyed_at}
-use Rattle.sfv_model.specs.Reader.{Fault, Reader, by_rule, byte, any, ahead, back, many, ◌>>=◌, give}
+use Rattle.sfv_model.specs.Reader.{Fault, Reader, by_rule, byte, any, ahead, back, ◌>>=◌, give}
 use Rattle.sfv_model.proofs.TrailingBytes.{Shuns-item, Shuns-bind, Shuns-span, Shuns-give}
 use Rattle.sfv_model.proofs.Types.{FieldKind, item_field, list_field, dictionary_field, Version, TrailingComma}
 use Rattle.sfv_model.proofs.{Types.TrailingCharactersAfterMember, complete.Combinators.{branch_take, bind_complete}}
@@ -17,7 +17,7 @@ use Rattle.sfv_model.proofs.faults.Combinators.{Rules, Rules-give, Rules-span, R
 use Rattle.sfv_model.proofs.faults.Combinators.{Rules-back, Rules-ahead, Rules-any, Rules-weaker, fail_at, no_fault}
 use Rattle.sfv_model.proofs.faults.{Combinators.ahead_at, InnerListCutOff.{put, put_events, spaces, members}}
 use Rattle.sfv_model.proofs.faults.{ItemEnds.parted, Many.Rules-many}
-use Rattle.sfv_model.proofs.sound.Combinators.{Sound-back, Steady-span, Reads, Somewhere, Goes}
+use Rattle.sfv_model.proofs.sound.Combinators.{Sound-back, Steady-span, Reads, Goes}
 use Rattle.sfv_model.proofs.sound.Members.{Sound-entry, Sound-keyed}
 use Rattle.sfv_model.proofs.sound.Separated.{IsComma, Sound-comma, IsNext, Sound-next, Consumes-next}
 use Rattle.sfv_model.proofs.sound.{Separated.dictionary_members_text, Steps.Sound-steps}

@@ -4,8 +4,7 @@ use Rattle.std.proofs.Common.{subst, ◌∙◌, append_assoc, arith, inl, inr, �
 use Rattle.std.proofs.Common.{true≢false, eqb-true}
 use Rattle.std.proofs.lemmas.{Bool.{both_ways, or_parts}, List.{append_cancel_right, nil_from_length}}
 use Rattle.sfv_spec.specs.Classes.{is_key_inner}
-use Rattle.sfv_spec.specs.Events.{TreeEvent, entry, keyed_entry, begins_inner_list, inner_item_events, entry_events}
-use Rattle.sfv_spec.specs.Events.{keyed_events, events}
+use Rattle.sfv_spec.specs.Events.{TreeEvent, entry, keyed_entry, inner_item_events, entry_events, keyed_events, events}
 use Rattle.sfv_spec.specs.Grammar.{IsKeyText, IsMemberValueText, IsMemberText, IsDictionaryMemberText, AreMembersText}
 use Rattle.sfv_spec.specs.{Grammar.{IsFieldText, Comma}, Texts.{RunOf, IsJoining, ◌⨾◌}}
 use Rattle.sfv_spec.specs.Values.{RawField, RawItem, RawInnerList, RawMember, item, inner_list}

@@ -5,14 +5,13 @@ use Rattle.std.proofs.Common.{IsTrue, IsUtf8, codes, true≢false, leb-true, app
 use Rattle.std.specs.List.{list_all}
 use Rattle.std.proofs.{Math.Seq.get_or-append_seam, lemmas.Bool.{and_parts, and_from, both_ways, or_left, and_right}}
 use Rattle.std.proofs.lemmas.{List.Folds.list_all-append, Str.{IsUtf8-take, IsUtf8-append, IsCharBoundary-before_ascii}}
-use Rattle.sfv_spec.specs.Base64.{symbol}
-use Rattle.sfv_spec.specs.Classes.{is_token_start, is_token_inner, is_token, is_string_byte, is_lower_hexadecimal}
+use Rattle.sfv_spec.specs.{Base64.symbol, Classes.{is_token_inner, is_token, is_string_byte, is_lower_hexadecimal}}
 use Rattle.sfv_spec.specs.{Grammar.IsBareText, Numbers.{signed, place_value, IsIntegerText, IsDecimalText}}
 use Rattle.sfv_spec.specs.{Strings.{IsStringPiece, is_plain_in_display, IsDisplayPiece}, Texts.{RunOf, IsJoining}}
 use Rattle.sfv_spec.specs.Values.{BareValue, integer, decimal, string, token, byte_sequence, boolean, date}
 use Rattle.sfv_spec.specs.{Values.display_string, declared.version.Version.Version}
-use Rattle.sfv_spec.proofs.Marks.{double_quote, percent_sign, asterisk, colon, minus_sign, dot, question_mark, at_sign}
-use Rattle.sfv_spec.proofs.Marks.{backslash, equals_sign, is_digit, minus_text, is_symbol, is_plain_in_string}
+use Rattle.sfv_spec.proofs.Marks.{double_quote, percent_sign, colon, minus_sign, dot, question_mark, at_sign, backslash}
+use Rattle.sfv_spec.proofs.Marks.{equals_sign, is_digit, minus_text, is_symbol, is_plain_in_string}
 use Rattle.sfv_spec.proofs.Settled.{joining-nil, joining-cons}
 use Rattle.sfv_model.specs.BareFaults.{MarkInside, AsteriskInside}
 use Rattle.sfv_model.specs.{Content.IsBytesEnd, Quoted.{IsStringEnd, IsDisplayEnd}}

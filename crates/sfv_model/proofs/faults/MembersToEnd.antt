@@ -1,10 +1,10 @@
 -- Members are read up to the end of the text.
 use Rattle.std.proofs.Common.{◌≡◌, ℕ, zero, suc, ◌<◌, List, [], ◌∷◌, length, Option, Some, None, Ok, Err, refl, sym, ap}
 use Rattle.std.proofs.{Common.{◌∙◌, arith, inl, inr}, lemmas.Bool.cases_Bool}
-use Rattle.sfv_spec.specs.Events.{TreeEvent, entry_events, keyed_events}
-use Rattle.sfv_spec.{specs.Grammar.{IsMemberText, IsDictionaryMemberText}, specs.Values.RawField, proofs.Marks.comma}
-use Rattle.sfv_model.specs.{Commas.HasManyMembers, Fields.{comma_at, next_at, members_at, whole_field_at}}
-use Rattle.sfv_model.specs.Members.{entry_at, keyed_at}
+use Rattle.sfv_spec.specs.{Events.{TreeEvent, keyed_events}, Grammar.{IsMemberText, IsDictionaryMemberText}}
+use Rattle.sfv_spec.{specs.Values.RawField, proofs.Marks.comma}
+use Rattle.sfv_model.specs.Commas.{HasManyMembers}
+use Rattle.sfv_model.specs.{Fields.{comma_at, next_at, members_at, whole_field_at}, Members.keyed_at}
 use Rattle.sfv_model.specs.Reader.{Answer, Reader, any, byte, and_then, give, fail, ◌>>=◌, bind, led_answer, led, ahead}
 use Rattle.sfv_model.specs.Reader.{go_on, many, back, one_and_more}
 use Rattle.sfv_model.proofs.Types.{FieldKind, item_field, list_field, dictionary_field, Version, TrailingComma}

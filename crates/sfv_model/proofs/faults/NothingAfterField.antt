@@ -5,13 +5,13 @@ use Rattle.sfv_spec.specs.Events.{TreeEvent, entry_events, keyed_events}
 use Rattle.sfv_spec.specs.Grammar.{IsParametersText, IsMemberText, IsMemberValueText, IsDictionaryMemberText}
 use Rattle.sfv_spec.specs.{Grammar.{AreMembersText, IsItemText, Spaces, IsFieldText, IsAccepted}, Texts.{RunOf, ◌⨾◌}}
 use Rattle.sfv_spec.specs.Values.{RawField, RawMember, item, inner_list, boolean, RawParameters, RawItem, HasMember}
-use Rattle.sfv_spec.proofs.Marks.{tab, semicolon, is_space, is_space_or_tab, true_with, IsParameterText}
+use Rattle.sfv_spec.proofs.Marks.{tab, semicolon, is_space, is_space_or_tab, true_with}
 use Rattle.sfv_model.specs.{Commas.HasManyMembers, Fields.{next_at, whole_field_at}}
-use Rattle.sfv_model.specs.{Members.{inner_of, entry_at, keyed_at}, Reader.{Apart, Reader, at_reach}}
+use Rattle.sfv_model.specs.{Members.{inner_of, entry_at, keyed_at}, Reader.{Apart, Reader}}
 use Rattle.sfv_model.proofs.Types.{FieldKind, item_field, list_field, dictionary_field, Version}
-use Rattle.sfv_model.proofs.{Types.TrailingCharactersAfterMember, complete.Combinators.Apart-cons}
-use Rattle.sfv_model.proofs.complete.{Fields.{item_field_complete, field_complete}, Items.{lengthens_item, blank_ends}}
-use Rattle.sfv_model.proofs.{complete.Members.inner_parts, faults.BetweenInnerItems.{parameter_a, item_longer}}
+use Rattle.sfv_model.proofs.complete.{Combinators.Apart-cons, Fields.{item_field_complete, field_complete}}
+use Rattle.sfv_model.proofs.complete.{Items.{lengthens_item, blank_ends}, Members.inner_parts}
+use Rattle.sfv_model.proofs.faults.BetweenInnerItems.{parameter_a, item_longer}
 use Rattle.sfv_model.proofs.faults.InnerListCutOff.{IsLast, last_of, put}
 use Rattle.sfv_model.proofs.faults.{ItemEnds.{parted, second_longer}, TrailingCommas.{met, byte_met, not_bracketed}}
 use Rattle.sfv_model.proofs.{sound.Combinators.run_head, sound.Members.inner_text, texts.Joining.joining_push}

@@ -1,10 +1,9 @@
 -- The faults of Strings and Display Strings: exactly these are given.
-use Rattle.std.proofs.Common.{◌≡◌, ℕ, true, false, List, ◌∷◌, ◌++◌, Ok, Err, refl, sym, ap, subst, ◌∙◌, inl, inr}
-use Rattle.std.{proofs.Common.{IsUtf8, append-nil}, specs.List.{concat, AllZip}, specs.Str.is_utf8}
+use Rattle.std.proofs.Common.{◌≡◌, ℕ, true, false, List, ◌++◌, Ok, Err, refl, sym, ap, subst, ◌∙◌, inl, inr, IsUtf8}
+use Rattle.std.{proofs.Common.append-nil, specs.List.{concat, AllZip}, specs.Str.is_utf8}
 use Rattle.std.proofs.lemmas.{Bool.{both_ways, cases_Bool}, Str.{IsUtf8-from_is_utf8, is_utf8-from_IsUtf8}}
 use Rattle.sfv_spec.specs.Strings.{IsStringPiece, IsDisplayPiece}
 use Rattle.sfv_spec.specs.declared.error_kind.ErrorKind.{ErrorKind, TheVariants.InvalidUtf8InDisplayString}
-use Rattle.sfv_spec.proofs.Marks.{double_quote}
 use Rattle.sfv_model.specs.Quoted.{after_bytes, string_at, outside, pieces_from, checked, display_at, StringStops}
 use Rattle.sfv_model.specs.Quoted.{DisplayStops, Traced, IsStringFault, IsDisplayFault}
 use Rattle.sfv_model.specs.Reader.{Fault, Answer, at_reach, by_rule}

@@ -2,14 +2,13 @@
 use Rattle.std.proofs.Common.{◌≡◌, ℕ, false, eqb, List, [], ◌∷◌, ◌++◌, length, drop, Ok, Err, refl, sym, ap, ◌∙◌}
 use Rattle.std.proofs.Common.{append_assoc, arith, append-nil, drop_at, codes, ◌≢◌}
 use Rattle.sfv_spec.specs.Events.{TreeEvent, events, entry_events, keyed_events}
-use Rattle.sfv_spec.specs.Grammar.{IsMemberText, IsDictionaryMemberText, IsFieldText, IsAccepted}
-use Rattle.sfv_spec.specs.{Texts.RunOf, Values.{RawField, RawItem, HasMember}}
+use Rattle.sfv_spec.specs.{Grammar.{IsFieldText, IsAccepted}, Texts.RunOf, Values.{RawField, RawItem, HasMember}}
 use Rattle.sfv_spec.proofs.Marks.{comma, right_parenthesis, is_space, is_space_or_tab}
 use Rattle.sfv_model.specs.{Bare.{token_at, bare_at}, Claims.CommaRow, Commas.HasManyMembers}
 use Rattle.sfv_model.specs.Fields.{comma_at, next_at, members_at, whole_field_at, ending, read_field}
 use Rattle.sfv_model.specs.{Items.{key_at, item_at}, Judgements.IsFault, Members.{member_at, entry_at, keyed_at}}
-use Rattle.sfv_model.specs.Reader.{Fault, Reader, Apart, any, byte, at_reach, by_rule, after_events, at_start, give}
-use Rattle.sfv_model.specs.Reader.{fail, back, span, branch, ahead, bind, led}
+use Rattle.sfv_model.specs.Reader.{Fault, Reader, Apart, at_reach, by_rule, after_events, at_start, give, fail, back}
+use Rattle.sfv_model.specs.Reader.{span, branch, ahead, bind, led}
 use Rattle.sfv_model.proofs.Types.{FieldKind, item_field, list_field, dictionary_field, Version, TrailingComma}
 use Rattle.sfv_model.proofs.Types.{TrailingCharactersAfterMember}
 use Rattle.sfv_model.proofs.complete.Combinators.{Apart-nil, Apart-cons, branch_take, ahead_past, ahead_take, ahead_any}

@@ -1,6 +1,5 @@
 -- On how much of the text a field rests.
-use Rattle.sfv_spec.specs.{Events.{entry_events, keyed_events}, Grammar.{IsMemberText, IsDictionaryMemberText}}
-use Rattle.sfv_model.specs.{Fields.whole_field_at, Judgements.Local, Members.{entry_at, keyed_at}}
+use Rattle.sfv_model.specs.{Fields.whole_field_at, Judgements.Local}
 use Rattle.sfv_model.proofs.Types.{FieldKind, item_field, list_field, dictionary_field, Version}
 use Rattle.sfv_model.proofs.local.{Combinators.local_rules, Items.Local-item, Members.{Local-entry, Local-keyed}}
 use Rattle.sfv_model.proofs.sound.{Members.{Sound-entry, Sound-keyed}, Separated.Local-members}

@@ -1,7 +1,7 @@
 -- On how much of the text keys, parameters and items rest.
-use Rattle.sfv_model.specs.Items.{key_at, value_at, parameter_at, parameter_event, parameters_at, item_at}
-use Rattle.sfv_model.{specs.Judgements.Local, proofs.Types.Version, proofs.local.Bare.Local-bare}
-use Rattle.sfv_model.proofs.{local.Combinators.local_rules, sound.Items.Consumes-parameter, sound.Many.Local-many}
+use Rattle.sfv_model.specs.{Items.{key_at, value_at, parameter_at, parameters_at, item_at}, Judgements.Local}
+use Rattle.sfv_model.proofs.{Types.Version, local.Bare.Local-bare, local.Combinators.local_rules}
+use Rattle.sfv_model.proofs.sound.{Items.Consumes-parameter, Many.Local-many}
 
 -- ---- what an answer rests on
 

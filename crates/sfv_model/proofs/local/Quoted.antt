@@ -2,10 +2,10 @@
 use Rattle.std.proofs.Common.{inl, inr, ◌≡◌, ℕ, Bool, true, false, List, [], ◌∷◌, ◌++◌, Ok, Err, refl, sym, ap, ◌∙◌}
 use Rattle.std.{proofs.Common.{append_assoc, true≢false, append-nil}, specs.List.{concat, AllZip}, specs.Str.is_utf8}
 use Rattle.std.proofs.lemmas.{Bool.cases_Bool, Str.IsUtf8-from_is_utf8}
-use Rattle.sfv_spec.{specs.Strings.{IsStringPiece, IsDisplayPiece}, proofs.Marks.double_quote}
+use Rattle.sfv_spec.proofs.Marks.{double_quote}
 use Rattle.sfv_model.specs.Judgements.{Lasts, Local, with_rest, Stays, StaysButText}
-use Rattle.sfv_model.specs.Quoted.{after_bytes, string_at, outside, pieces_from, checked, display_at, StringStops}
-use Rattle.sfv_model.specs.{Quoted.{DisplayStops, Traced}, Reader.{first, Fault, Answer, Reader, placed}}
+use Rattle.sfv_model.specs.Quoted.{after_bytes, string_at, outside, pieces_from, checked, display_at, Traced}
+use Rattle.sfv_model.specs.Reader.{first, Fault, Answer, Reader, placed}
 use Rattle.sfv_model.proofs.{Types.ErrorKind, complete.Quoted.passes, faults.Quoted.display_fault}
 use Rattle.sfv_model.proofs.quoted.Pieces.{past_string, past_display, quote_string, quote_display, string_stops}
 use Rattle.sfv_model.proofs.quoted.Pieces.{display_stops, string_stops_whole, display_stops_whole}

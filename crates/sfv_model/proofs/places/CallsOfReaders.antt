@@ -7,7 +7,7 @@ use Rattle.sfv_spec.specs.{Grammar.{IsMemberText, IsDictionaryMemberText}, Texts
 use Rattle.sfv_spec.proofs.Marks.{space, tab, comma, left_parenthesis, right_parenthesis, is_space, is_space_or_tab}
 use Rattle.sfv_spec.proofs.Marks.{true_with}
 use Rattle.sfv_model.specs.{Bare.{token_at, bare_at}, Fields.{comma_at, next_at, members_at, whole_field_at}}
-use Rattle.sfv_model.specs.Items.{value_at, parameter_at, parameter_event, parameters_at, item_of, item_at}
+use Rattle.sfv_model.specs.Items.{value_at, parameter_at, parameter_event, parameters_at, item_at}
 use Rattle.sfv_model.specs.Judgements.{Reached, Local, IsFault}
 use Rattle.sfv_model.specs.Members.{inner_item_at, next_item_at, inner_items_at, inner_at, member_at, entry_at}
 use Rattle.sfv_model.specs.Members.{member_value_at, keyed_at, inner_of}

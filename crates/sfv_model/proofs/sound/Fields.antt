@@ -1,9 +1,8 @@
 -- What is read as a field is one.
 use Rattle.std.proofs.Common.{ℕ, List, [], ◌++◌, refl, append-nil}
-use Rattle.sfv_spec.specs.Events.{TreeEvent, events, entry_events, keyed_events}
-use Rattle.sfv_spec.specs.{Grammar.{IsItemText, IsMemberText, IsDictionaryMemberText, IsFieldText}, Texts.RunOf}
-use Rattle.sfv_spec.{specs.Values.RawItem, proofs.Marks.is_space}
-use Rattle.sfv_model.specs.{Fields.whole_field_at, Items.item_at, Members.{entry_at, keyed_at}}
+use Rattle.sfv_spec.specs.{Events.{TreeEvent, events}, Grammar.{IsItemText, IsFieldText}, Texts.RunOf, Values.RawItem}
+use Rattle.sfv_spec.proofs.Marks.{is_space}
+use Rattle.sfv_model.specs.{Fields.whole_field_at, Items.item_at}
 use Rattle.sfv_model.proofs.Types.{FieldKind, item_field, list_field, dictionary_field, Version}
 use Rattle.sfv_model.proofs.sound.Combinators.{Sound-give, Sound-bind, Sound-within, Sound-span, Reads, Goes}
 use Rattle.sfv_model.proofs.sound.{Items.Sound-item, Members.{Sound-entry, Sound-keyed}, Separated.Sound-members}

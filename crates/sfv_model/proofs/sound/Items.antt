@@ -6,12 +6,11 @@ use Rattle.sfv_spec.specs.Events.{TreeEvent, bare_item, parameter, parameters_en
 use Rattle.sfv_spec.specs.Grammar.{IsBareText, IsKeyText, IsValueText, IsParametersText, IsItemText}
 use Rattle.sfv_spec.specs.{Texts.{Exactly, RunOf}, Values.{BareValue, boolean, RawParameters}}
 use Rattle.sfv_spec.proofs.Marks.{equals_sign, lower_a, semicolon, is_space, IsParameterText}
-use Rattle.sfv_model.specs.Bare.{bare_at}
 use Rattle.sfv_model.specs.Items.{key_at, value_at, parameter_at, parameter_event, parameters_at, item_of, item_at}
 use Rattle.sfv_model.{specs.Judgements.Mute, proofs.Types.Version, proofs.sound.Bare.{BareGoes, Sound-bare}}
 use Rattle.sfv_model.proofs.sound.Combinators.{Sound-give, Sound-fail, Sound-led, Sound-branch, Sound-byte, Sound-bind}
-use Rattle.sfv_model.proofs.sound.Combinators.{Sound-map, Sound-within, Sound-here, Sound-span, Reads, Somewhere}
-use Rattle.sfv_model.proofs.sound.Combinators.{Begins, Goes, begins_after, begins_longer}
+use Rattle.sfv_model.proofs.sound.Combinators.{Sound-map, Sound-within, Sound-here, Sound-span, Reads, Begins, Goes}
+use Rattle.sfv_model.proofs.sound.Combinators.{begins_after, begins_longer}
 use Rattle.sfv_model.proofs.sound.{Many.{Step, Consumes, Consumes-from}, Steps.{StepGoes, ManyGoes, Sound-steps}}
 use Rattle.sfv_model.proofs.texts.Joining.{joining_none, joined_end, in_turn}
 

@@ -6,7 +6,7 @@ use Rattle.sfv_spec.specs.{Events.TreeEvent, Numbers.{AreDigits, place_value, si
 use Rattle.sfv_spec.specs.{Texts.RunOf, Values.{BareValue, integer, decimal}}
 use Rattle.sfv_spec.proofs.Marks.{digit_zero, minus_sign, dot, is_digit, minus_text}
 use Rattle.sfv_model.specs.Bare.{sign_at, long_at, decimal_at, fraction_at, point_at, whole_at, number_at}
-use Rattle.sfv_model.specs.{Judgements.Sound, Reader.{◌>>=◌, up_to}}
+use Rattle.sfv_model.specs.Judgements.{Sound}
 use Rattle.sfv_model.proofs.sound.Combinators.{Found, Sound-give, Sound-fail, Sound-ruled, Sound-branch, Sound-ahead}
 use Rattle.sfv_model.proofs.sound.Combinators.{Sound-cond, Sound-bind, Sound-back, Sound-up_to}
 

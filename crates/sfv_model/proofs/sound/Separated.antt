@@ -5,8 +5,8 @@ use Rattle.std.proofs.lemmas.Bool.{or_parts}
 use Rattle.sfv_spec.specs.{Events.TreeEvent, Grammar.{OptionalWhitespace, Comma, AreMembersText}}
 use Rattle.sfv_spec.specs.{Texts.{Exactly, RunOf, ◌⨾◌}, declared.error_kind.ErrorKind.TheVariants.TrailingComma}
 use Rattle.sfv_spec.proofs.Marks.{tab, comma, is_space, is_space_or_tab}
-use Rattle.sfv_model.specs.{Fields.{comma_at, next_at, members_at}, Judgements.{Sound, Local}}
-use Rattle.sfv_model.specs.Reader.{Fault, Reader, Apart, any, after_events, back, many, give}
+use Rattle.sfv_model.specs.Fields.{comma_at, next_at, members_at}
+use Rattle.sfv_model.specs.{Judgements.{Sound, Local}, Reader.{Fault, Reader, Apart, after_events, back, many, give}}
 use Rattle.sfv_model.proofs.complete.Combinators.{Apart-nil, Apart-cons, branch_take, ahead_past, ahead_take, ahead_any}
 use Rattle.sfv_model.proofs.complete.Combinators.{bind_complete, back_complete, led_complete, span_complete}
 use Rattle.sfv_model.proofs.faults.PiecesToFault.{after_twice, bind_met, led_met, many_met}
@@ -14,7 +14,7 @@ use Rattle.sfv_model.proofs.local.Combinators.{Local-give, Local-fail, Local-led
 use Rattle.sfv_model.proofs.local.Combinators.{Local-span, local_rules}
 use Rattle.sfv_model.proofs.sound.Combinators.{run_head, Found, Sound-give, Sound-fail, Sound-led, Sound-byte}
 use Rattle.sfv_model.proofs.sound.Combinators.{Sound-ahead, Sound-bind, Sound-map, Sound-back, Sound-within, Sound-here}
-use Rattle.sfv_model.proofs.sound.Combinators.{Sound-span, Reads, Somewhere, Goes, begins_after, begins_longer}
+use Rattle.sfv_model.proofs.sound.Combinators.{Sound-span, Reads, Goes, begins_after, begins_longer}
 use Rattle.sfv_model.proofs.sound.Many.{Step, Consumes, Consumes-from, Local-many, many_complete}
 use Rattle.sfv_model.proofs.sound.Steps.{StepGoes, Sound-steps}
 use Rattle.sfv_model.proofs.texts.Joining.{Joined, split_joined, joined_split, in_turn}

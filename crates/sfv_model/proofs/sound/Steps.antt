@@ -3,7 +3,7 @@ use Rattle.std.proofs.Common.{ℕ, List, [], ◌∷◌, ◌++◌, Option, Some, 
 use Rattle.std.proofs.Common.{flat_map, append-nil}
 use Rattle.sfv_spec.specs.{Events.TreeEvent, Texts.IsJoining}
 use Rattle.sfv_model.specs.Reader.{Reader, many}
-use Rattle.sfv_model.proofs.sound.Combinators.{Sound-within, Somewhere, Begins, Goes, Reads, begins_after}
+use Rattle.sfv_model.proofs.sound.Combinators.{Sound-within, Begins, Goes, Reads, begins_after}
 use Rattle.sfv_model.proofs.sound.Many.{Step, Sound-many}
 use Rattle.sfv_model.proofs.texts.Joining.{joining_push, Joined, joined_split, events_push}
 

@@ -2,13 +2,12 @@
 use Rattle.std.proofs.Common.{◌≡◌, ℕ, Bool, true, false, List, [], ◌∷◌, ◌++◌, Option, Some, None, Ok, Err, refl, sym}
 use Rattle.std.proofs.Common.{ap, subst, ◌∙◌, append_assoc, flat_map, inl, inr, append-nil, true≢false, eqb-true}
 use Rattle.std.proofs.lemmas.Bool.{cases_Bool}
-use Rattle.sfv_spec.specs.Events.{TreeEvent, events, entry, keyed_entry, begins_item, begins_inner_list, bare_item}
-use Rattle.sfv_spec.specs.Events.{inner_list_end, inner_item_events, parameters_events, item_events, member_events}
-use Rattle.sfv_spec.specs.{Events.{entry_events, keyed_events}, Grammar.{IsMemberText, IsDictionaryMemberText}}
-use Rattle.sfv_spec.specs.Values.{boolean, RawParameters, RawItem, RawMember, item, inner_list}
-use Rattle.sfv_spec.proofs.Marks.{comma, is_space, true_with}
+use Rattle.sfv_spec.specs.Events.{TreeEvent, events, entry, begins_item, begins_inner_list, inner_list_end}
+use Rattle.sfv_spec.specs.Events.{inner_item_events, parameters_events, item_events, member_events, entry_events}
+use Rattle.sfv_spec.specs.{Events.keyed_events, Grammar.{IsMemberText, IsDictionaryMemberText}}
+use Rattle.sfv_spec.{specs.Values.{RawParameters, RawItem, RawMember, item, inner_list}, proofs.Marks.{comma, is_space}}
 use Rattle.sfv_model.specs.{Bare.{bare_at, token_at}, Fields.{comma_at, next_at, members_at, whole_field_at}}
-use Rattle.sfv_model.specs.Items.{key_at, value_at, parameter_at, parameter_event, parameters_at, item_of, item_at}
+use Rattle.sfv_model.specs.Items.{key_at, value_at, parameter_at, parameter_event, parameters_at, item_at}
 use Rattle.sfv_model.specs.Judgements.{Local, Quiet}
 use Rattle.sfv_model.specs.Members.{inner_item_at, next_item_at, inner_items_at, inner_of, closed_events, inner_at}
 use Rattle.sfv_model.specs.Members.{member_at, entry_at, member_value_at, keyed_at}

@@ -3,8 +3,7 @@ use Rattle.std.proofs.{Common.{ℕ, List, [], ◌++◌, Ok, Err, sym, inl, inr, 
 use Rattle.sfv_spec.specs.{Events.{TreeEvent, events}, Grammar.IsFieldText, Values.RawField}
 use Rattle.sfv_spec.specs.declared.{field_kind.FieldKind.FieldKind, version.Version.Version}
 use Rattle.sfv_spec.proofs.Valid.{accepted_is_value_lem}
-use Rattle.sfv_model.specs.Claims.{VisitedBegins}
-use Rattle.sfv_model.specs.{Fields.whole_field_at, Judgements.Reached, Reader.{Answer, visited}, Visits.BeginsEvents}
+use Rattle.sfv_model.specs.{Claims.VisitedBegins, Judgements.Reached, Reader.{Answer, visited}, Visits.BeginsEvents}
 use Rattle.sfv_model.proofs.sound.{Combinators.Somewhere, Fields.{FieldGoes, Sound-field}}
 
 begun_by : (version : Version) (kind : FieldKind) (es : List TreeEvent) → Somewhere (FieldGoes version kind) es

@@ -5,22 +5,18 @@ use Rattle.sfv_base.proofs.DecimalText.{fraction-one, fraction-two, fraction-thr
 use Rattle.sfv_base.proofs.decimal.DecimalDisplay.fmt.Goals as goal
 
 pub returns-then-fraction-eq0-clause-writes : goal.returns-then-fraction-eq0-clause-writes
-returns-then-fraction-eq0-clause-writes g c = λ plain ok.
-    has_written_of_eq _ _ _ _ _
+returns-then-fraction-eq0-clause-writes g c = λ plain ok. has_written_of_eq _ _ _ _ _
     (written-text (thousandths_of c.args.self.now) _ _ _ c.sign-sign.ensures c.magnitude-magnitude.ensures
-    (fraction-one _ (omega arith) c.if-fraction-eq0.true))
-    (c.write.ensures.writes plain ok)
+    (fraction-one _ (omega arith) c.if-fraction-eq0.true)) (c.write.ensures.writes plain ok)
 
 pub returns-then-fraction-eq0-2-clause-writes : goal.returns-then-fraction-eq0-2-clause-writes
-returns-then-fraction-eq0-2-clause-writes g c = λ plain ok.
-    has_written_of_eq _ _ _ _ _
+returns-then-fraction-eq0-2-clause-writes g c = λ plain ok. has_written_of_eq _ _ _ _ _
     (written-text (thousandths_of c.args.self.now) _ _ _ c.sign-sign.ensures c.magnitude-magnitude.ensures
     (fraction-two _ (omega arith) c.if-fraction-eq0.false c.if-fraction-eq0-2.true))
     (c.write-then-fraction-eq0-2.ensures.writes plain ok)
 
 pub returns-else-fraction-eq0-2-clause-writes : goal.returns-else-fraction-eq0-2-clause-writes
-returns-else-fraction-eq0-2-clause-writes g c = λ plain ok.
-    has_written_of_eq _ _ _ _ _
+returns-else-fraction-eq0-2-clause-writes g c = λ plain ok. has_written_of_eq _ _ _ _ _
     (written-text (thousandths_of c.args.self.now) _ _ _ c.sign-sign.ensures c.magnitude-magnitude.ensures
     (fraction-three _ (omega arith) c.if-fraction-eq0.false c.if-fraction-eq0-2.false))
     (c.write-else-fraction-eq0-2.ensures.writes plain ok)
