@@ -50,19 +50,15 @@ module _ (version : Version) (items : List ItemCalls) (params : List ParamCall) 
       → AllFit version (flat_map item_values (map item_of_calls items))
       → ChecksVersion version (parameter_values (map param_of_call params)) r
       → ChecksVersion version (member_values (supplied_member (inner_list_calls items params false))) r
-  ended_looks r h k = looks_after version (flat_map item_values (map item_of_calls items))
-      (parameter_values (map param_of_call params)) r h k
+  ended_looks r h k = looks_after _ _ _ _ h k
 
 -- the values of the members that are handed over, one after another
-pub list_supplied : (members : List MemberCalls)
-    → flat_map (λ m. member_values (supplied_member m)) (list_calls members)
-    ≡ bare_values list_field (map member_of_calls members)
+pub list_supplied : (members : List MemberCalls) → flat_map (λ m. member_values (supplied_member m))
+    (list_calls members) ≡ bare_values list_field (map member_of_calls members)
 list_supplied members = sym (flat_map-map member_values supplied_member (list_calls members))
     ∙ ap (bare_values list_field) (supplied_list_is members)
 
-pub dictionary_supplied : (members : List (KeyRef × MemberCalls))
-    → flat_map (λ m. member_values (supplied_member m.1)) (dictionary_calls members)
-    ≡ bare_values dictionary_field (map entry_of_calls members)
-dictionary_supplied members =
-    sym (flat_map-map (λ m. member_values m.1) (λ c. (c.0, supplied_member c.1)) (dictionary_calls members))
-    ∙ ap (bare_values dictionary_field) (supplied_dictionary_is members)
+pub dictionary_supplied : (members : List (KeyRef × MemberCalls)) → flat_map (λ m. member_values (supplied_member m.1))
+    (dictionary_calls members) ≡ bare_values dictionary_field (map entry_of_calls members)
+dictionary_supplied members = sym (flat_map-map (λ m. member_values m.1) (λ c. (c.0, supplied_member c.1))
+    (dictionary_calls members)) ∙ ap (bare_values dictionary_field) (supplied_dictionary_is members)

@@ -22,15 +22,12 @@ module _ (calls : List ParamCall) (n : ℕ) (x : ParamCall) (lt : n < length cal
   params_text_more front =
       let so_far : RawParameters = map param_of_call (take n calls) in
       let one : List ℕ = param_text (key_text x.key) (ref_value x.value) in
-      put_before front (parameters_text so_far) _ one
-      (ap parameters_text (mapped_more param_of_call calls n x lt is) ∙ parameters_push so_far (param_of_call x))
+      put_before _ _ _ _ (ap parameters_text (mapped_more _ _ _ _ lt is) ∙ parameters_push _ _)
 
   -- and each is one
   pub are_params_more : AreParameters (map param_of_call (take n calls)) → IsTrue (is_key (key_text x.key))
       → IsBareValue (ref_value x.value) → AreParameters (map param_of_call (take (n + 1) calls))
-  are_params_more h k v =
-      subst AreParameters (sym (mapped_more param_of_call calls n x lt is))
-      (valid_push (map param_of_call (take n calls)) (param_of_call x) h k v)
+  are_params_more h k v = subst AreParameters (sym (mapped_more _ _ _ _ lt is)) (valid_push _ _ h k v)
 
 module _ {W K : Type 0} (w : Sink W) where
   -- more is written

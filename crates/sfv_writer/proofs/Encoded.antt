@@ -25,8 +25,7 @@ each_ascii : (bytes : List ℕ) → list_all (λ x. ltb x 128) (base64_text byte
 unfolding base64_text
 each_ascii [] = refl
 each_ascii (a ∷ []) = rw (symbol_ascii (a / 4), symbol_ascii (a % 4 * 16)) refl
-each_ascii (a ∷ b ∷ []) =
-    rw (symbol_ascii (a / 4), symbol_ascii (a % 4 * 16 + b / 16), symbol_ascii (b % 16 * 4)) refl
+each_ascii (a ∷ b ∷ []) = rw (symbol_ascii (a / 4), symbol_ascii (a % 4 * 16 + b / 16), symbol_ascii (b % 16 * 4)) refl
 each_ascii (a ∷ b ∷ c ∷ rest) =
     rw (symbol_ascii (a / 4), symbol_ascii (a % 4 * 16 + b / 16), symbol_ascii (b % 16 * 4 + c / 64), symbol_ascii (c % 64))
     (each_ascii rest)
@@ -131,8 +130,7 @@ none_for_all before output input rest part after so_far parts lacks =
 pub all_encoded : {Z : Type 0} (before output : String Z) (input rest : List ℕ) → IsEncodedUpTo before input rest output
     → length rest ≡ 0 → string_bytes output ≡ string_bytes before ++ base64_text input
 unfolding base64_text
-all_encoded before output input [] so_far none =
-    so_far.text ∙ rw (so_far.whole, append-nil) refl
+all_encoded before output input [] so_far none = so_far.text ∙ rw (so_far.whole, append-nil) refl
 all_encoded before output input (b ∷ rest) so_far none = absurd (omega (arith, none))
 
 -- the text of whole groups in front, and of the rest

@@ -11,14 +11,12 @@ use Rattle.sfv_writer.{specs.Pairs.lent_pairs, proofs.Words.{lent_list_member, l
 
 pub pairs_front : (s t : List (List ℕ × OwnedBareItem)) (xs : List (Bor (List ℕ) × Bor OwnedBareItem))
     → Yields (TakesFirst deref_pair) s xs t → pairs_tree s ≡ lent_pairs xs ++ pairs_tree t
-pairs_front s t xs ran =
-    ap pairs_tree (rest_so_far deref_pair xs s t ran) ∙ map-append pair_tree (map deref_pair xs) t
+pairs_front s t xs ran = ap pairs_tree (rest_so_far deref_pair xs s t ran) ∙ map-append pair_tree (map deref_pair xs) t
 
 map_front : {A X B : Type 0} (shows : A → X) (tree : X → B) (s t : List X) (xs : List A)
     → Yields (TakesFirst shows) s xs t → map tree s ≡ map (λ x. tree (shows x)) xs ++ map tree t
-map_front shows tree s t xs ran =
-    ap (map tree) (rest_so_far shows xs s t ran) ∙ map-append tree (map shows xs) t
-    ∙ ap (λ ys. ys ++ map tree t) (map-map tree shows xs)
+map_front shows tree s t xs ran = ap (map tree) (rest_so_far shows xs s t ran)
+    ∙ map-append tree (map shows xs) t ∙ ap (λ ys. ys ++ map tree t) (map-map tree shows xs)
 
 pub members_front : (s t : List (List ℕ × ListEntry)) (xs : List (Bor (List ℕ) × Bor ListEntry))
     → Yields (TakesFirst deref_pair) s xs t → dictionary_tree s ≡ map lent_dictionary_member xs ++ dictionary_tree t

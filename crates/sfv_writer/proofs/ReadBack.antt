@@ -63,10 +63,9 @@ pub serialized_is_value : (version : Version) (kind : FieldKind) (value : RawFie
     → IsSerializedAs version kind value (Some t) → IsValue kind value × Fits version kind value
 serialized_is_value version kind value t h =
     let parsed = h.2 in
-    let v = parsed_is_value version kind value t parsed in
+    let v = parsed_is_value _ _ _ _ parsed in
     let same = one_field_lem Rfc9651 kind t parsed.raw value (newer version parsed.raw parsed.accepted)
-    (subst (IsFieldText Rfc9651 kind value) (sym h.1)
-    (round_trip_lem Rfc9651 kind value v.parts (all_fit_newer (bare_values kind value)))) in
+    (subst (IsFieldText Rfc9651 kind value) (sym h.1) (round_trip_lem Rfc9651 kind value v.parts (all_fit_newer _))) in
     (v, subst (Fits version kind) same (accepted_is_value_lem version kind t parsed.raw parsed.accepted).2)
   where
     newer : (version : Version) (raw : RawField kind) → IsFieldText version kind raw t → IsFieldText Rfc9651 kind raw t

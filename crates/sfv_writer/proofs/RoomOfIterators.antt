@@ -115,8 +115,7 @@ pub pairs_lack : {Z : Type 0} (old : String Z) (s t : List (List ℕ × OwnedBar
 pairs_lack old s t taken ran h =
     let front : RawParameters = lent_pairs taken in
     let whole : parameters_text (pairs_tree s) ≡ parameters_text front ++ parameters_text (pairs_tree t) =
-    ap parameters_text (pairs_front s t taken ran)
-    ∙ flat_map-append (λ p. param_text p.0 p.1) front (pairs_tree t) in
+    ap parameters_text (pairs_front s t taken ran) ∙ flat_map-append (λ p. param_text p.0 p.1) front (pairs_tree t) in
     subst (λ (l : List ℕ). LacksRoom old l) (sym whole)
     (room_before old (parameters_text front) (parameters_text (pairs_tree t)) h)
 
@@ -138,7 +137,6 @@ module _ {Z : Type 0} (k : Bor (List ℕ)) (v : Bor OwnedBareItem) (ps : List (B
   pub one_lacks : string_bytes output ≡ string_bytes old ++ parameters_text (lent_pairs ps)
       → string_capacity old ≤ string_capacity output → LacksRoom output (param_text k.now (bare_value v.now))
       → LacksRoom old (parameters_text (lent_pairs (ps ++ (k, v) ∷ [])))
-  one_lacks e c h =
-      subst (λ (l : List ℕ). LacksRoom old l) (sym (ap parameters_text (lent_push k v ps)
-      ∙ parameters_push (lent_pairs ps) (k.now, bare_value v.now)))
+  one_lacks e c h = subst (λ (l : List ℕ). LacksRoom old l)
+      (sym (ap parameters_text (lent_push k v ps) ∙ parameters_push (lent_pairs ps) (k.now, bare_value v.now)))
       (room_after old output (parameters_text (lent_pairs ps)) (param_text k.now (bare_value v.now)) e c h)

@@ -83,8 +83,7 @@ module _ {A S Z : Type 0} {kind : PartKind A} {gives : S → Option A → S → 
     pub stops_unfit : (e : SerializeError) → IsErrAnd r (λ y. y ≡ e) → NamesFirstUnfit version (kind.values x) e
         → IfErr r (StopsEarly kind version gives from separator old was_first)
     stops_unfit e exit names = at_exit r e _ _ exit (stops version e
-        (inr (each_stops version kind.values so_far.taken x [] e fit names))
-        (λ is. absurd (let named = names.2 in cc)))
+        (inr (each_stops version kind.values so_far.taken x [] e fit names)) (λ is. absurd (let named = names.2 in cc)))
 
     -- memory runs out at this part
     pub stops_full : IsErrAnd r (λ y. y ≡ errors.OutOfMemory) → AllFit version (kind.values x)
@@ -110,9 +109,8 @@ module _ {A S Z : Type 0} {kind : PartKind A} {gives : S → Option A → S → 
         → LacksRoom old (parts_text kind separator was_first (so_far.taken ++ x ∷ []))
     lacks_part h =
         let front : List ℕ = parts_text kind separator was_first so_far.taken in
-        subst (λ (l : List ℕ). LacksRoom old l) (sym with_one_more)
-        (room_after old ready (front ++ separator_before is_first separator) (kind.text x) so_far_parted
-        (omega (arith, so_far.grown, room)) h)
+        subst (λ (l : List ℕ). LacksRoom old l) (sym with_one_more) (room_after old ready (front
+        ++ separator_before is_first separator) (kind.text x) so_far_parted (omega (arith, so_far.grown, room)) h)
 
     -- a text after the separator is one after the old text
     pub grown_parted : (new : List ℕ) → Extends (string_bytes ready) new → Extends (string_bytes old) new

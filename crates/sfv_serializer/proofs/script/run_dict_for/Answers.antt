@@ -12,6 +12,5 @@ returns-clause-read_back c =
     (dictionary_fits version calls c.in_ok-check_dictionary_calls.ensures)
 
 pub returns-in_err-check_dictionary_calls-clause-some : goal.returns-in_err-check_dictionary_calls-clause-some
-returns-in_err-check_dictionary_calls-clause-some c =
-    at_exit c.from_residual.result _ _ _ c.from_residual.ensures.1
+returns-in_err-check_dictionary_calls-clause-some c = at_exit c.from_residual.result _ _ _ c.from_residual.ensures.1
     (named_dictionary c.args.version c.args.calls.now _ c.in_err-check_dictionary_calls.ensures)

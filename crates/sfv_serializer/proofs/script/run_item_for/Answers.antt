@@ -16,16 +16,13 @@ returns-in_err-run_item-clause-unsupported c =
     let version = c.args.version in
     let item = item_of_calls c.args.calls.now in
     memory_fails version (bare_values item_field item) c.from_residual-in_err-run_item.result
-    c.from_residual-in_err-run_item.ensures.1
-    c.in_ok-check_item_calls.ensures
+    c.from_residual-in_err-run_item.ensures.1 c.in_ok-check_item_calls.ensures
 
 pub returns-clause-unsupported : goal.returns-clause-unsupported
-returns-clause-unsupported c =
-    c.in_ok-check_item_calls.ensures
+returns-clause-unsupported c = c.in_ok-check_item_calls.ensures
 
 pub returns-clause-read_back : goal.returns-clause-read_back
 returns-clause-read_back c =
     let version = c.args.version in
     let item = item_of_calls c.args.calls.now in
-    read_back version item_field item c.in_ok-run_item.ensures.value
-    c.in_ok-check_item_calls.ensures
+    read_back version item_field item c.in_ok-run_item.ensures.value c.in_ok-check_item_calls.ensures

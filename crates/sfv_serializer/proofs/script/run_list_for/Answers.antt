@@ -7,10 +7,8 @@ pub returns-clause-read_back : goal.returns-clause-read_back
 returns-clause-read_back c =
     let version = c.args.version in
     let calls = c.args.calls.now in
-    read_back version list_field (described_list calls) c.in_ok-has_member.ensures.value
-    (list_fits version calls c.in_ok-check_list_calls.ensures)
+    read_back _ _ _ c.in_ok-has_member.ensures.value (list_fits version calls c.in_ok-check_list_calls.ensures)
 
 pub returns-in_err-check_list_calls-clause-some : goal.returns-in_err-check_list_calls-clause-some
-returns-in_err-check_list_calls-clause-some c =
-    at_exit c.from_residual.result _ _ _ c.from_residual.ensures.1
+returns-in_err-check_list_calls-clause-some c = at_exit c.from_residual.result _ _ _ c.from_residual.ensures.1
     (named_list c.args.version c.args.calls.now _ c.in_err-check_list_calls.ensures)

@@ -8,8 +8,7 @@ use Rattle.sfv_serializer.proofs.Steps.{more_after}
 use Rattle.sfv_serializer.proofs.script.write_dictionary_item.Goals as goal
 
 pub returns-in-Err-clause-out_of_memory : goal.returns-in-Err-clause-out_of_memory
-returns-in-Err-clause-out_of_memory g c =
-    kept_grows g.W.Sink c.args.dictionary.now c.bare_item.follows.lender-at-none
+returns-in-Err-clause-out_of_memory g c = kept_grows g.W.Sink c.args.dictionary.now c.bare_item.follows.lender-at-none
     (of_error _ _ _ c.in-Err.is c.bare_item.follows.holds-at-none).0
 
 pub loop-call-init : goal.loop-call-init

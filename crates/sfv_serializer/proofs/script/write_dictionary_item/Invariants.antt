@@ -8,9 +8,8 @@ use Rattle.sfv_serializer.proofs.Scripts.{item_so_far}
 use Rattle.sfv_serializer.proofs.script.write_dictionary_item.Given as goal
 
 abbrev pub invariant-loop-call : goal.invariant-loop-call
-invariant-loop-call g l =
-    ((params_sink l.params).ghost_name ≡ (params_sink l.initial.params).ghost_name)
-    × HasAppended g.W.Sink l.fn.dictionary (params_sink l.params).now
-    (separator_before (is_empty_so_far l.fn.dictionary) (codes ", ")
+invariant-loop-call g l = ((params_sink l.params).ghost_name ≡ (params_sink l.initial.params).ghost_name)
+    × HasAppended g.W.Sink l.fn.dictionary
+    (params_sink l.params).now (separator_before (is_empty_so_far l.fn.dictionary) (codes ", ")
     ++ dictionary_member_text (key_text l.name, item (item_so_far l.calls l.call-index))) false
     × IsItem (item_so_far l.calls l.call-index) × (params_version l.params ≡ Rfc9651)

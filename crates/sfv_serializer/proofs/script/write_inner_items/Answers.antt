@@ -25,8 +25,7 @@ loop-calls-preserved g c =
         w.text.0.3 ∙ row.0.3,
         w.text.0.4 ∙ row.0.4,
       ),
-      item_more items c.loop-calls.calls-index c.calls-item.result _ _ _ _ _ _ within c.calls-item.is row.1 w.text.2
-          w.text.1 w.value,
+      item_more _ _ _ _ _ _ _ _ _ within c.calls-item.is row.1 w.text.2 w.text.1 w.value,
       w.text.3 ∙ row.2,
       w.text.4 ∙ row.3,
       no_less row.4 w.text.5,

@@ -5,10 +5,8 @@ use Rattle.sfv_serializer.specs.{Scripts.item_of_calls, Serializers.{IsSameSeque
 use Rattle.sfv_serializer.proofs.script.write_inner_items.Given as goal
 
 abbrev pub invariant-loop-calls : goal.invariant-loop-calls
-invariant-loop-calls g l =
-    IsSameSequence g.W.Sink l.fn.inner.sink l.inner.sink
-    × IsLed item_text IsItem (codes " ") (map item_of_calls (take l.calls-index l.items))
-    (is_empty_so_far l.fn.inner) (is_empty_so_far l.inner)
+invariant-loop-calls g l = IsSameSequence g.W.Sink l.fn.inner.sink l.inner.sink × IsLed item_text IsItem
+    (codes " ") (map item_of_calls (take l.calls-index l.items)) (is_empty_so_far l.fn.inner) (is_empty_so_far l.inner)
     (string_bytes (g.W.Sink.text l.fn.inner.sink.now.sink)) (string_bytes (g.W.Sink.text l.inner.sink.now.sink))
     × (l.inner.version ≡ l.fn.inner.version) × (l.inner.kind ≡ l.fn.inner.kind)
     × (string_capacity (g.W.Sink.text l.fn.inner.sink.now.sink) ≤ string_capacity (g.W.Sink.text l.inner.sink.now.sink))

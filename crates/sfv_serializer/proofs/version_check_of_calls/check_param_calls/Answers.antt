@@ -17,14 +17,12 @@ returns-in_err-check_bare_item c =
     let calls = c.args.calls.now in
     let within : c.loop-call.call-index < length calls = search rules in
     at_exit c.from_residual.result _ _ _ c.from_residual.ensures.1
-    (subst (λ bs. NamesFirstUnfit c.args.version bs c.in_err-check_bare_item.field-0.0)
-    (params_values (map param_of_call calls))
-    (slice_stops c.args.version param_of_call values_of_param calls c.loop-call.call-index
+    (subst (λ bs. NamesFirstUnfit c.args.version bs c.in_err-check_bare_item.field-0.0) (params_values
+    (map param_of_call calls)) (slice_stops c.args.version param_of_call values_of_param calls c.loop-call.call-index
     c.call-item.result _ within c.call-item.is c.loop-call.invariant c.in_err-check_bare_item.ensures))
 
 pub returns : goal.returns
 returns c =
     let calls = c.args.calls.now in
-    subst (AllFit c.args.version) (params_values (map param_of_call calls))
-    (subst (λ cs. AllFit c.args.version (flat_map values_of_param (map param_of_call cs)))
-    (take_all c.loop-call.call-index calls (search rules)) c.loop-call.invariant)
+    subst (AllFit c.args.version) (params_values _) (subst (λ cs. AllFit c.args.version (flat_map values_of_param
+    (map param_of_call cs))) (take_all c.loop-call.call-index calls (search rules)) c.loop-call.invariant)

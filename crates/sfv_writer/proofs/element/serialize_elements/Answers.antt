@@ -43,9 +43,8 @@ pub returns-in_err-serialize-clause-room : goal.returns-in_err-serialize-clause-
 returns-in_err-serialize-clause-room g c =
     let none = none_taken g.E.Element.part g.I.Iterator.next_gives c.args.elements c.args.separator.now true c.args.output.now c.args.elements refl in
     anyway _ _ (lacks_more c.in-Some.first none c.in-Some.ensures.steps
-    (lacks_part c.in-Some.first none c.in-Some.ensures.steps c.prepare_for.new.output
-    (c.prepare_for.ensures.text ∙ sym (append-nil (string_bytes c.args.output.now))) c.prepare_for.ensures.room
-    c.in_err-serialize.ensures.room.1))
+    (lacks_part c.in-Some.first none c.in-Some.ensures.steps c.prepare_for.new.output (c.prepare_for.ensures.text
+    ∙ sym (append-nil (string_bytes c.args.output.now))) c.prepare_for.ensures.room c.in_err-serialize.ensures.room.1))
 
 pub returns-in_err-serialize_separator-clause-room : goal.returns-in_err-serialize_separator-clause-room
 returns-in_err-serialize_separator-clause-room g c =

@@ -52,10 +52,9 @@ pub returns-clause-distinct : goal.returns-clause-distinct
 returns-clause-distinct g c = pairs_distinct c.args.params.now.entries c.iter-key-items.ensures.unique
 
 pub returns-in_err-serialize_parameter-clause-text : goal.returns-in_err-serialize_parameter-clause-text
-returns-in_err-serialize_parameter-clause-text g c =
-    stops (string_bytes c.args.output.now) _ _ _ (parameters_text (pairs_tree c.args.params.now.entries))
-    c.from_residual.result c.from_residual.ensures.0 c.loop-key.invariant.led.text
-    c.in_err-serialize_parameter.ensures.text
+returns-in_err-serialize_parameter-clause-text g c = stops (string_bytes c.args.output.now) _ _ _
+    (parameters_text (pairs_tree c.args.params.now.entries)) c.from_residual.result c.from_residual.ensures.0
+    c.loop-key.invariant.led.text c.in_err-serialize_parameter.ensures.text
 
 pub returns-in_err-serialize_parameter-clause-room : goal.returns-in_err-serialize_parameter-clause-room
 returns-in_err-serialize_parameter-clause-room g c =

@@ -8,8 +8,7 @@ pub returns-then-is_empty-clause-text : goal.returns-then-is_empty-clause-text
 returns-then-is_empty-clause-text c = first_of_none member_tree c.args.list.now.items (search rules)
 
 pub returns-in_err-serialize-clause-out_of_memory : goal.returns-in_err-serialize-clause-out_of_memory
-returns-in_err-serialize-clause-out_of_memory c =
-    anyway _ c.from_residual.result (first_of_some member_tree c.args.list.now.items (search rules))
+returns-in_err-serialize-clause-out_of_memory c = anyway _ _ (first_of_some _ _ (search rules))
 
 pub returns-clause-text : goal.returns-clause-text
 returns-clause-text c =

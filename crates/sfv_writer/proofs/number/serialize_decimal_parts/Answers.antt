@@ -29,10 +29,8 @@ returns-in_err-serialize_natural-clause-text g c =
       | then-value-lt0+in_ok-push w ↦ (_, ap string_bytes w.output-is ∙ w.in_ok-push.ensures.bytes)
       | else-value-lt0 w ↦ unchanged old _ (ap string_bytes w.output-is)
     ] in
-    stops old front.0 _ _ (decimal_text (thousandths_of c.args.value))
-    c.from_residual-in_err-serialize_natural.result c.from_residual-in_err-serialize_natural.ensures.0
-    front.1
-    (unchanged _ _ c.in_err-serialize_natural.ensures.text)
+    stops old front.0 _ _ (decimal_text (thousandths_of c.args.value)) c.from_residual-in_err-serialize_natural.result
+    c.from_residual-in_err-serialize_natural.ensures.0 front.1 (unchanged _ _ c.in_err-serialize_natural.ensures.text)
 
 pub returns-in_err-push-2-clause-text : goal.returns-in_err-push-2-clause-text
 returns-in_err-push-2-clause-text g c =

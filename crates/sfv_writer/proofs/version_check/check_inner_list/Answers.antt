@@ -8,15 +8,12 @@ pub returns-in_err-check_items : goal.returns-in_err-check_items
 returns-in_err-check_items c =
     let version = c.args.version in
     at_exit c.from_residual.result _ _ _ c.from_residual.ensures.1
-    (names_front version (flat_map item_values (map item_tree c.args.list.now.items.items))
-    (parameter_values (pairs_tree c.args.list.now.params.entries)) _
-    (subst (λ is. NamesFirstUnfit version (flat_map item_values (map item_tree is)) c.in_err-check_items.field-0.0) c.deref.ensures.value
-    c.in_err-check_items.ensures))
+    (names_front version (flat_map item_values (map item_tree c.args.list.now.items.items)) (parameter_values
+    (pairs_tree c.args.list.now.params.entries)) _ (subst (λ is. NamesFirstUnfit version (flat_map item_values
+    (map item_tree is)) c.in_err-check_items.field-0.0) c.deref.ensures.value c.in_err-check_items.ensures))
 
 pub returns : goal.returns
 returns c =
     let version = c.args.version in
-    looks_after version (flat_map item_values (map item_tree c.args.list.now.items.items))
-    (parameter_values (pairs_tree c.args.list.now.params.entries)) c.check_parameters.result
-    (subst (λ is. AllFit version (flat_map item_values (map item_tree is))) c.deref.ensures.value
-    c.in_ok-check_items.ensures) c.check_parameters.ensures
+    looks_after _ _ _ _ (subst (λ is. AllFit version (flat_map item_values
+    (map item_tree is))) c.deref.ensures.value c.in_ok-check_items.ensures) c.check_parameters.ensures

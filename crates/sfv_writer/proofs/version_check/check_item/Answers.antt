@@ -17,6 +17,5 @@ pub returns : goal.returns
 returns c =
     let version = c.args.version in
     let params = parameter_values (pairs_tree c.args.item.now.params.entries) in
-    looks_after version (bare_value c.args.item.now.bare_item ∷ []) params c.check_parameters.result
-    (subst (λ b. AllFit version (b ∷ [])) c.as_ref_item.ensures.value c.in_ok-check_bare_item.ensures)
-    c.check_parameters.ensures
+    looks_after _ (bare_value c.args.item.now.bare_item ∷ []) _ _ (subst (λ b. AllFit version
+    (b ∷ [])) c.as_ref_item.ensures.value c.in_ok-check_bare_item.ensures) c.check_parameters.ensures

@@ -4,6 +4,5 @@ use Rattle.sfv_writer.{specs.Versions.ChecksVersion, proofs.Checks.{checks_whole
 use Rattle.sfv_writer.proofs.version_check.check_parameters.Goals as goal
 
 pub returns : goal.returns
-returns c = subst (λ bs. ChecksVersion c.args.version bs c.check_all.result) (param_values c.args.params.now.entries)
-    (checks_whole (λ b. b ∷ []) c.args.version c.check_all.result
-    (map_gives deref bare_value c.values.result (values_of c.args.params.now.entries) c.values.ensures.rest) c.check_all.ensures)
+returns c = subst (λ bs. ChecksVersion c.args.version bs c.check_all.result) (param_values _)
+    (checks_whole (λ b. b ∷ []) c.args.version _ (map_gives _ _ _ _ c.values.ensures.rest) c.check_all.ensures)
