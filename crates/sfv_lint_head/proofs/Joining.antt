@@ -25,8 +25,7 @@ other_byte : (b : ℕ) (t : List ℕ) (more : before_first b (lines_of_text t) �
 other_byte b t more true e = rw e refl
 other_byte b t more false e = rw e more
 
-pub lines_split : (b : ℕ) (t : List ℕ)
-    → lines_of_text (b ∷ t) ≡ first_line (b ∷ t) ∷ lines_of_text (after_line (b ∷ t))
+pub lines_split : (b : ℕ) (t : List ℕ) → lines_of_text (b ∷ t) ≡ first_line (b ∷ t) ∷ lines_of_text (after_line (b ∷ t))
 lines_split b [] = other_byte b [] refl (b == 10) refl
 lines_split b (c ∷ t) = other_byte b (c ∷ t) (ap (before_first b) (lines_split c t)) (b == 10) refl
 

@@ -50,11 +50,9 @@ feeds-append : (s t : List ℕ) → line_feeds (s ++ t) ≡ line_feeds s + line_
 feeds-append s t = grind (arith, common_steps)
 
 field_has_feed : (name raw : List ℕ) (end : LineEnd) → 1 ≤ line_feeds (name ++ 58 ∷ raw ++ print_end end)
-field_has_feed name raw end =
-    omega (arith, feeds-append (name ++ 58 ∷ raw) (print_end end), end_has_feed end)
+field_has_feed name raw end = omega (arith, feeds-append (name ++ 58 ∷ raw) (print_end end), end_has_feed end)
 
-section_has_feeds : (fields : List Field) (last : LineEnd)
-    → length fields ≤ line_feeds (print_section fields last)
+section_has_feeds : (fields : List Field) (last : LineEnd) → length fields ≤ line_feeds (print_section fields last)
 section_has_feeds [] last = omega arith
 section_has_feeds (f ∷ fields) last =
     let split : print_section (f ∷ fields) last ≡ print_field f ++ print_section fields last
@@ -100,9 +98,8 @@ module _ (line : List ℕ) (i : ℕ) (h : i < length line) where
 pub values_of_push : (name : List ℕ) (lines : List (List ℕ × List ℕ)) (line : List ℕ × List ℕ) (b : Bool)
     → str_eq_ignore_ascii_case line.0 name ≡ b
     → values_of name (lines ++ line ∷ []) ≡ values_of name lines ++ (if b then line.1 ∷ [] else [])
-values_of_push name lines line b h =
-    ap (map (λ line. line.1)) (filter-append (λ line. str_eq_ignore_ascii_case line.0 name) lines (line ∷ []))
-    ∙ rw (map-append, h) (one b)
+values_of_push name lines line b h = ap (map (λ line. line.1))
+    (filter-append (λ line. str_eq_ignore_ascii_case line.0 name) lines (line ∷ [])) ∙ rw (map-append, h) (one b)
   where
     one : (b : Bool) → values_of name lines ++ map (λ line. line.1) (if b then line ∷ [] else [])
         ≡ values_of name lines ++ (if b then line.1 ∷ [] else [])
