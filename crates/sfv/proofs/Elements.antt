@@ -24,21 +24,18 @@ through separator text lent taken all is = in_a_row_first separator (map (λ x. 
 -- all members of a list
 pub members_all : (s : Iter ListEntry) (taken : List (Bor ListEntry)) → Drains iter_steps s taken
     → parts_text list_members (codes ", ") true taken ≡ canonical list_field (list_tree (iter_rest s))
-members_all s taken drained = through (codes ", ") member_text (λ (m : Bor ListEntry). member_tree m.now) taken
-    (list_tree (iter_rest s)) ((slice_gives member_tree s (iter_rest s) refl).all taken drained)
+members_all s taken drained = through _ _ _ _ _ ((slice_gives _ _ _ refl).all taken drained)
 
 -- all items of an inner list
 pub items_all : (s : Iter Item) (taken : List (Bor Item)) → Drains iter_steps s taken
     → parts_text inner_items (codes " ") true taken ≡ joined (codes " ") (map item_text (map item_tree (iter_rest s)))
-items_all s taken drained = through (codes " ") item_text (λ (i : Bor Item). item_tree i.now) taken
-    (map item_tree (iter_rest s)) ((slice_gives item_tree s (iter_rest s) refl).all taken drained)
+items_all s taken drained = through _ _ _ _ _ ((slice_gives _ _ _ refl).all taken drained)
 
 -- all members of a dictionary
 pub entries_all : (es : List (List ℕ × ListEntry)) (taken : List (Bor (List ℕ) × Bor ListEntry))
     → Drains (TakesFirst deref_pair) es taken
     → parts_text dictionary_members (codes ", ") true taken ≡ canonical dictionary_field (dictionary_tree es)
-entries_all es taken drained = through (codes ", ") dictionary_member_text (λ m. entry_tree (deref_pair m)) taken
-    (dictionary_tree es) ((map_gives deref_pair entry_tree es es refl).all taken drained)
+entries_all es taken drained = through _ _ _ _ _ ((map_gives _ _ _ _ refl).all taken drained)
 
 -- ---- one element
 
@@ -52,8 +49,7 @@ pub one_inner_item : (i : RawItem) (ps : RawParameters)
     → inner_list_text (record { items = i ∷ []; parameters = ps }) ≡ codes "(" ++ item_text i ++ codes ")" ++ parameters_text ps
 one_inner_item i ps = refl
 
-pub one_parameter : (key : List ℕ) (b : BareValue)
-    → parameters_text ((key, b) ∷ []) ≡ codes ";" ++ key ++ value_text b
+pub one_parameter : (key : List ℕ) (b : BareValue) → parameters_text ((key, b) ∷ []) ≡ codes ";" ++ key ++ value_text b
 one_parameter key b = append-nil (codes ";" ++ key ++ value_text b)
 
 -- ---- an inner list that was begun, written and ended

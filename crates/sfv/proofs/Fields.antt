@@ -22,9 +22,8 @@ pub last_set : {A S X : Type 0} (holds : S → Type 0) (step : S → List ℕ ×
     → (look (fold step s pairs) ≡ of (last_of key pairs)) × holds (fold step s pairs)
 last_set {A} {S} {X} holds step look key of set pairs s h none =
     let own : bytes_eq key key ≡ true = (bytes_eq-Decides key key).1 refl in
-    let kept = last_kept holds step look key (λ v. of (Some v))
-    (λ s k v h n. let now = set s k v h in (now.0 ∙ rw n refl, now.1))
-    (λ s v h. let now = set s key v h in (now.0 ∙ rw own refl, now.1)) pairs s h in
+    let kept = last_kept holds step look key (λ v. of (Some v)) (λ s k v h n. let now = set s k v h in
+    (now.0 ∙ rw n refl, now.1)) (λ s v h. let now = set s key v h in (now.0 ∙ rw own refl, now.1)) pairs s h in
     (kept.0 ∙ rw none (by_default (last_of key pairs)), kept.1)
   where
     by_default : (o : Option A) → unwrap_or (option_map (λ v. of (Some v)) o) (of None) ≡ of o
@@ -56,9 +55,8 @@ module _ {S : Type 0} (step : S → TreeEvent → S) where
   pub parameters_kept : (state : RawParameters → S)
       → ((ps : RawParameters) (k : List ℕ) (v : BareValue) → step (state ps) (parameter k v) ≡ state (ps ++ (k, v) ∷ []))
       → (ps : RawParameters) → fold step (state []) (parameters_events ps) ≡ step (state ps) parameters_end
-  parameters_kept state next ps = fold_parameters step ps (state [])
-      ∙ ap (λ (s : S). step s parameters_end) (state_kept (λ s p. step s (parameter p.0 p.1)) state
-      (λ ps p. next ps p.0 p.1) ps)
+  parameters_kept state next ps = fold_parameters step ps (state []) ∙ ap (λ (s : S). step s parameters_end)
+      (state_kept (λ s p. step s (parameter p.0 p.1)) state (λ ps p. next ps p.0 p.1) ps)
 
   -- a state is idle if each of six kinds of event leaves it
   pub idle_by : {s : S} → step s begins_item ≡ s → step s begins_inner_list ≡ s → ((b : BareValue) → step s (bare_item b) ≡ s)
@@ -76,9 +74,8 @@ module _ {S : Type 0} (step : S → TreeEvent → S) where
   -- The looked-at part, after the members of a list, is a fold over the ordered list by a function of each member.
   pub list_read : {X : Type 0} (look : S → X) (next : X → RawMember → X)
       → ((x : X) (m : RawMember) → next x (ordered_member m) ≡ next x m)
-      → ((s : S) (m : RawMember) → look (fold step s (entry_events m)) ≡ next (look s) m)
-      → (raw : List RawMember) (s : S)
-      → look (fold step s (events list_field raw)) ≡ fold next (look s) (ordered list_field raw)
+      → ((s : S) (m : RawMember) → look (fold step s (entry_events m)) ≡ next (look s) m) → (raw : List RawMember)
+      (s : S) → look (fold step s (events list_field raw)) ≡ fold next (look s) (ordered list_field raw)
   list_read {X} look next same kept raw s = ap look (fold_entries step raw s) ∙ members raw s
     where
       members : (raw : List RawMember) (s : S) → look (fold (λ s m. fold step s (entry_events m)) s raw)
@@ -114,10 +111,8 @@ pub answer_read : {V S O X : Type 0} {finishes : V → O → Type 0} (view : V �
 answer_read {V} {S} view step look shown kind of start finished all {version} {t} {from} {out} begun h = (
   ordered kind h.raw,
   record { raw = h.raw; accepted = h.accepted; only = λ other k. one_field_lem version kind t other h.raw k h.accepted; holds = refl },
-  finished h.holds.0 out h.holds.2
-      ∙ ap look (runs_fold view step (events kind h.raw) from h.holds.0 h.holds.1
-      ∙ ap (λ (s : S). fold step s (events kind h.raw)) begun)
-      ∙ all h.raw,
+  finished h.holds.0 out h.holds.2 ∙ ap look (runs_fold view step (events kind h.raw) from h.holds.0 h.holds.1
+      ∙ ap (λ (s : S). fold step s (events kind h.raw)) begun) ∙ all h.raw,
 )
 
 -- The text of calls that describe a value parses back to it under both versions, if the older one has the value.

@@ -33,8 +33,7 @@ item_none version t k q h = fault_bind (bare_at version) _ t k q h
 entry_none : (version : Version) (t : List ℕ) (k : ErrorKind) (q : List ℕ) → Apart (byte left_parenthesis) t
     → located (bare_at version t) ≡ Err (k, q) → located (entry_at version t) ≡ Err (k, q)
 unfolding entry_at member_at led
-entry_none version t k q apart h =
-    led_located (entry ∷ []) _ k q (ap located (branch_past _ _ _ t apart)
+entry_none version t k q apart h = led_located (entry ∷ []) _ k q (ap located (branch_past _ _ _ t apart)
     ∙ led_located (begins_item ∷ []) _ k q (fault_bind (item_at version) _ t k q (item_none version t k q h)))
 
 keyed_none : (version : Version) (t : List ℕ) (k : ErrorKind) (q : List ℕ) → located (key_at t) ≡ Err (k, q)
@@ -59,23 +58,17 @@ no_item : (version : Version) (t s r : List ℕ) (e : Error) → span is_space t
 no_item version t s r e skipped fault = carried version item_field t e (bare_at version r)
     (λ k q h. field_faulty version t s r k q skipped (item_none version r k q h)) fault
 
-no_list : (version : Version) (t s r : List ℕ) (e : Error) → span is_space t ≡ Ok (s, r)
-    → is_some (first r) ≡ true → Apart (byte left_parenthesis) r
-    → IsFaultOf t e (bare_at version r) → IsParseError version list_field t e
+no_list : (version : Version) (t s r : List ℕ) (e : Error) → span is_space t ≡ Ok (s, r) → is_some (first r) ≡ true
+    → Apart (byte left_parenthesis) r → IsFaultOf t e (bare_at version r) → IsParseError version list_field t e
 unfolding read_field whole_field_at first_of
-no_list version t s r e skipped some apart fault = carried version list_field t e (bare_at version r)
-    (λ k q h. ending_located (events list_field) _ k q
-    (ap located (members_first entry_events (entry_at version) t s r skipped some)
-    ∙ fault_bind (entry_at version) _ r k q (entry_none version r k q apart h))) fault
+no_list version t s r e skipped some apart fault = carried _ _ _ _ _ (λ k q h. ending_located _ _ _ _
+    (ap located (members_first _ _ _ _ _ skipped some) ∙ fault_bind _ _ _ _ _ (entry_none _ _ _ _ apart h))) fault
 
 pub no_dictionary : (version : Version) (t s r : List ℕ) (e : Error) → span is_space t ≡ Ok (s, r)
-    → is_some (first r) ≡ true
-    → IsFaultOf t e (key_at r) → IsParseError version dictionary_field t e
+    → is_some (first r) ≡ true → IsFaultOf t e (key_at r) → IsParseError version dictionary_field t e
 unfolding read_field whole_field_at first_of
-no_dictionary version t s r e skipped some fault = carried version dictionary_field t e (key_at r)
-    (λ k q h. ending_located (events dictionary_field) _ k q
-    (ap located (members_first keyed_events (keyed_at version) t s r skipped some)
-    ∙ fault_bind (keyed_at version) _ r k q (keyed_none version r k q h))) fault
+no_dictionary version t s r e skipped some fault = carried _ _ _ _ _ (λ k q h. ending_located _ _ _ _
+    (ap located (members_first _ _ _ _ _ skipped some) ∙ fault_bind _ _ _ _ _ (keyed_none _ _ _ _ h))) fault
 
 -- what a look at the cursor found is found in what the cursor keeps
 found : (k : Parser × Global) (c : Cursor) (e : Error) → kept c ≡ k
@@ -88,15 +81,12 @@ pub item_refused : (k : Parser × Global) (c : Cursor) (s : List ℕ) (result : 
     → span is_space (kept_input k) ≡ Ok (s, rest c)
     → IfErr result (λ e. IsFaultOf (input c) e (bare_at (version c) (rest c)))
     → IfErr result (IsParseError (kept_version k) item_field (kept_input k))
-item_refused k c s result same skipped =
-    IfErr-weaker result _ _ (λ e fault. no_item (kept_version k) (kept_input k) s (rest c) e skipped
-    (found k c e same fault))
+item_refused k c s result same skipped = IfErr-weaker result _ _
+    (λ e fault. no_item (kept_version k) (kept_input k) s (rest c) e skipped (found k c e same fault))
 
-pub list_refused : (k : Parser × Global) (c : Cursor) (s : List ℕ) (result : Result (Unit {0}) Error) → kept c ≡ k
-    → span is_space (kept_input k) ≡ Ok (s, rest c) → is_some (first (rest c)) ≡ true
-    → Apart (byte left_parenthesis) (rest c)
-    → IfErr result (λ e. IsFaultOf (input c) e (bare_at (version c) (rest c)))
+pub list_refused : (k : Parser × Global) (c : Cursor) (s : List ℕ) (result : Result (Unit {0}) Error)
+    → kept c ≡ k → span is_space (kept_input k) ≡ Ok (s, rest c) → is_some (first (rest c)) ≡ true
+    → Apart (byte left_parenthesis) (rest c) → IfErr result (λ e. IsFaultOf (input c) e (bare_at (version c) (rest c)))
     → IfErr result (IsParseError (kept_version k) list_field (kept_input k))
-list_refused k c s result same skipped some apart =
-    IfErr-weaker result _ _ (λ e fault. no_list (kept_version k) (kept_input k) s (rest c) e skipped some apart
-    (found k c e same fault))
+list_refused k c s result same skipped some apart = IfErr-weaker result _ _
+    (λ e fault. no_list (kept_version k) (kept_input k) s (rest c) e skipped some apart (found k c e same fault))

@@ -60,11 +60,9 @@ module _ {S : Type 0} (step : S → TreeEvent → S) where
       → ((s : S) (m : RawMember) → look (fold step s (keyed_events (key, m))) ≡ of m)
       → (raw : List (List ℕ × RawMember)) (s : S) → look (fold step s (events dictionary_field raw))
       ≡ unwrap_or (option_map of (last_of key (ordered dictionary_field raw))) (look s)
-  last_read look key of same other own raw s =
-      ap look (fold_members step raw s)
-      ∙ (last_kept (λ _. Unit {0}) (λ s m. fold step s (keyed_events m)) look key of
-      (λ s k m h n. (other s k m n, tt)) (λ s m h. (own s m, tt)) raw s tt).0
-      ∙ sym (in_order (last_of key raw)) ∙ ap (λ o. unwrap_or (option_map of o) (look s)) (sym (last_of-ordered key raw))
+  last_read look key of same other own raw s = ap look (fold_members step raw s) ∙ (last_kept (λ _. Unit {0})
+      (λ s m. fold step s (keyed_events m)) _ _ _ (λ s k m h n. (other s k m n, tt)) (λ s m h. (own s m, tt)) _ _ tt).0
+      ∙ sym (in_order (last_of key raw)) ∙ ap (λ o. unwrap_or (option_map of o) (look s)) (sym (last_of-ordered _ _))
     where
       in_order : (o : Option RawMember)
           → unwrap_or (option_map of (option_map ordered_member o)) (look s) ≡ unwrap_or (option_map of o) (look s)

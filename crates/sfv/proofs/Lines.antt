@@ -15,17 +15,15 @@ dictionary_again a b =
     let g : List ℕ × RawMember → List ℕ × RawMember = λ m. (m.0, ordered_member m.1) in
     let first = sym (collapse-over ordered_member (ordered dictionary_field a ++ b))
     ∙ ap collapse (map-append g (ordered dictionary_field a) b) in
-    let same : map g (ordered dictionary_field a) ≡ collapse (map g a) =
-    ap (map g) (sym (collapse-distinct (ordered dictionary_field a) (is_ordered dictionary_field a).0))
-    ∙ ordered_same dictionary_field (ordered dictionary_field a) (is_ordered dictionary_field a)
-    ∙ sym (collapse-over ordered_member a) in
+    let same : map g (ordered dictionary_field a) ≡ collapse (map g a) = ap (map g) (sym
+    (collapse-distinct (ordered dictionary_field a) (is_ordered dictionary_field a).0)) ∙ ordered_same dictionary_field
+    (ordered dictionary_field a) (is_ordered dictionary_field a) ∙ sym (collapse-over ordered_member a) in
     let twice : collapse (collapse (map g a)) ≡ collapse (map g a) =
     collapse-distinct (collapse (map g a)) (no_repeats-collapse (map g a)) in
     let last = sym (ap collapse (map-append g a b)) ∙ collapse-over ordered_member (a ++ b) in
     first ∙ ap (λ (es : List (List ℕ × RawMember)). collapse (es ++ map g b)) same
-    ∙ sym (entered_all-collapse (collapse (map g a)) (map g b))
-    ∙ ap (λ (es : List (List ℕ × RawMember)). entered_all es (map g b)) twice
-    ∙ entered_all-collapse (map g a) (map g b) ∙ last
+    ∙ sym (entered_all-collapse (collapse (map g a)) (map g b)) ∙ ap (λ (es : List (List ℕ × RawMember)). entered_all es
+    (map g b)) twice ∙ entered_all-collapse (map g a) (map g b) ∙ last
 
 some_member : {A : Type 0} {ms : List A} → (m : A) × (rest : List A) × (ms ≡ m ∷ rest) → 0 < length ms
 some_member h = rw h.2 (omega arith)

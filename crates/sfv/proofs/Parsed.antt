@@ -33,9 +33,8 @@ located_at version kind t f index e here le =
 unnamed : (e : Error) → e.index ≡ None → e.kind ≡ OutOfMemory → e ≡ out_of_memory
 unnamed e i k = ap (λ (o : Option ℕ). error_of e.kind o) i ∙ ap (λ (kind : ErrorKind). error_of kind None) k
 
-pub located_fault : {A : Type 0} (answer : Result A Fault) (k : ErrorKind) (r : List ℕ) → located_whole answer
-    ≡ Err (k, r)
-    → (f : Fault) × (answer ≡ Err f) × (f.kind ≡ k) × (f.rest ≡ r)
+pub located_fault : {A : Type 0} (answer : Result A Fault) (k : ErrorKind) (r : List ℕ)
+    → located_whole answer ≡ Err (k, r) → (f : Fault) × (answer ≡ Err f) × (f.kind ≡ k) × (f.rest ≡ r)
 located_fault (Ok v) k r h = absurd cc
 located_fault (Err f) k r h =
     let there : ErrorKind × List ℕ = (k, r) in

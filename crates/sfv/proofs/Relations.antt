@@ -30,9 +30,8 @@ Answers takes finishes version kind t from out =
 -- an error at one of these events, or, if the visitor may, in finish after all of them
 abbrev pub FailsIn : {S E : Type 0} → (S → TreeEvent → S → Type 0) → (S → TreeEvent → E → Type 0) → (S → E → Type 0) → S
     → List TreeEvent → Type 0 → E → Type 0
-FailsIn {S} takes fails finish_fails from es may_finish error =
-    ((before : List TreeEvent) × (e : TreeEvent) × (after : List TreeEvent) × (s : S) × (es ≡ before ++ e ∷ after)
-    × FoldsTo takes from before s × fails s e error)
+FailsIn {S} takes fails finish_fails from es may_finish error = ((before : List TreeEvent) × (e : TreeEvent)
+    × (after : List TreeEvent) × (s : S) × (es ≡ before ++ e ∷ after) × FoldsTo takes from before s × fails s e error)
     ⊎ (may_finish × (last : S) × FoldsTo takes from es last × finish_fails last error)
 
 -- a syntax error is one of `parse`; one for characters after an item comes after the visitor has finished
@@ -47,15 +46,12 @@ HasSyntax takes finishes version kind t from (Visitor error) = ⊤
 abbrev pub HasVisitorError : {S E : Type 0} → (S → TreeEvent → S → Type 0) → (S → TreeEvent → E → Type 0)
     → (S → E → Type 0) → Version → FieldKind → List ℕ → S → ParseError E → Type 0
 HasVisitorError takes fails finish_fails version kind t from (Syntax e) = ⊤
-HasVisitorError takes fails finish_fails version kind t from (Visitor error) =
-    ((raw : RawField kind) → IsFieldText version kind raw t
-    → FailsIn takes fails finish_fails from (events kind raw) ⊤ error)
-    × (¬ IsAccepted version kind t
-    → ((raw : RawField kind) × IsFieldValue kind raw
-    × FailsIn takes fails finish_fails from (events kind raw) (kind ≡ item_field) error)
-    × ((n : ℕ) → IsReach version kind t n → (raw : RawField kind) × (more : List ℕ)
-    × IsFieldText version kind raw (take n t ++ more)
-    × FailsIn takes fails finish_fails from (events kind raw) ((kind ≡ item_field) × (more ≡ [])) error))
+HasVisitorError takes fails finish_fails version kind t from (Visitor error) = ((raw : RawField kind)
+    → IsFieldText version kind raw t → FailsIn takes fails finish_fails from (events kind raw) ⊤ error)
+    × (¬ IsAccepted version kind t → ((raw : RawField kind) × IsFieldValue kind raw
+    × FailsIn takes fails finish_fails from (events kind raw) (kind ≡ item_field) error) × ((n : ℕ)
+    → IsReach version kind t n → (raw : RawField kind) × (more : List ℕ) × IsFieldText version kind raw (take n t
+    ++ more) × FailsIn takes fails finish_fails from (events kind raw) ((kind ≡ item_field) × (more ≡ [])) error))
 
 -- the bare item that comes first
 abbrev pub HasFirst : {S E : Type 0} → (S → TreeEvent → S → Type 0) → (S → TreeEvent → E → Type 0) → (S → E → Type 0)
@@ -71,9 +67,8 @@ abbrev pub HasBorrowed : {S O : Type 0} → (S → TreeEvent → S → Type 0) �
     → Version → List ℕ → S → O → Type 0
 HasBorrowed {S} takes takes_read finishes version t from out = (read : ReadBareItem) × (parameters : RawParameters)
     × IsFieldText version item_field (record { bare = input_value read; parameters = parameters }) t
-    × (stands : BeginsWithLongest version (input_value read) t) × IsBorrowedIfPlain read stands.front
-    × (s : S) × takes_read from (event.BareItem read) s
-    × ReturnsAfter takes finishes s (parameters_events parameters) out
+    × (stands : BeginsWithLongest version (input_value read) t) × IsBorrowedIfPlain read stands.front × (s : S)
+    × takes_read from (event.BareItem read) s × ReturnsAfter takes finishes s (parameters_events parameters) out
 
 -- the events as read, and the result
 abbrev pub HasEventsRead : {S O : Type 0} → (S → TreeEvent → S → Type 0) → (S → Event → S → Type 0) → (S → O → Type 0)

@@ -18,8 +18,7 @@ abbrev Places : ListBuilder → TreeEvent → ListBuilder → Type 0
 Places s e after = list_state after ≡ list_step (list_state s) e
 
 abbrev Steps : ListBuilder → TreeEvent → ListBuilder → Type 0
-Steps s e after = (list_state after ≡ list_step (list_state s) e)
-    × ListAdds s after
+Steps s e after = (list_state after ≡ list_step (list_state s) e) × ListAdds s after
 
 abbrev Ends : ListBuilder → Vec ListEntry Global → Type 0
 Ends s list = list ≡ s.list
@@ -46,21 +45,16 @@ within_each ms (ended m) e h = absurd h
 members_built : (ms raw : List RawMember) → fold list_step (between ms) (events list_field raw)
     ≡ between (ms ++ ordered list_field raw)
 members_built ms [] = ap between (sym (append-nil ms))
-members_built ms (m ∷ raw) =
-    fold-append list_step (ms, Some begun) (member_events m) (events list_field raw)
-    ∙ ap (λ (p : ListState). fold list_step p (events list_field raw))
-    (member_built list_step (settle ms) (within_each ms) m)
-    ∙ members_built (ms ++ ordered_member m ∷ []) raw
+members_built ms (m ∷ raw) = fold-append list_step (ms, Some begun) (member_events m)
+    (events list_field raw) ∙ ap (λ (p : ListState). fold list_step p (events list_field raw))
+    (member_built list_step (settle ms) (within_each ms) m) ∙ members_built (ms ++ ordered_member m ∷ []) raw
     ∙ ap between (append_assoc ms (ordered_member m ∷ []) (map ordered_member raw))
 
 -- after all events the members stand last, each of them ordered
 pub list_built : (ms raw : List RawMember) (s last : ListBuilder) → list_state s ≡ between ms
     → FoldsTo Steps s (events list_field raw) last → list_state last ≡ between (ms ++ ordered list_field raw)
-list_built ms raw s last here run =
-    runs_fold list_state list_step (events list_field raw) s last
-    (runs_weaker Steps Places (λ s e t k. k.0) (events list_field raw) s last run)
-    ∙ ap (λ (p : ListState). fold list_step p (events list_field raw)) here
-    ∙ members_built ms raw
+list_built ms raw s last here run = runs_fold _ _ _ _ _ (runs_weaker _ _ (λ s e t k. k.0) _ _ _ run)
+    ∙ ap (λ (p : ListState). fold list_step p (events list_field raw)) here ∙ members_built _ _
 
 -- what was built after the members of earlier lines is those, and then the ordered members of the only tree
 pub built_list_after : (version : Version) (t : List ℕ) (held : List RawMember) (from : ListBuilder)
@@ -110,9 +104,8 @@ one_step s e after h seed start = let k = h.1 seed start in (k.0, on k.1)
 pub list_adds : (version : Version) (t : List ℕ) (from : ListBuilder) (list : Vec ListEntry Global) (seed : HashSeed)
     → ListAddsUnder seed from → Answers Steps Ends version list_field t from list
     → GrowsUnder seed from.list.items list.items
-list_adds version t from list seed start h = rw h.holds.2
-    (runs_grow ListAddsUnder Steps (λ s. s.list.items) GrowsUnder grows_none grows_more one_step
-    (events list_field h.raw) from h.holds.0 h.holds.1 seed start)
+list_adds version t from list seed start h =
+    rw h.holds.2 (runs_grow _ _ _ _ grows_none grows_more one_step _ _ h.holds.0 h.holds.1 _ start)
 
 -- if the members that were there hash under the seed, all do
 pub list_seeded : (version : Version) (t : List ℕ) (from : ListBuilder) (list : Vec ListEntry Global) (seed : HashSeed)
@@ -124,5 +117,4 @@ list_seeded version t from list seed held start h =
 
 -- no member was there
 pub no_list_held : (from : ListBuilder) (seed : HashSeed) → list_state from ≡ between [] → ListHasSeed seed from.list.items
-no_list_held from seed here = All-same (MemberHasSeed seed) from.list.items []
-    (map_none member_tree from.list.items (ap complete here)) (All-nil (MemberHasSeed seed))
+no_list_held from seed here = All-same (MemberHasSeed seed) _ _ (map_none _ _ (ap complete here)) (All-nil _)

@@ -21,9 +21,8 @@ bytes_from-append (a ∷ b ∷ c ∷ d ∷ rest) ws n =
 -- symbols up to a place, and from there on
 pub all_parts : (n : ℕ) (cs : List ℕ) → list_all is_symbol cs ≡ true
     → (list_all is_symbol (take n cs) ≡ true) × (list_all is_symbol (drop n cs) ≡ true)
-all_parts n cs h =
-    and_parts _ _ (sym (list_all-append is_symbol (take n cs) (drop n cs))
-    ∙ ap (list_all is_symbol) (take-append-drop n cs) ∙ h)
+all_parts n cs h = and_parts _ _
+    (sym (list_all-append is_symbol (take n cs) (drop n cs)) ∙ ap (list_all is_symbol) (take-append-drop n cs) ∙ h)
 
 -- ---- the whole groups, and what is left
 
@@ -63,8 +62,7 @@ zeros_each = refl
 -- symbols that others fill up to a block
 pub filled_each : (cs front fill : List ℕ) → front ≡ cs → list_all is_symbol cs ≡ true → list_all is_symbol fill ≡ true
     → list_all is_symbol (front ++ drop (length cs) fill) ≡ true
-filled_each cs front fill is each filled =
-    list_all-append is_symbol front (drop (length cs) fill)
+filled_each cs front fill is each filled = list_all-append is_symbol front (drop (length cs) fill)
     ∙ and_from _ _ (rw is each) ((all_parts (length cs) fill filled).1)
 
 -- the bytes of such symbols, from the bytes of the block
@@ -80,9 +78,8 @@ filled_decoded cs front fill block is size few bytes =
     let front_is : decoded_symbols (front ++ drop (length cs) fill) ≡ bytes_from (vs ++ ws) =
     ap (λ (l : List ℕ). decoded_symbols (l ++ drop (length cs) fill)) is
     ∙ ap bytes_from (map-append symbol_value cs (drop (length cs) fill)) in
-    sym (take-take (length cs * 3 / 4) 12 block (omega (arith, few)))
-    ∙ ap (λ (l : List ℕ). take (length cs * 3 / 4) l) (bytes ∙ front_is)
-    ∙ ap (λ (k : ℕ). take (k * 3 / 4) (bytes_from (vs ++ ws))) (sym n) ∙ front_bytes vs ws groups
+    sym (take-take (length cs * 3 / 4) 12 block (omega (arith, few))) ∙ ap (λ (l : List ℕ). take (length cs * 3 / 4) l)
+    (bytes ∙ front_is) ∙ ap (λ (k : ℕ). take (k * 3 / 4) (bytes_from (vs ++ ws))) (sym n) ∙ front_bytes vs ws groups
 
 -- no symbol has no byte
 pub none_after : (old cs : List ℕ) → length cs ≡ 0 → old ≡ old ++ decoded_symbols cs
@@ -98,9 +95,8 @@ pub record IsDecodedUpTo (before symbols rest bytes : List ℕ) : Type 0 where
 
 -- some symbols more are decoded
 pub more_decoded : (before symbols rest bytes part after new : List ℕ) (n : ℕ)
-    → IsDecodedUpTo before symbols rest bytes → n ≤ length rest → n % 4 ≡ 0 → part ≡ take n rest → after ≡ drop n rest
-    → new ≡ bytes ++ decoded_symbols part
-    → IsDecodedUpTo before symbols after new
+    → IsDecodedUpTo before symbols rest bytes → n ≤ length rest → n % 4 ≡ 0 → part ≡ take n rest
+    → after ≡ drop n rest → new ≡ bytes ++ decoded_symbols part → IsDecodedUpTo before symbols after new
 more_decoded before symbols rest bytes part after new n so_far fits groups front back is =
     let parts = symbols_from rest n fits groups in
     record {

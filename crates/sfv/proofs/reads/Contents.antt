@@ -59,17 +59,15 @@ valid_runs t n p r =
       within = rw z r.padding.room;
       ends = rw z (elim r.padding.ends [
         | inl e ↦ inl e
-        | inr a ↦ inr (subst (λ (u : List ℕ). NotBegun is_equals u) (drop-drop p n t)
-            (begun is_equals (drop p (drop n t)) a))
+        | inr a ↦ inr (subst (λ (u : List ℕ). NotBegun is_equals u) (drop-drop p n t) (begun _ _ a))
       ]);
-      apart = subst (λ (u : List ℕ). NotBegun is_symbol u) after (begun is_symbol (drop n t) r.symbols.ends);
+      apart = subst (λ (u : List ℕ). NotBegun is_symbol u) after (begun _ _ r.symbols.ends);
     } in
-    (shape_valid 0 t s).0 ∙ ap (λ k. k + p) size
+    (shape_valid _ _ s).0 ∙ ap (λ k. k + p) size
 
 -- a content from its place
 closed_at : (input : List ℕ) (start m : ℕ) → m < length (drop start input) → get_or (drop start input) m 0 ≡ colon
-    → HasNoColon (take m (drop start input))
-    → IsContentAt input start (start + m) (take m (drop start input))
+    → HasNoColon (take m (drop start input)) → IsContentAt input start (start + m) (take m (drop start input))
 closed_at input start m lt closes none =
     let t : List ℕ = drop start input in
     let sum : start + (m + 1) ≡ start + m + 1 = omega arith in
@@ -95,8 +93,7 @@ bytes_closed input start n p r lt closes lone =
     }
 
 lone_closed : (input : List ℕ) (start n p : ℕ) → Runs (drop start input) n p → n + p < length (drop start input)
-    → get_or (drop start input) (n + p) 0 ≡ colon
-    → n % 4 ≡ 1 → IsInvalidAt input start (start + (n + p) - 1)
+    → get_or (drop start input) (n + p) 0 ≡ colon → n % 4 ≡ 1 → IsInvalidAt input start (start + (n + p) - 1)
 lone_closed input start n p r lt closes one =
     let t : List ℕ = drop start input in
     let size : length (take n t) ≡ n = length-take-le n t r.symbols.within in

@@ -38,10 +38,8 @@ first_of parts one next = one >>= λ v. led (parts v) (many parts next >>= λ vs
 pub parted_item : (b : Bool) (t r s q w : List ℕ) → TakesIf is_space true t r → span is_space r ≡ Ok (s, q)
     → TakesIf (byte right_parenthesis) b q w → item_delimiter_at t ≡ Ok (not b, w)
 unfolding item_delimiter_at give
-parted_item true t r s q w sp e m = branch_true is_space _ _ t r sp ∙ bind_complete (span is_space) _ r q s e
-    ∙ branch_true (byte right_parenthesis) (λ _. give false) (give true) q w m
-parted_item false t r s q w sp e m = branch_true is_space _ _ t r sp ∙ bind_complete (span is_space) _ r q s e
-    ∙ branch_false (byte right_parenthesis) (λ _. give false) (give true) q w m
+parted_item true t r s q w sp e m = branch_true _ _ _ _ _ sp ∙ bind_complete _ _ _ _ _ e ∙ branch_true _ _ _ _ _ m
+parted_item false t r s q w sp e m = branch_true _ _ _ _ _ sp ∙ bind_complete _ _ _ _ _ e ∙ branch_false _ _ _ _ _ m
 
 pub closed_item : (t r q : List ℕ) → TakesIf is_space false t r → TakesIf (byte right_parenthesis) true r q
     → item_delimiter_at t ≡ Ok (false, q)
@@ -112,8 +110,7 @@ items_none version (c ∷ t) h = absurd cc
 
 -- after the spaces before the first item
 abbrev pub items_after : Version → Reader (List RawItem)
-items_after version =
-    branch (byte right_parenthesis) (λ _. give []) (inner_item_at version
+items_after version = branch (byte right_parenthesis) (λ _. give []) (inner_item_at version
     >>= λ i. led (inner_item_events i) (many inner_item_events (next_item_at version) >>= λ is. give (i ∷ is)))
 
 items_some : (version : Version) (t s q : List ℕ) → is_some (first t) ≡ true → span is_space t ≡ Ok (s, q)

@@ -138,9 +138,8 @@ after_fault i j e bytes a whole same eq h = rw (← eq)
 pub escape_fails : (d : Bool) (i j : Parser × Global) (e : Error) (bytes t q r : List ℕ) (whole : Answer (List ℕ))
     → i ≡ j → after_bytes bytes (inside d t) ≡ whole → q ≡ t → TakesIf (byte (mark_of d)) true q r
     → IsFaultOf (kept_input i) e (after_mark d r) → IsErrorOf (kept_input j) e whole
-escape_fails d i j e bytes t q r whole same sofar at mark h =
-    after_fault i j e bytes (after_mark d r) whole same (ap (after_bytes bytes) (sym (at_mark d t q r at mark))
-    ∙ sofar) h
+escape_fails d i j e bytes t q r whole same sofar at mark h = after_fault i j e bytes
+    (after_mark d r) whole same (ap (after_bytes bytes) (sym (at_mark d t q r at mark)) ∙ sofar) h
 
 checked_located : (t : List ℕ) (a : Answer (List ℕ)) (x : ErrorKind × List ℕ) → located a ≡ Err x
     → located (checked t a) ≡ Err x
@@ -165,10 +164,8 @@ abbrev no_mark : Bool → ℕ → Bool
 no_mark d c = not (c == mark_of d)
 
 plain_no_mark : (d : Bool) (c : ℕ) → plain_of d c ≡ true → no_mark d c ≡ true
-plain_no_mark true c p = not_from_false (c == percent_sign)
-    (or_parts (c == percent_sign) (c == double_quote) (not-true _ (and_parts (is_string_byte c) _ p).1)).0
-plain_no_mark false c p = not_from_false (c == backslash)
-    (or_parts (c == double_quote) (c == backslash) (not-true _ (and_parts (is_string_byte c) _ p).1)).1
+plain_no_mark true c p = not_from_false _ (or_parts _ _ (not-true _ (and_parts _ _ p).1)).0
+plain_no_mark false c p = not_from_false _ (or_parts _ _ (not-true _ (and_parts _ _ p).1)).1
 
 quote_no_mark : (d : Bool) → no_mark d double_quote ≡ true
 quote_no_mark true = refl
@@ -179,9 +176,7 @@ pub no_escape : (d : Bool) (run t p r : List ℕ) → RunOf (plain_of d) run →
     → TakesIf (byte double_quote) true p r → (s : List ℕ) × (t ≡ s ++ r) × RunOf (no_mark d) s
 no_escape d run t p r each taken quote = (
   run ++ double_quote ∷ [],
-  taken
-      ∙ ap (λ (l : List ℕ). run ++ l) (at_byte double_quote p r quote)
-      ∙ sym (append_assoc run (double_quote ∷ []) r),
+  taken ∙ ap (λ (l : List ℕ). run ++ l) (at_byte double_quote p r quote) ∙ sym (append_assoc run (double_quote ∷ []) r),
   on run each,
 )
   where
@@ -256,9 +251,8 @@ pub first_digit : (c : ℕ) (t : List ℕ) → is_lower_hexadecimal c ≡ true
 unfolding pieces_from
 first_digit c t h = rw h refl
 
-second_digit : (high c : ℕ) (t : List ℕ) → is_lower_hexadecimal c ≡ true
-    → pieces_from (digit high) (c ∷ t) ≡ after_bytes ((16 * hexadecimal_value high + hexadecimal_value c) ∷ [])
-    (pieces_from outside t)
+second_digit : (high c : ℕ) (t : List ℕ) → is_lower_hexadecimal c ≡ true → pieces_from (digit high)
+    (c ∷ t) ≡ after_bytes ((16 * hexadecimal_value high + hexadecimal_value c) ∷ []) (pieces_from outside t)
 unfolding pieces_from
 second_digit high c t h = rw h refl
 

@@ -20,8 +20,7 @@ stops_at class xs i h = elim (cases_lt i (length xs)) [
 pub up_to_run : (class : ℕ → Bool) (most k : ℕ) (bytes : List ℕ) → k ≤ most → k ≤ length bytes
     → RunOf class (take k bytes) → (k < most → k < length bytes → class (get_or bytes k 0) ≡ false)
     → up_to class most bytes ≡ Ok (take k bytes, drop k bytes)
-up_to_run class most k bytes le le' each h =
-    ap (up_to class most) (sym (take-append-drop k bytes))
+up_to_run class most k bytes le le' each h = ap (up_to class most) (sym (take-append-drop k bytes))
     ∙ up_to_taken class most (take k bytes) (drop k bytes) each (omega (arith, length-take k bytes))
     (λ lt. stops_at class bytes k (h (omega (arith, length-take k bytes))))
 
@@ -54,9 +53,7 @@ skipped_tab t r q w h a b = skipped_more is_space_or_tab t r w b.0 h (sym a.0 �
 
 pub neither_space_nor_tab : (t r q : List ℕ) → TakesIf (byte space) false t r → TakesIf (byte tab) false r q
     → Apart is_space_or_tab t
-neither_space_nor_tab t r q a b = record {
-  apart = λ c e. or_from _ _ (a.1.apart c e) (b.1.apart c (rw a.0 e));
-}
+neither_space_nor_tab t r q a b = record { apart = λ c e. or_from _ _ (a.1.apart c e) (b.1.apart c (rw a.0 e)) }
 
 -- ---- digits
 

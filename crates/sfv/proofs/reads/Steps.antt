@@ -27,8 +27,7 @@ use Rattle.sfv.proofs.reads.Errors.{fault_bind}
 
 pub ahead_true : {A : Type 0} (class : ℕ → Bool) (taken other : Reader A) (t : List ℕ) → NextIs class true t
     → ahead class taken other t ≡ taken t
-ahead_true class taken other t m = ap (ahead class taken other) m.2 ∙ ahead_take class taken other m.0 m.1 m.3
-    ∙ ap taken (sym m.2)
+ahead_true class taken other t m = ap (ahead class taken other) m.2 ∙ ahead_take _ _ _ _ _ m.3 ∙ ap taken (sym m.2)
 
 pub branch_true : {A : Type 0} (class : ℕ → Bool) (taken : ℕ → Reader A) (other : Reader A) (t r : List ℕ)
     → (m : TakesIf class true t r) → branch class taken other t ≡ taken m.0 r
@@ -95,12 +94,7 @@ unfolding point_at back
 at_point dated negative whole t r m k =
     let same : m.0 ∷ m.1 ≡ k.0 ∷ r = sym m.2 ∙ k.1 in
     let after : m.1 ≡ r = cc in
-    ap (at_start TrailingDecimalPoint t) (branch_true (byte dot) _ _ t r (
-      m.0,
-      m.2
-          ∙ ap (λ (l : List ℕ). m.0 ∷ l) after,
-      m.3,
-    ))
+    ap (at_start TrailingDecimalPoint t) (branch_true _ _ _ _ _ (m.0, m.2 ∙ ap (λ (l : List ℕ). m.0 ∷ l) after, m.3))
 
 pub point_empty : (dated negative : Bool) (whole t r f q : List ℕ) → NextIs (byte dot) true t → Skips t r
     → up_to is_digit 3 r ≡ Ok (f, q) → eqb (length f) 0 ≡ true
@@ -121,16 +115,14 @@ pub point_digit : (dated negative : Bool) (whole t r f q : List ℕ) → NextIs 
     → located (point_at dated negative whole t) ≡ Err (TooManyDigitsAfterDecimalPoint, q)
 unfolding fraction_at decimal_at
 point_digit dated negative whole t r f q m k d e n =
-    let inner : fraction_at dated negative whole r ≡ long_at dated q = bind_complete _ _ r q f d
-    ∙ rw e (ahead_true _ _ _ q n) in
-    ap located (at_point dated negative whole t r m k ∙ ap (at_start TrailingDecimalPoint t) inner)
-    ∙ long_located dated q t t
+    let inner : fraction_at dated negative whole r ≡ long_at dated q = bind_complete _ _ _ _ _ d
+    ∙ rw e (ahead_true _ _ _ _ n) in
+    ap located (at_point _ _ _ _ _ m k ∙ ap (at_start TrailingDecimalPoint t) inner) ∙ long_located _ _ _ t
 
 pub point_decimal : (dated negative : Bool) (whole t r f q : List ℕ) → NextIs (byte dot) true t → Skips t r
     → up_to is_digit 3 r ≡ Ok (f, q) → eqb (length f) 0 ≡ false → Apart is_digit q
     → point_at dated negative whole t ≡ Ok (
-      decimal
-          (signed negative (place_value whole * 1000 + place_value f * 10 ^ (3 - length f))),
+      decimal (signed negative (place_value whole * 1000 + place_value f * 10 ^ (3 - length f))),
       q,
     )
 unfolding fraction_at decimal_at give
@@ -178,9 +170,8 @@ pub key_some : (t bytes q : List ℕ) → IsTaken is_key_start is_key_inner t by
 unfolding key_at give
 key_some t bytes q h =
     let s = taken_text _ _ t bytes q h in
-    ap key_at s.0 ∙ branch_take _ _ _ h.each.0 _ s.1
-    ∙ bind_complete _ _ _ _ _ (span_complete is_key_inner h.each.1 q h.each.3 h.ends)
-    ∙ ap (λ (l : List ℕ). Ok (l, q)) (sym h.each.2)
+    ap key_at s.0 ∙ branch_take _ _ _ h.each.0 _ s.1 ∙ bind_complete _ _ _ _ _
+    (span_complete is_key_inner h.each.1 q h.each.3 h.ends) ∙ ap (λ (l : List ℕ). Ok (l, q)) (sym h.each.2)
 
 pub token_class : (t bytes q : List ℕ) → IsTaken is_token_start is_token_inner t bytes q → IsTrue (is_token bytes)
 token_class t bytes q h = let s = taken_text _ _ t bytes q h in rw h.each.2 (and_from _ _ s.1 h.each.3)
@@ -190,9 +181,8 @@ pub token_some : (t bytes q : List ℕ) → IsTaken is_token_start is_token_inne
 unfolding token_at give
 token_some t bytes q h =
     let s = taken_text _ _ t bytes q h in
-    ap token_at s.0 ∙ branch_take _ _ _ h.each.0 _ s.1
-    ∙ bind_complete _ _ _ _ _ (span_complete is_token_inner h.each.1 q h.each.3 h.ends)
-    ∙ ap (λ (l : List ℕ). Ok (token l, q)) (sym h.each.2)
+    ap token_at s.0 ∙ branch_take _ _ _ h.each.0 _ s.1 ∙ bind_complete _ _ _ _ _
+    (span_complete is_token_inner h.each.1 q h.each.3 h.ends) ∙ ap (λ (l : List ℕ). Ok (token l, q)) (sym h.each.2)
 
 pub ruleset key_steps = (some_next, key_none)
 
@@ -228,12 +218,7 @@ unfolding date_at back
 date_is t r m k =
     let same : m.0 ∷ m.1 ≡ k.0 ∷ r = sym m.2 ∙ k.1 in
     let after : m.1 ≡ r = cc in
-    ap (at_start NonIntegerDate t) (branch_true (byte at_sign) _ _ t r (
-      m.0,
-      m.2
-          ∙ ap (λ (l : List ℕ). m.0 ∷ l) after,
-      m.3,
-    ))
+    ap (at_start NonIntegerDate t) (branch_true _ _ _ _ _ (m.0, m.2 ∙ ap (λ (l : List ℕ). m.0 ∷ l) after, m.3))
 
 pub date_integer : (t r q : List ℕ) (z : ℤ) → NextIs (byte at_sign) true t → Skips t r
     → number_at true r ≡ Ok (integer z, q) → date_at Rfc9651 t ≡ Ok (date z, q)
@@ -243,8 +228,7 @@ date_integer t r q z m k n = date_is t r m k ∙ ap (at_start NonIntegerDate t) 
 pub date_decimal : (t r q : List ℕ) (z : ℤ) → NextIs (byte at_sign) true t → Skips t r
     → number_at true r ≡ Ok (decimal z, q) → located (date_at Rfc9651 t) ≡ Err (NonIntegerDate, t)
 unfolding give
-date_decimal t r q z m k n = ap located (date_is t r m k
-    ∙ ap (at_start NonIntegerDate t) (bind_complete _ _ r q (decimal z) n))
+date_decimal t r q z m k n = ap located (date_is _ _ m k ∙ ap (at_start NonIntegerDate t) (bind_complete _ _ _ _ _ n))
 
 start_fault : (k t s : List ℕ) (o : Answer (Option BareValue)) (kind : ErrorKind) → located o ≡ Err (kind, s)
     → located (at_start NonIntegerDate t o) ≡ Err (kind, s)
@@ -420,8 +404,7 @@ pub parameter_some : (version : Version) (t r s q key w x : List ℕ) (v : BareV
     → span is_space r ≡ Ok (s, q) → key_at q ≡ Ok (key, w) → value_at version w ≡ Ok (v, x)
     → parameter_at version t ≡ Ok (Some (key, v), x)
 unfolding give
-parameter_some version t r s q key w x v m i k e = parameter_keyed version t r s q key w m i k
-    ∙ bind_complete _ _ w x v e
+parameter_some version t r s q key w x v m i k e = parameter_keyed _ _ _ _ _ _ _ m i k ∙ bind_complete _ _ _ _ _ e
 
 pub ruleset parameter_steps = parameter_none
 
@@ -439,7 +422,5 @@ pub item_some : (version : Version) (t r q : List ℕ) (bare : BareValue) (ps : 
     → bare_at version t ≡ Ok (bare, r) → parameters_at version r ≡ Ok (ps, q)
     → item_at version t ≡ Ok (item_of bare ps, q)
 unfolding item_after give
-item_some version t r q bare ps e k = item_is version t
-    ∙ bind_complete (bare_at version) (item_after version) t r bare e
-    ∙ led_complete (bare_item bare ∷ []) (parameters_at version
-    >>= λ ps. give (item_of bare ps)) r q (item_of bare ps) (bind_complete _ _ r q ps k)
+item_some version t r q bare ps e k = item_is _ _ ∙ bind_complete _ _ _ _ _ e
+    ∙ led_complete _ _ _ _ _ (bind_complete _ _ _ _ _ k)

@@ -55,20 +55,11 @@ as_answer {parts = parts} {before = before} {error = Syntax e} {f = f} h =
 as_answer {parts = parts} {before = before} {error = Visitor fault} {f = f} h =
     let m = h.memory fault refl in
     let s = split_at (visited parts (f (version before) (rest before))) m.0 m.1 in
-    record {
-      before = s.0;
-      e = m.0;
-      after = s.1;
-      s = tt;
-      all = s.2;
-      taken = any_run s.0;
-      failed = m.2;
-    }
+    record { before = s.0; e = m.0; after = s.1; s = tt; all = s.2; taken = any_run s.0; failed = m.2 }
 
 pub as_fault : {Y : Type 0} {parts : Y → List TreeEvent} {before : Cursor} {error : ParseError OutOfMemory}
-    {f : Version → Reader Y}
-    → VisitsAnswer Any NoMemory parts (kept before) before tt tt (Err error) (f (version before) (rest before))
-    → FailsAs parts before error f
+    {f : Version → Reader Y} → VisitsAnswer Any NoMemory parts (kept before) before tt tt (Err error)
+    (f (version before) (rest before)) → FailsAs parts before error f
 as_fault {before = before} {error = Syntax e} {f = f} h = record {
   syntax = λ d same. let same : e ≡ d = cc in
       subst (λ e. IsErrorOf (input before) e (f (version before) (rest before))) same h.0;
@@ -106,13 +97,11 @@ item_ends i = Contains-append_right (bare_item i.bare ∷ []) (parameters_events
 pub member_ends : (m : RawMember) → Contains (member_events m) parameters_end
 member_ends (item i) = Contains-append_right (begins_item ∷ []) (item_events i) parameters_end (item_ends i)
 member_ends (inner_list l) = Contains-append_right (begins_inner_list ∷ flat_map inner_item_events l.items)
-    (inner_list_end ∷ parameters_events l.parameters) parameters_end
-    (Contains-append_right (inner_list_end ∷ []) (parameters_events l.parameters) parameters_end
-    (parameters_ends l.parameters))
+    (inner_list_end ∷ parameters_events l.parameters) parameters_end (Contains-append_right
+    (inner_list_end ∷ []) (parameters_events l.parameters) parameters_end (parameters_ends l.parameters))
 
 pub keyed_begins : (key : List ℕ) (m : RawMember) → Contains (keyed_events (key, m)) (keyed_entry key)
-keyed_begins key m = Contains-append_left (keyed_entry key ∷ []) (member_events m) (keyed_entry key)
-    (Contains-push [] (keyed_entry key))
+keyed_begins key m = Contains-append_left (keyed_entry key ∷ []) (member_events m) _ (Contains-push [] _)
 
 -- only texts are borrowed
 pub borrowed_text : (item : GenericBareItem StringFromInput (Vec ℕ Global) TokenRef (CowStr Global))

@@ -8,14 +8,14 @@ use Rattle.sfv_model.specs.Fields.{members_at, whole_field_at}
 use Rattle.sfv_model.specs.{Members.{member_at, entry_at}, Reader.{Answer, Reader, and_then, first, give, span}}
 use Rattle.sfv_base.specs.declared.error.{Error.Error, OutOfMemory.OutOfMemory}
 use Rattle.sfv_base.specs.declared.error.ParseError.{ParseError, TheVariants.Syntax}
+use Rattle.sfv_tree.proofs.Entered.{insert_entry-entered}
 use Rattle.sfv.specs.Field.{RawMember, RawField, list_field, dictionary_field, Version, TreeEvent, entry, member_events}
 use Rattle.sfv.specs.Field.{entry_events, ordered_member, IsParsedAs, IsParseError}
 use Rattle.sfv.specs.declared.parser.{Parser.Parser, cursor.Cursor.Cursor}
 use Rattle.sfv.specs.parser.Cursor.{kept, kept_input, kept_version, rest, MayNeedMemory}
 use Rattle.sfv.specs.parser.Members.{MemberValue, member_parts, one_member_at, field_of}
 use Rattle.sfv.specs.parser.Trees.{Builds, FailsAs, ordered_pairs, ordered_members, with_member}
-use Rattle.sfv.proofs.{Memory.first_in, Parsed.{parsed, parse_error}}
-use Rattle.sfv.proofs.built.{Dictionaries.collapse-over, Items.insert_entry-entered}
+use Rattle.sfv.proofs.{Memory.first_in, Parsed.{parsed, parse_error}, built.Dictionaries.collapse-over}
 use Rattle.sfv.proofs.{reads.Errors.kept_reads, trees.Errors.{Any, NoMemory, as_answer}, trees.Parts.led_builds}
 use Rattle.sfv.proofs.visits.{Fields.{whole_read, members_fail}, Parts.start_visits}
 
@@ -25,10 +25,8 @@ use Rattle.sfv.proofs.visits.{Fields.{whole_read, members_fail}, Parts.start_vis
 pub member_added : (keyed : Bool) (front : List (MemberValue keyed)) (m : MemberValue keyed)
     → ordered_members keyed (front ++ m ∷ []) ≡ with_member keyed (ordered_members keyed front) m
 member_added false front m = map-append ordered_member front (m ∷ [])
-member_added true front m =
-    ap collapse (map-append (λ (m : List ℕ × RawMember). (m.0, ordered_member m.1)) front (m ∷ []))
-    ∙ collapse-push (ordered_pairs front) m.0 (ordered_member m.1)
-    ∙ sym (insert_entry-entered (collapse (ordered_pairs front)) m.0 (ordered_member m.1))
+member_added true front m = ap collapse (map-append (λ (m : List ℕ × RawMember). (m.0, ordered_member m.1)) front (m
+    ∷ [])) ∙ collapse-push _ _ _ ∙ sym (insert_entry-entered (collapse (ordered_pairs front)) m.0 (ordered_member m.1))
 
 -- the dictionary without members
 pub no_pairs : [] ≡ ordered_members true []
@@ -40,8 +38,7 @@ pub entry_builds : {X Z : Type 0} (view : X → Z) (collapsed : RawMember → Z)
     (r : Result X (ParseError OutOfMemory)) → Builds view collapsed member_events before after r member_at
     → Builds view collapsed entry_events before after r entry_at
 unfolding entry_at
-entry_builds view collapsed before after r h =
-    led_builds view collapsed entry member_events member_at before after r h
+entry_builds view collapsed before after r h = led_builds view collapsed entry member_events member_at before after r h
 
 -- ---- the whole
 
@@ -52,9 +49,8 @@ members_parsed : (keyed : Bool) (version : Version) (t q : List ℕ) (ms : List 
 unfolding whole_field_at
 members_parsed false version t q ms value read end built =
     parsed version list_field t ms value (whole_read version list_field t q ms read end) built
-members_parsed true version t q ms value read end built =
-    parsed version dictionary_field t ms value (whole_read version dictionary_field t q ms read end)
-    (built ∙ collapse-over ordered_member ms)
+members_parsed true version t q ms value read end built = parsed version dictionary_field t ms value
+    (whole_read version dictionary_field t q ms read end) (built ∙ collapse-over ordered_member ms)
 
 abbrev Answers : Unit {0} → Unit {0} → Type 0
 Answers s out = ⊤

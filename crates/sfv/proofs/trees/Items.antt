@@ -25,18 +25,14 @@ module _ (start before : Cursor) (k : Parser × Global) (s : List ℕ) (same : k
 
   pub item_rejected : (e : Error) → FailsAs item_events before (Syntax e) item_at
       → IsParseError (kept_version k) item_field (kept_input k) e
-  item_rejected e h = parse_error (kept_version k) item_field (kept_input k) e
-      (field_error (kept_version k) (kept_input k) s (rest before) (kept_input k) e skipped
-      (ErrorOf-same (kept before) k e item_at (rest before) (item_at (kept_version k) (rest before)) same refl
-      (h.syntax e refl)))
+  item_rejected e h = parse_error _ _ _ _
+      (field_error _ _ _ _ _ _ skipped (ErrorOf-same _ _ _ item_at (rest before) _ same refl (h.syntax e refl)))
 
   pub item_syntax_memory : (e : Error) → FailsAs item_events before (Syntax e) item_at
       → NeedsMemory item_field (kept_input k) e
   item_syntax_memory e h out =
-      let i = ErrorOf-same (kept before) k e item_at (rest before) (item_at (kept_version k) (rest before)) same refl
-      (h.syntax e refl) in
-      marked (kept_input k)
-      (subst (λ (e : Error). IsErrorOf (kept_input k) e (item_at (kept_version k) (rest before))) out i).1
+      let i = ErrorOf-same _ _ _ item_at (rest before) _ same refl (h.syntax e refl) in
+      marked _ (subst (λ (e : Error). IsErrorOf (kept_input k) e (item_at (kept_version k) (rest before))) out i).1
 
   module _ (between after : Cursor) (raw : RawItem) (spaces : List ℕ)
       (read : item_at (version before) (rest before) ≡ Ok (raw, rest between))
@@ -44,13 +40,10 @@ module _ (start before : Cursor) (k : Parser × Global) (s : List ℕ) (same : k
     pub item_trailing : kept after ≡ k → is_some (first (rest after)) ≡ true
         → IsParseError (kept_version k) item_field (kept_input k)
         (error_of TrailingCharactersAfterParsedValue (Some after.index))
-    item_trailing same_after some = parse_error (kept_version k) item_field (kept_input k)
-        (error_of TrailingCharactersAfterParsedValue (Some after.index))
-        (field_trailing_error (kept_version k) (kept_input k) s (rest before) (rest between) spaces after k raw
-        same_after skipped (kept_reads item_at (rest before) (kept before) k same ∙ read) skipped_more some)
+    item_trailing same_after some = parse_error _ _ _ _ (field_trailing_error _ _ _ _ _ _ after _ _ same_after skipped
+        (kept_reads item_at (rest before) _ _ same ∙ read) skipped_more some)
 
     pub item_read : (value : RawItem) → is_some (first (rest after)) ≡ false → value ≡ ordered_item raw
         → IsParsedAs (kept_version k) item_field (kept_input k) value
-    item_read value none built = parsed (kept_version k) item_field (kept_input k) raw value
-        (field_done (kept_version k) (kept_input k) s (rest before) (rest between) spaces (rest after) raw skipped
-        (kept_reads item_at (rest before) (kept before) k same ∙ read) skipped_more none) built
+    item_read value none built = parsed _ _ _ _ _
+        (field_done _ _ _ _ _ _ _ _ skipped (kept_reads item_at (rest before) _ _ same ∙ read) skipped_more none) built

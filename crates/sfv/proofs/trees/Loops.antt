@@ -24,8 +24,7 @@ seed_kept P middle start same h = subst (λ (k : Parser × Global). P k.0.seed) 
 pub keeps_seed : {X : Type 0} (P : HashSeed → X → Type 0) (middle start : Cursor) (before after : X)
     → kept middle ≡ kept start → (P middle.parser.seed before → P middle.parser.seed after)
     → P start.parser.seed before → P start.parser.seed after
-keeps_seed P middle start before after same h =
-    seed_kept (λ s. P s before → P s after) middle start same h
+keeps_seed P middle start before after same h = seed_kept (λ s. P s before → P s after) middle start same h
 
 module _ {A W : Type 0} (l : Loop A) (more : W → A → W) (middle after : Cursor) (before built : W) where
   -- a part was read, and what was built has grown by it

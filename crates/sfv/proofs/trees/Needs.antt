@@ -10,9 +10,8 @@ use Rattle.sfv.{specs.parser.Cursor.{MayNeedMemory, input, rest, NextIs}, proofs
 next_needs : (class : ℕ → Bool) → ((b : ℕ) → class b ≡ true → IsTrue (may_need_memory item_field b)) → (c : Cursor)
     → NextIs class true (rest c) → MayNeedMemory item_field (input c)
 next_needs class may c h =
-    let here : Contains (rest c) h.0 = subst (λ (t : List ℕ). Contains t h.0) (sym h.2) (first_in h.0 h.1) in
-    let there : Contains (take c.index (input c) ++ rest c) h.0 =
-    Contains-append_right (take c.index (input c)) (rest c) h.0 here in
+    let here : Contains (rest c) h.0 = subst (λ (t : List ℕ). Contains t h.0) (sym h.2) (first_in _ _) in
+    let there : Contains (take c.index (input c) ++ rest c) h.0 = Contains-append_right _ _ _ here in
     (h.0, subst (λ (t : List ℕ). Contains t h.0) (take-append-drop c.index (input c)) there, may h.0 h.3)
 
 -- the same for one byte

@@ -3,9 +3,8 @@ use Rattle.std.proofs.Common.{◌≡◌, ℕ, List, [], Some, Ok, sym, ap, ◌�
 use Rattle.indexmap.specs.IndexMap.{insert_entry}
 use Rattle.sfv_spec.{specs.Ordered.collapse, specs.Values.{BareValue, RawParameters}, proofs.Collapse.collapse-push}
 use Rattle.sfv_model.{specs.Items.parameter_at, proofs.Types.Version}
-use Rattle.sfv_tree.specs.Trees.{OwnedBareItem, pairs_tree}
-use Rattle.sfv.proofs.{built.Items.insert_entry-entered, trees.Errors.Any}
-use Rattle.sfv.proofs.visits.Parameters.{VisitedParameters, visited_none, visited_more}
+use Rattle.sfv_tree.{specs.Trees.{OwnedBareItem, pairs_tree}, proofs.Entered.insert_entry-entered}
+use Rattle.sfv.proofs.{trees.Errors.Any, visits.Parameters.{VisitedParameters, visited_none, visited_more}}
 
 -- these parameters were read between start and now, and the map has each key once
 pub record CollectedParameters (version : Version) (start now : List ℕ) (entries : List (List ℕ × OwnedBareItem))
@@ -16,10 +15,7 @@ pub record CollectedParameters (version : Version) (start now : List ℕ) (entri
 pub collected_none : (version : Version) (start : List ℕ) (entries : List (List ℕ × OwnedBareItem)) → entries ≡ []
     → CollectedParameters version start start entries
 unfolding collapse visited_none
-collected_none version start entries empty = record {
-  visited = visited_none Any version start tt;
-  built = ap pairs_tree empty;
-}
+collected_none version start entries empty = record { visited = visited_none _ _ _ tt; built = ap pairs_tree empty }
 
 pub collected_more : (version : Version) (start now r k : List ℕ) (v : BareValue)
     (before after : List (List ℕ × OwnedBareItem)) → CollectedParameters version start now before

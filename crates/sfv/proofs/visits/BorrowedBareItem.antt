@@ -58,11 +58,9 @@ lent_front version item before after front split means h = tt
 -- two texts without a quote, and a quote after each
 same_quote : (a b x y : List ℕ) → HasNoQuote a → HasNoQuote b → a ++ double_quote ∷ x ≡ b ++ double_quote ∷ y → x ≡ y
 same_quote a b x y h k e =
-    let stops : (z : List ℕ) → Apart no_quote_byte (double_quote ∷ z) = λ z. Apart-cons no_quote_byte double_quote z refl in
-    let same : double_quote ∷ x ≡ double_quote ∷ y =
-    same_rest (span no_quote_byte (b ++ double_quote ∷ y)) a b (double_quote ∷ x) (double_quote ∷ y)
-    (ap (span no_quote_byte) (sym e) ∙ span_complete no_quote_byte a (double_quote ∷ x) h (stops x))
-    (span_complete no_quote_byte b (double_quote ∷ y) k (stops y)) in
+    let stops : (z : List ℕ) → Apart no_quote_byte (double_quote ∷ z) = λ z. Apart-cons _ _ _ refl in
+    let same : double_quote ∷ x ≡ double_quote ∷ y = same_rest _ _ _ _ _
+    (ap (span no_quote_byte) (sym e) ∙ span_complete _ _ _ h (stops x)) (span_complete _ _ _ k (stops y)) in
     cc
 
 -- two quoted texts of one value, the first of a text: they are one text
@@ -70,10 +68,9 @@ same_quoted : (reads : List ℕ → Answer (List ℕ)) (opening s a b u v x y : 
     → HasNoQuote a → HasNoQuote b → reads (u ++ x) ≡ Ok (s, x) → reads (v ++ y) ≡ Ok (s, y)
     → a ++ (opening ++ double_quote ∷ u) ++ x ≡ b ++ (opening ++ double_quote ∷ v) ++ y → u ≡ v
 same_quoted reads opening s a b u v x y quiet h k m n e =
-    let grouped : (c w z : List ℕ) → c ++ (opening ++ double_quote ∷ w) ++ z ≡ (c ++ opening) ++ double_quote ∷ (w ++ z) =
-    λ c w z. append_assoc c (opening ++ double_quote ∷ w) z
-    ∙ ap (λ (l : List ℕ). c ++ l) (append_assoc opening (double_quote ∷ w) z)
-    ∙ sym (append_assoc c opening (double_quote ∷ (w ++ z))) in
+    let grouped : (c w z : List ℕ) → c ++ (opening ++ double_quote ∷ w) ++ z ≡ (c ++ opening)
+    ++ double_quote ∷ (w ++ z) = λ c w z. append_assoc c (opening ++ double_quote ∷ w) z ∙ ap (λ (l : List ℕ). c ++ l)
+    (append_assoc opening (double_quote ∷ w) z) ∙ sym (append_assoc c opening (double_quote ∷ (w ++ z))) in
     let tails : u ++ x ≡ v ++ y = same_quote (a ++ opening) (b ++ opening) (u ++ x) (v ++ y)
     (both_apart a opening h quiet) (both_apart b opening k quiet) (sym (grouped a u x) ∙ e ∙ grouped b v y) in
     let ends : x ≡ y = same_rest (reads (v ++ y)) s s x y (ap reads (sym tails) ∙ m) n in

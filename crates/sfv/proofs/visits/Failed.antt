@@ -128,9 +128,8 @@ module _ {S O E : Type 0} (v : Ghosts S O E) (p : Parser) (kind : FieldKind) (fr
       → all ≡ r.before ++ r.e ∷ after → FailsOn v p from all may_finish f
   fails_on all after may_finish f r split =
       let k = failed_read v version r.before (from, t) r.s r.e f r.taken r.failed in
-      at_event k.read k.last after r.s.0
-      (split ∙ ap₂ (λ (l : List TreeEvent) (e : TreeEvent). l ++ e ∷ after) (sym k.before) (sym k.at)) k.text k.received
-      k.failed k.failed_read
+      at_event k.read k.last after r.s.0 (split ∙ ap₂ (λ (l : List TreeEvent) (e : TreeEvent). l ++ e ∷ after)
+      (sym k.before) (sym k.at)) k.text k.received k.failed k.failed_read
 
   failed_on_accepted : (f : E) → Visits (Err (Visitor f)) → (raw : RawField kind) → IsFieldText version kind raw t
       → FailsOn v p from (events kind raw) ⊤ f

@@ -120,10 +120,8 @@ module _ {S O E : Type 0} (v : Ghosts S O E) (p : Parser) (from : S) where
       → visited (events item_field) (whole_field_at version item_field t) ≡ e ∷ es → item_events raw ≡ (e ∷ es) ++ more
       → BeginsWithLongest version raw.bare t
   its_bare raw e es more begins all =
-      let first = visited_first version t e es begins in
-      let same : raw.bare ≡ first.0 =
-      same_head raw.bare first.0 (parameters_events raw.parameters) (es ++ more)
-      (all ∙ ap (λ (e : TreeEvent). e ∷ (es ++ more)) first.1) in
+      let first = visited_first _ _ _ _ begins in
+      let same : raw.bare ≡ first.0 = same_head _ _ _ _ (all ∙ ap (λ (e : TreeEvent). e ∷ (es ++ more)) first.1) in
       subst (λ (b : BareValue). BeginsWithLongest version b t) (sym same) first.2
 
   failed_first : (f : E) → Visits (Err (Visitor f)) → ReceivesFirstBy v p from (Visitor f)
@@ -132,12 +130,11 @@ module _ {S O E : Type 0} (v : Ghosts S O E) (p : Parser) (from : S) where
       let all : item_events some.raw ≡ (r.before ++ r.e ∷ r.after) ++ some.more =
       some.all ∙ ap (λ (l : List TreeEvent). l ++ some.more) r.all in
       let split = first_of r.before r.e r.after in
-      let bare = its_bare some.raw split.0 split.1 some.more (r.all ∙ split.2)
+      let bare = its_bare _ _ _ _ (r.all ∙ split.2)
       (all ∙ ap (λ (l : List TreeEvent). l ++ some.more) split.2) in (
         some.raw,
         bare,
-        fails_on v p item_field from (item_events some.raw) (r.after ++ some.more) ⊤ f r
-            (all ∙ append_assoc r.before (r.e ∷ r.after) some.more),
+        fails_on _ _ item_field _ _ _ _ _ r (all ∙ append_assoc r.before (r.e ∷ r.after) some.more),
       )
   failed_first f (inr x) =
       let events_of = parameters_events x.0.parameters in

@@ -32,10 +32,9 @@ field_faulty version t s r k q e h = ap located_whole (field_is version t s r e)
     ∙ ending_located (events item_field) (spaced version r) k q (fault_bind (item_at version) _ r k q h)
 
 -- the error is the fault that a whole field is answered with, or out of memory
-pub field_error : (version : Version) (t s r : List ℕ) (i : List ℕ) (e : Error) → span is_space t ≡ Ok (s, r)
-    → IsErrorOf i e (item_at version r)
-    → MatchOption e.index (IsRefusal i e) (λ index. (located_whole (read_field version item_field t)
-    ≡ Err (e.kind, drop index i)) × (index ≤ length i))
+pub field_error : (version : Version) (t s r : List ℕ) (i : List ℕ) (e : Error)
+    → span is_space t ≡ Ok (s, r) → IsErrorOf i e (item_at version r) → MatchOption e.index (IsRefusal i e)
+    (λ index. (located_whole (read_field version item_field t) ≡ Err (e.kind, drop index i)) × (index ≤ length i))
 field_error version t s r i e skipped error = on e.index error
   where
     on : (o : Option ℕ) → MatchOption o (IsRefusal i e)
@@ -50,9 +49,8 @@ after : (version : Version) (t s r q s' w : List ℕ) (raw : RawItem) → span i
     → item_at version r ≡ Ok (raw, q) → span is_space q ≡ Ok (s', w)
     → read_field version item_field t ≡ ending (events item_field) (Ok (raw, w))
 unfolding spaced give
-after version t s r q s' w raw e k n =
-    field_is version t s r e ∙ ap (ending (events item_field)) (bind_complete (item_at version) _ r q raw k
-    ∙ bind_complete (span is_space) _ q w s' n)
+after version t s r q s' w raw e k n = field_is version t s r e ∙ ap (ending (events item_field))
+    (bind_complete (item_at version) _ r q raw k ∙ bind_complete (span is_space) _ q w s' n)
 
 pub field_trailing : (version : Version) (t s r q s' w : List ℕ) (raw : RawItem) → span is_space t ≡ Ok (s, r)
     → item_at version r ≡ Ok (raw, q) → span is_space q ≡ Ok (s', w) → is_some (first w) ≡ true
@@ -70,11 +68,9 @@ pub field_trailing_error : (version : Version) (t s r q s' : List ℕ) (p : Curs
     → is_some (first (rest p)) ≡ true
     → (located_whole (read_field version item_field t)
     ≡ Err (TrailingCharactersAfterParsedValue, drop p.index (kept_input j))) × (p.index ≤ length (kept_input j))
-field_trailing_error version t s r q s' p j raw same e k n h =
-    subst (λ (i : Parser × Global). (located_whole (read_field version item_field t)
-    ≡ Err (TrailingCharactersAfterParsedValue, drop p.index (kept_input i)))
-    × (p.index ≤ length (kept_input i))) same
-    (field_trailing version t s r q s' (rest p) raw e k n h, p.within)
+field_trailing_error version t s r q s' p j raw same e k n h = subst (λ (i : Parser × Global). (located_whole
+    (read_field version item_field t) ≡ Err (TrailingCharactersAfterParsedValue, drop p.index (kept_input i)))
+    × (p.index ≤ length (kept_input i))) same (field_trailing version t s r q s' (rest p) raw e k n h, p.within)
 
 pub field_done : (version : Version) (t s r q s' w : List ℕ) (raw : RawItem) → span is_space t ≡ Ok (s, r)
     → item_at version r ≡ Ok (raw, q) → span is_space q ≡ Ok (s', w) → is_some (first w) ≡ false

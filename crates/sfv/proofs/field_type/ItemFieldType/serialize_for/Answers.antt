@@ -9,16 +9,14 @@ returns-in_err-check_item-clause-unsupported c =
     let version = c.args.version in
     let item = item_tree c.args.self.now in
     let error = c.in_err-check_item.field-0.0 in
-    look_fails version (bare_values item_field item) c.from_residual.result error c.from_residual.ensures.1
-    c.in_err-check_item.ensures
+    look_fails version (bare_values item_field item) _ _ c.from_residual.ensures.1 c.in_err-check_item.ensures
 
 pub returns-in_err-text-clause-unsupported : goal.returns-in_err-text-clause-unsupported
 returns-in_err-text-clause-unsupported c =
     let version = c.args.version in
     let item = item_tree c.args.self.now in
     memory_fails version (bare_values item_field item) c.from_residual-in_err-text.result
-    c.from_residual-in_err-text.ensures.1
-    c.in_ok-check_item.ensures
+    c.from_residual-in_err-text.ensures.1 c.in_ok-check_item.ensures
 
 pub returns-clause-text : goal.returns-clause-text
 returns-clause-text c =
@@ -28,5 +26,4 @@ returns-clause-text c =
     c.in_ok-check_item.ensures c.in_ok-text.ensures.text
 
 pub returns-clause-unsupported : goal.returns-clause-unsupported
-returns-clause-unsupported c =
-    c.in_ok-check_item.ensures
+returns-clause-unsupported c = c.in_ok-check_item.ensures

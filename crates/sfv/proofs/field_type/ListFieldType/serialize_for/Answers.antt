@@ -7,25 +7,19 @@ use Rattle.sfv.proofs.field_type.ListFieldType.serialize_for.Goals as goal
 
 pub returns-in_err-check_list-clause-unsupported : goal.returns-in_err-check_list-clause-unsupported
 returns-in_err-check_list-clause-unsupported c =
-    look_fails c.args.version (bare_values list_field (list_tree c.args.self.now.items)) c.from_residual.result
-    c.in_err-check_list.field-0.0 c.from_residual.ensures.1 c.in_err-check_list.ensures
+    look_fails _ _ _ _ c.from_residual.ensures.1 c.in_err-check_list.ensures
 
 pub returns-in_err-check_list-clause-failed : goal.returns-in_err-check_list-clause-failed
-returns-in_err-check_list-clause-failed c =
-    anyway (HasMember list_field (list_tree c.args.self.now.items)) c.from_residual.result
-    (named_has_member c.args.version list_field (list_tree c.args.self.now.items) c.in_err-check_list.field-0.0
-    c.in_err-check_list.ensures)
+returns-in_err-check_list-clause-failed c = anyway _ _ (named_has_member c.args.version list_field
+    (list_tree c.args.self.now.items) _ c.in_err-check_list.ensures)
 
 pub returns-in_err-text-clause-unsupported : goal.returns-in_err-text-clause-unsupported
 returns-in_err-text-clause-unsupported c =
-    memory_fails c.args.version (bare_values list_field (list_tree c.args.self.now.items)) c.from_residual-in_err-text.result
-    c.from_residual-in_err-text.ensures.1 c.in_ok-check_list.ensures
+    memory_fails _ _ _ c.from_residual-in_err-text.ensures.1 c.in_ok-check_list.ensures
 
 pub returns-in_err-text-clause-failed : goal.returns-in_err-text-clause-failed
-returns-in_err-text-clause-failed c =
-    anyway (HasMember list_field (list_tree c.args.self.now.items)) c.from_residual-in_err-text.result c.in_err-text.ensures.out_of_memory
+returns-in_err-text-clause-failed c = anyway _ _ c.in_err-text.ensures.out_of_memory
 
 pub returns-clause-text : goal.returns-clause-text
-returns-clause-text c =
-    serialized_for c.args.version list_field (list_tree c.args.self.now.items) (option_map string_bytes c.in_ok-text.text)
-    c.in_ok-check_list.ensures c.in_ok-text.ensures.text
+returns-clause-text c = serialized_for c.args.version list_field (list_tree c.args.self.now.items)
+    (option_map string_bytes c.in_ok-text.text) c.in_ok-check_list.ensures c.in_ok-text.ensures.text

@@ -23,8 +23,7 @@ returns-clause-visitor g c = visits_failure g.V.Visitor c.args.self item_field c
     c.parse_item_field.ensures.visited
 
 pub returns-clause-first : goal.returns-clause-first
-returns-clause-first g c = visits_first g.V.Visitor c.args.self c.args.visitor c.parse_item_field.result
-    c.parse_item_field.ensures.visited
+returns-clause-first g c = visits_first _ _ _ _ c.parse_item_field.ensures.visited
 
 pub returns-clause-memory : goal.returns-clause-memory
 returns-clause-memory g c = visits_memory g.V.Visitor.takes g.V.Visitor.fails g.V.Visitor.finishes

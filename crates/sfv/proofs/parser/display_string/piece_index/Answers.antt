@@ -19,9 +19,8 @@ loop-preserved c =
     (after_pieces c.args.count (drop c.args.start c.args.input.now))) n c.loop.invariant)).1 in
     let step : cond (slice_index c.args.input.now c.loop.index == percent_sign) 3 1 ≡ c.if-input-index-eq37.index =
     elim c.if-input-index-eq37.branch [
-      | then-input-index-eq37 w ↦
-          rw (eq-eqb (slice_index c.args.input.now c.loop.index) percent_sign w.if-input-index-eq37.true)
-          (sym w.index-is)
+      | then-input-index-eq37 w ↦ rw
+          (eq-eqb (slice_index c.args.input.now c.loop.index) percent_sign w.if-input-index-eq37.true) (sym w.index-is)
       | else-input-index-eq37 w ↦ rw (ne_eqb (slice_index c.args.input.now c.loop.index) percent_sign
           w.if-input-index-eq37.false) (sym w.index-is)
     ] in

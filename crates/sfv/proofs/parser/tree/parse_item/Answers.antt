@@ -6,16 +6,13 @@ use Rattle.sfv.proofs.trees.Items.{item_rejected, item_syntax_memory, item_trail
 use Rattle.sfv.proofs.parser.tree.parse_item.Goals as goal
 
 pub returns-in-Err-Syntax-clause-rejected : goal.returns-in-Err-Syntax-clause-rejected
-returns-in-Err-Syntax-clause-rejected c =
-    rw c.in-Err-Syntax.field-0-is (item_rejected c.new-cursor.result c.skip_sp.new.self (c.args.parser, c.args.alloc) _
-    (c.skip_sp.ensures.kept ∙ c.new-cursor.ensures.kept) c.new-cursor.ensures.rest c.skip_sp.ensures.skipped.1
-    c.in-Err-Syntax.error (rw c.in-Err-Syntax.field-0-is at c.in-Err-Syntax.ensures.tree))
+returns-in-Err-Syntax-clause-rejected c = rw c.in-Err-Syntax.field-0-is (item_rejected c.new-cursor.result _ _ _
+    (c.skip_sp.ensures.kept ∙ c.new-cursor.ensures.kept) c.new-cursor.ensures.rest c.skip_sp.ensures.skipped.1 _
+    (rw c.in-Err-Syntax.field-0-is at c.in-Err-Syntax.ensures.tree))
 
 pub returns-in-Err-Syntax-clause-memory : goal.returns-in-Err-Syntax-clause-memory
-returns-in-Err-Syntax-clause-memory c =
-    rw c.in-Err-Syntax.field-0-is (item_syntax_memory c.new-cursor.result c.skip_sp.new.self
-    (c.args.parser, c.args.alloc) _ (c.skip_sp.ensures.kept ∙ c.new-cursor.ensures.kept) c.new-cursor.ensures.rest
-    c.skip_sp.ensures.skipped.1 c.in-Err-Syntax.error
+returns-in-Err-Syntax-clause-memory c = rw c.in-Err-Syntax.field-0-is (item_syntax_memory c.new-cursor.result _ _ _
+    (c.skip_sp.ensures.kept ∙ c.new-cursor.ensures.kept) c.new-cursor.ensures.rest c.skip_sp.ensures.skipped.1 _
     (rw c.in-Err-Syntax.field-0-is at c.in-Err-Syntax.ensures.tree))
 
 pub returns-clause-memory : goal.returns-clause-memory

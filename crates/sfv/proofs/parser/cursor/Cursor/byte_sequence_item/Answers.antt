@@ -11,7 +11,6 @@ returns-in_err-byte_sequence-clause-read c =
 
 pub returns-clause-read : goal.returns-clause-read
 returns-clause-read c = (
-  bare_bytes _ _ _ c.requires c.skip.ensures.skips
-      ∙ given bytes_at (λ s. byte_sequence s) _ _ _ c.in_ok-byte_sequence.ensures.read.0,
+  bare_bytes _ _ _ c.requires c.skip.ensures.skips ∙ given _ _ _ _ _ c.in_ok-byte_sequence.ensures.read.0,
   c.in_ok-byte_sequence.ensures.read.1 ∙ c.skip.ensures.kept,
 )

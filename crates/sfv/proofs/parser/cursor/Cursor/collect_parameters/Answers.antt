@@ -7,12 +7,7 @@ use Rattle.sfv.proofs.visits.Parameters.{of_visitor, visited_all, visited_error,
 use Rattle.sfv.proofs.parser.cursor.Cursor.collect_parameters.Goals as goal
 
 pub loop-parameter-init : goal.loop-parameter-init
-loop-parameter-init c = record {
-  collected = collected_none (version c.args.self.now) (rest c.args.self.now) c.args.params.now.entries
-      c.requires;
-  kept = refl;
-  seed = refl;
-}
+loop-parameter-init c = record { collected = collected_none _ _ _ c.requires; kept = refl; seed = refl }
 
 pub returns-in_err-parameter-clause-tree : goal.returns-in_err-parameter-clause-tree
 returns-in_err-parameter-clause-tree c =
@@ -38,10 +33,9 @@ pub returns-in_err-insert_parameter-clause-tree : goal.returns-in_err-insert_par
 returns-in_err-insert_parameter-clause-tree c =
     let e = rw c.in-Some.is at c.in_ok-parameter.ensures.read in
     let read = kept_reads parameter_at _ _ _ c.loop-parameter.invariant.kept ∙ e.0 in
-    rw (left_with c.from_residual-in_err-insert_parameter.ensures.1) (as_fault (of_visitor Any NoMemory parameters_events
-    (kept c.args.self.now) c.parameter.new.self tt tt (λ _. ⊤) _ _ c.in_err-insert_parameter.ensures.failed
-    (λ fault failed. parameter_failed Any NoMemory _ _ _ _ _ _ _ _ fault
-    c.loop-parameter.invariant.collected.visited read tt)))
+    rw (left_with c.from_residual-in_err-insert_parameter.ensures.1) (as_fault
+    (of_visitor _ _ _ (kept c.args.self.now) c.parameter.new.self tt tt _ _ _ c.in_err-insert_parameter.ensures.failed
+    (λ fault failed. parameter_failed _ _ _ _ _ _ _ _ _ _ _ c.loop-parameter.invariant.collected.visited read tt)))
 
 pub returns-clause-tree : goal.returns-clause-tree
 returns-clause-tree c =

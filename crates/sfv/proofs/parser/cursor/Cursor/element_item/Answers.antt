@@ -5,8 +5,7 @@ use Rattle.sfv.proofs.trees.{Errors.{fails_after, item_ends}, Parts.{later_fails
 use Rattle.sfv.proofs.parser.cursor.Cursor.element_item.Goals as goal
 
 pub returns-in_err-bare_item-clause-tree : goal.returns-in_err-bare_item-clause-tree
-returns-in_err-bare_item-clause-tree g c =
-    rw (left_with c.from_residual.ensures.1) c.in_err-bare_item.ensures.failed
+returns-in_err-bare_item-clause-tree g c = rw (left_with c.from_residual.ensures.1) c.in_err-bare_item.ensures.failed
 
 pub returns-in_err-tree_parameters-clause-tree : goal.returns-in_err-tree_parameters-clause-tree
 returns-in_err-tree_parameters-clause-tree g c =

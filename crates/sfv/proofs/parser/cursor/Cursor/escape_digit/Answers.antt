@@ -23,12 +23,7 @@ returns-in_default-escape_digit_value c =
 pub returns : goal.returns
 returns c =
     let digit = digit_is c.in-Some.byte _ (sym c.escape_digit_value.ensures ∙ c.in-Some-escape_digit_value.is) in (
-      (
-        c.in-Some.byte,
-        first_is _ _ _ _ (sym c.peek.ensures ∙ c.in-Some.is) c.skip.ensures.skips.1,
-        digit.0,
-        digit.1,
-      ),
+      (c.in-Some.byte, first_is _ _ _ _ (sym c.peek.ensures ∙ c.in-Some.is) c.skip.ensures.skips.1, digit.0, digit.1),
       digit.2,
       c.skip.ensures.kept,
     )

@@ -7,9 +7,8 @@ use Rattle.sfv.proofs.parser.cursor.Cursor.members.Given as goal
 abbrev pub invariant-loop-wants : goal.invariant-loop-wants
 invariant-loop-wants g l = record {
   ready : g.V.Visitor.is_ready l.visitor;
-  awaits : Awaits g.V.Visitor (members_loop g.M.Member.keyed) l.fn.self
-      (members_at (member_parts g.M.Member.keyed) (one_member_at g.M.Member.keyed (version l.fn.self)) (rest l.fn.self))
-      l.wants l.self l.fn.visitor l.visitor;
+  awaits : Awaits g.V.Visitor (members_loop g.M.Member.keyed) l.fn.self (members_at (member_parts g.M.Member.keyed)
+      (one_member_at g.M.Member.keyed (version l.fn.self)) (rest l.fn.self)) l.wants l.self l.fn.visitor l.visitor;
   end : l.wants ≡ false → rest l.self ≡ [];
 }
 

@@ -6,18 +6,16 @@ use Rattle.sfv.proofs.{reads.Steps.{parameter_is, parameter_keyed, parameter_som
 use Rattle.sfv.proofs.parser.cursor.Cursor.parameter.Goals as goal
 
 pub returns-in_err-key-clause-read : goal.returns-in_err-key-clause-read
-returns-in_err-key-clause-read c =
-    rw (left_with c.from_residual.ensures.1)
-    (ErrorOf-part _ _ _ (λ _. key_at) _ _ _ (c.skip_sp.ensures.kept
-    ∙ c.take_if.ensures.kept) (parameter_is _ _ _ _ _ c.if-not-take_if.ensures.takes c.skip_sp.ensures.skipped.1)
+returns-in_err-key-clause-read c = rw (left_with c.from_residual.ensures.1)
+    (ErrorOf-part _ _ _ (λ _. key_at) _ _ _ (c.skip_sp.ensures.kept ∙ c.take_if.ensures.kept)
+    (parameter_is _ _ _ _ _ c.if-not-take_if.ensures.takes c.skip_sp.ensures.skipped.1)
     (ErrorOf-fault _ _ _ c.in_err-key.ensures.read))
 
 pub returns-in_err-value-clause-read : goal.returns-in_err-value-clause-read
-returns-in_err-value-clause-read c =
-    rw (left_with c.from_residual-in_err-value.ensures.1)
-    (ErrorOf-part _ _ _ value_at _ _ _ (c.in_ok-key.ensures.read.1 ∙ c.skip_sp.ensures.kept
-    ∙ c.take_if.ensures.kept) (parameter_keyed _ _ _ _ _ _ _ c.if-not-take_if.ensures.takes
-    c.skip_sp.ensures.skipped.1 c.in_ok-key.ensures.read.0) c.in_err-value.ensures.read)
+returns-in_err-value-clause-read c = rw (left_with c.from_residual-in_err-value.ensures.1)
+    (ErrorOf-part _ _ _ value_at _ _ _ (c.in_ok-key.ensures.read.1 ∙ c.skip_sp.ensures.kept ∙ c.take_if.ensures.kept)
+    (parameter_keyed _ _ _ _ _ _ _ c.if-not-take_if.ensures.takes c.skip_sp.ensures.skipped.1
+    c.in_ok-key.ensures.read.0) c.in_err-value.ensures.read)
 
 pub returns-clause-read : goal.returns-clause-read
 returns-clause-read c =
@@ -28,7 +26,6 @@ returns-clause-read c =
     )
 
 pub returns-clause-next : goal.returns-clause-next
-returns-clause-next c =
-    parameter_next _ _ c.in_ok-key.key c.in_ok-value.value _ _ _ _ _ _
-    (ap kept_version (c.in_ok-key.ensures.read.1 ∙ c.skip_sp.ensures.kept ∙ c.take_if.ensures.kept))
-    c.if-not-take_if.ensures.takes c.skip_sp.ensures.skipped.1 c.in_ok-key.ensures.read.0 c.in_ok-value.ensures.next
+returns-clause-next c = parameter_next _ _ _ _ _ _ _ _ _ _ (ap kept_version (c.in_ok-key.ensures.read.1
+    ∙ c.skip_sp.ensures.kept ∙ c.take_if.ensures.kept)) c.if-not-take_if.ensures.takes c.skip_sp.ensures.skipped.1
+    c.in_ok-key.ensures.read.0 c.in_ok-value.ensures.next

@@ -8,10 +8,9 @@ use Rattle.sfv.proofs.parser.cursor.Cursor.push_inner_item.Goals as goal
 
 pub returns-in_err-bare_item-clause-tree : goal.returns-in_err-bare_item-clause-tree
 unfolding inner_item_at
-returns-in_err-bare_item-clause-tree c =
-    rw (left_with c.from_residual.ensures.1) (led_builds (λ b. item_with b c.element_item.new.params.entries) ordered_item
-    begins_item item_events item_at c.args.self.now c.element_item.new.self (Err c.in_err-bare_item.field-0.0)
-    c.in_err-bare_item.ensures.tree)
+returns-in_err-bare_item-clause-tree c = rw (left_with c.from_residual.ensures.1)
+    (led_builds (λ b. item_with b c.element_item.new.params.entries) ordered_item begins_item item_events item_at
+    c.args.self.now c.element_item.new.self (Err c.in_err-bare_item.field-0.0) c.in_err-bare_item.ensures.tree)
 
 pub returns-clause-tree : goal.returns-clause-tree
 unfolding inner_item_at
@@ -26,7 +25,5 @@ returns-clause-tree c =
     )
 
 pub returns-clause-seed : goal.returns-clause-seed
-returns-clause-seed c h =
-    pushed_item_seed c.args.self.now.parser.seed _ _ _ c.with_params.result c.in_ok-bare_item.ensures.items
-    c.push_reserved.ensures.items (ap hasher_of c.with_params.ensures.params ∙ c.in_ok-bare_item.ensures.seed
-    ∙ c.with_hasher-params.ensures.hasher) h
+returns-clause-seed c h = pushed_item_seed _ _ _ _ _ c.in_ok-bare_item.ensures.items c.push_reserved.ensures.items
+    (ap hasher_of c.with_params.ensures.params ∙ c.in_ok-bare_item.ensures.seed ∙ c.with_hasher-params.ensures.hasher) h

@@ -15,16 +15,14 @@ use Rattle.sfv.proofs.parser.cursor.Cursor.push_member.Goals as goal
 pub returns-in_err-make_room-clause-tree : goal.returns-in_err-make_room-clause-tree
 returns-in_err-make_room-clause-tree c =
     let built = c.in_ok-items.ensures.tree in
-    rw (left_with c.from_residual-in_err-make_room.ensures.1) (fails_after member_events c.args.self.now _ member_at
-    built.0 _ parameters_end (member_list_some _ _ _ _ _ c.if-take_if.ensures.takes
-    (kept_reads inner_at _ _ _ c.take_if.ensures.kept ∙ built.1)) (member_ends built.0) tt
-    c.in_err-make_room.ensures.failed)
+    rw (left_with c.from_residual-in_err-make_room.ensures.1) (fails_after _ _ _ _ _ _ _
+    (member_list_some _ _ _ _ _ c.if-take_if.ensures.takes (kept_reads inner_at _ _ _ c.take_if.ensures.kept ∙ built.1))
+    (member_ends _) tt c.in_err-make_room.ensures.failed)
 
 pub returns-in_err-items-clause-tree : goal.returns-in_err-items-clause-tree
-returns-in_err-items-clause-tree c =
-    rw (left_with c.from_residual.ensures.1) (as_fault (list_member_visits Any NoMemory (version c.args.self.now) _ _
-    tt tt tt (kept c.args.self.now) c.tree_inner_list.new.self (Err c.in_err-items.field-0.0)
-    c.if-take_if.ensures.takes tt
+returns-in_err-items-clause-tree c = rw (left_with c.from_residual.ensures.1)
+    (as_fault (list_member_visits Any NoMemory (version c.args.self.now) _ _ tt tt tt
+    (kept c.args.self.now) c.tree_inner_list.new.self (Err c.in_err-items.field-0.0) c.if-take_if.ensures.takes tt
     (kept_visits Any NoMemory after_begin inner_at c.take_if.new.self c.tree_inner_list.new.self tt tt _
     (Err c.in_err-items.field-0.0) c.take_if.ensures.kept (as_answer c.in_err-items.ensures.tree))))
 
@@ -52,10 +50,9 @@ returns-then-take_if-clause-seed c h =
     ) h
 
 pub returns-in_err-bare_item-clause-tree : goal.returns-in_err-bare_item-clause-tree
-returns-in_err-bare_item-clause-tree c =
-    rw (left_with c.from_residual-in_err-bare_item.ensures.1) (as_fault (item_member_visits Any NoMemory (version c.args.self.now)
-    _ _ tt tt tt (kept c.args.self.now) c.element_item.new.self (Err c.in_err-bare_item.field-0.0)
-    c.if-take_if.ensures.takes tt
+returns-in_err-bare_item-clause-tree c = rw (left_with c.from_residual-in_err-bare_item.ensures.1)
+    (as_fault (item_member_visits Any NoMemory (version c.args.self.now) _ _ tt tt tt
+    (kept c.args.self.now) c.element_item.new.self (Err c.in_err-bare_item.field-0.0) c.if-take_if.ensures.takes tt
     (kept_visits Any NoMemory item_events item_at c.take_if.new.self c.element_item.new.self tt tt _
     (Err c.in_err-bare_item.field-0.0) c.take_if.ensures.kept (as_answer c.in_err-bare_item.ensures.tree))))
 
@@ -63,15 +60,13 @@ pub returns-clause-tree : goal.returns-clause-tree
 returns-clause-tree c =
     let built = c.in_ok-bare_item.ensures.tree in (
       item built.0,
-      member_item_some _ _ _ _ _ c.if-take_if.ensures.takes (kept_reads item_at _ _ _ c.take_if.ensures.kept
-          ∙ built.1),
+      member_item_some _ _ _ _ _ c.if-take_if.ensures.takes (kept_reads item_at _ _ _ c.take_if.ensures.kept ∙ built.1),
       pushed_tree _ _ _ (entries.Item c.with_params-2.result) (item built.0) c.in_ok-bare_item.ensures.items
           c.push_reserved-2.ensures.items (ap item (c.with_params-2.ensures.tree ∙ built.2)),
       built.3 ∙ c.take_if.ensures.kept,
     )
 
 pub returns-clause-seed : goal.returns-clause-seed
-returns-clause-seed c h =
-    pushed_seed c.args.self.now.parser.seed _ _ _ (entries.Item c.with_params-2.result) c.in_ok-bare_item.ensures.items
-    c.push_reserved-2.ensures.items (ap hasher_of c.with_params-2.ensures.params ∙ c.in_ok-bare_item.ensures.seed
+returns-clause-seed c h = pushed_seed _ _ _ _ _ c.in_ok-bare_item.ensures.items c.push_reserved-2.ensures.items
+    (ap hasher_of c.with_params-2.ensures.params ∙ c.in_ok-bare_item.ensures.seed
     ∙ c.with_hasher-params.ensures.hasher) h

@@ -11,8 +11,7 @@ returns-in_err-string-clause-read c =
 
 pub returns-clause-read : goal.returns-clause-read
 returns-clause-read c = (
-  bare_string _ _ _ c.requires c.skip.ensures.skips
-      ∙ given string_at (λ s. string s) _ _ _ c.in_ok-string.ensures.read.0,
+  bare_string _ _ _ c.requires c.skip.ensures.skips ∙ given _ _ _ _ _ c.in_ok-string.ensures.read.0,
   c.in_ok-string.ensures.read.1 ∙ c.skip.ensures.kept,
 )
 

@@ -23,8 +23,7 @@ returns-then-take_if-clause-tree c = (
   items_closed _ _ _ _ _ (rw (← c.peek.ensures) (c.is_none.ensures
       ∙ ap not c.if-is_none.false)) c.skip_sp.ensures.skipped.1 c.if-take_if.ensures.takes,
   ap (map item_tree) c.new-items.ensures.items,
-  c.take_if.ensures.kept
-      ∙ c.skip_sp.ensures.kept,
+  c.take_if.ensures.kept ∙ c.skip_sp.ensures.kept,
 )
 
 pub returns-then-take_if-clause-seed : goal.returns-then-take_if-clause-seed
@@ -38,8 +37,7 @@ returns-in_err-push_inner_item-clause-tree c =
     c.push_inner_item.new.self tt tt _ (
       items_first _ _ _ _ _ (rw (← c.peek.ensures) (c.is_none.ensures
           ∙ ap not c.if-is_none.false)) c.skip_sp.ensures.skipped.1 c.if-take_if.ensures.takes,
-      c.take_if.ensures.kept
-          ∙ c.skip_sp.ensures.kept,
+      c.take_if.ensures.kept ∙ c.skip_sp.ensures.kept,
     ) (as_answer c.in_err-push_inner_item.ensures.tree)))
 
 pub loop-items-init : goal.loop-items-init
@@ -88,13 +86,11 @@ loop-items-preserved c =
 pub returns-in_err-push_inner_item-2-clause-tree : goal.returns-in_err-push_inner_item-2-clause-tree
 returns-in_err-push_inner_item-2-clause-tree c =
     let wanted = rw c.if-branch.true at c.in_ok-consume_item_delimiter.ensures in
-    rw (left_with c.from_residual-in_err-push_inner_item-2.ensures.1) (as_fault (one_fails Any NoMemory items_loop
-    c.args.self.now _ c.loop-items.self c.consume_item_delimiter.new.self c.push_inner_item-in-loop-items.new.self
-    tt tt tt _ c.loop-items.invariant.built.visited wanted
-    (as_answer c.in_err-push_inner_item-2.ensures.tree)))
+    rw (left_with c.from_residual-in_err-push_inner_item-2.ensures.1)
+    (as_fault (one_fails _ _ _ _ _ _ c.consume_item_delimiter.new.self c.push_inner_item-in-loop-items.new.self tt
+    tt tt _ c.loop-items.invariant.built.visited wanted (as_answer c.in_err-push_inner_item-2.ensures.tree)))
 
 pub returns-clause-tree : goal.returns-clause-tree
 returns-clause-tree c =
     let wanted = rw c.if-branch.false at c.in_ok-consume_item_delimiter.ensures in
-    built_all items_loop (map ordered_item) items_with item_added c.args.self.now _ c.loop-items.self
-    c.consume_item_delimiter.new.self _ c.loop-items.invariant.built wanted
+    built_all _ _ items_with item_added _ _ _ c.consume_item_delimiter.new.self _ c.loop-items.invariant.built wanted

@@ -7,9 +7,8 @@ use Rattle.sfv.proofs.visits.{InnerLists.{items_fail, inner_list_visits}, Parts.
 use Rattle.sfv.proofs.parser.cursor.Cursor.tree_inner_list.Goals as goal
 
 pub returns-in_err-items-clause-tree : goal.returns-in_err-items-clause-tree
-returns-in_err-items-clause-tree c =
-    rw (left_with c.from_residual.ensures.1) (as_fault (items_fail Any NoMemory (version c.args.self.now)
-    (rest c.args.self.now) tt tt (kept c.args.self.now) c.tree_inner_items.new.self _ (as_answer c.in_err-items.ensures.tree)))
+returns-in_err-items-clause-tree c = rw (left_with c.from_residual.ensures.1) (as_fault (items_fail _ _ _ _ tt tt
+    (kept c.args.self.now) c.tree_inner_items.new.self _ (as_answer c.in_err-items.ensures.tree)))
 
 pub returns-in_err-tree_parameters-clause-tree : goal.returns-in_err-tree_parameters-clause-tree
 returns-in_err-tree_parameters-clause-tree c =

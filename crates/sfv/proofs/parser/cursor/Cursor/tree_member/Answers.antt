@@ -25,10 +25,9 @@ returns-then-take_if-clause-tree c =
     )
 
 pub returns-in_err-bare_item-clause-tree : goal.returns-in_err-bare_item-clause-tree
-returns-in_err-bare_item-clause-tree c =
-    rw (left_with c.from_residual-in_err-bare_item.ensures.1) (as_fault (item_member_visits Any NoMemory (version c.args.self.now)
-    _ _ tt tt tt (kept c.args.self.now) c.tree_item.new.self (Err c.in_err-bare_item.field-0.0)
-    c.if-take_if.ensures.takes tt
+returns-in_err-bare_item-clause-tree c = rw (left_with c.from_residual-in_err-bare_item.ensures.1)
+    (as_fault (item_member_visits Any NoMemory (version c.args.self.now) _ _ tt tt tt
+    (kept c.args.self.now) c.tree_item.new.self (Err c.in_err-bare_item.field-0.0) c.if-take_if.ensures.takes tt
     (kept_visits Any NoMemory item_events item_at c.take_if.new.self c.tree_item.new.self tt tt _
     (Err c.in_err-bare_item.field-0.0) c.take_if.ensures.kept (as_answer c.in_err-bare_item.ensures.tree))))
 
@@ -36,8 +35,7 @@ pub returns-clause-tree : goal.returns-clause-tree
 returns-clause-tree c =
     let built = c.in_ok-bare_item.ensures.tree in (
       item built.0,
-      member_item_some _ _ _ _ _ c.if-take_if.ensures.takes (kept_reads item_at _ _ _ c.take_if.ensures.kept
-          ∙ built.1),
+      member_item_some _ _ _ _ _ c.if-take_if.ensures.takes (kept_reads item_at _ _ _ c.take_if.ensures.kept ∙ built.1),
       ap item built.2,
       built.3 ∙ c.take_if.ensures.kept,
     )

@@ -39,16 +39,14 @@ loop-members-init g c =
     let some : is_some (first (rest c.skip_sp.new.self)) ≡ true =
     rw (← c.peek.ensures) (c.is_none.ensures ∙ ap not c.if-is_none.false) in
     record {
-      built = built_first (members_loop g.M.Members.keyed) (ordered_members g.M.Members.keyed)
-          (with_member g.M.Members.keyed) (member_added g.M.Members.keyed) c.args.self.now _ c.skip_sp.new.self
-          c.add_member.new.cursor _ _ (
-            members_first (member_parts g.M.Members.keyed) (one_member_at g.M.Members.keyed (version c.args.self.now))
-                _ _ _ c.skip_sp.ensures.skipped.1 some,
+      built = built_first _ _ (with_member _) (member_added _) _ _ c.skip_sp.new.self
+          _ _ _ (
+            members_first _ _ _ _ _ c.skip_sp.ensures.skipped.1 some,
             c.skip_sp.ensures.kept,
           ) c.empty-members.ensures.tree c.in_ok-add_member.ensures.tree;
       seed = keeps_seed g.M.Members.has_seed c.skip_sp.new.self c.args.self.now c.empty-members.result
           c.add_member.new.members c.skip_sp.ensures.kept c.in_ok-add_member.ensures.seed c.empty-members.ensures.seed;
-      more = members_need g.M.Members.keyed _ _ _ c.skip_sp.ensures.skipped.1 some;
+      more = members_need _ _ _ _ c.skip_sp.ensures.skipped.1 some;
     }
 
 pub returns-in_err-consume_comma-clause-tree : goal.returns-in_err-consume_comma-clause-tree

@@ -12,11 +12,10 @@ loop-parameter-init g c = record {
 }
 
 pub returns-in_err-parameter-clause-visited : goal.returns-in_err-parameter-clause-visited
-returns-in_err-parameter-clause-visited g c =
-    rw (left_with c.from_residual.ensures.1)
-    (parameter_error g.V.Visitor c.args.self.now c.loop-parameter.self c.parameter.new.self c.args.visitor.now
-    c.loop-parameter.visitor _ c.loop-parameter.invariant.kept c.loop-parameter.invariant.visited
-    c.in_err-parameter.ensures.read)
+returns-in_err-parameter-clause-visited g c = rw (left_with c.from_residual.ensures.1)
+    (parameter_error g.V.Visitor c.args.self.now c.loop-parameter.self c.parameter.new.self
+    c.args.visitor.now c.loop-parameter.visitor _ c.loop-parameter.invariant.kept
+    c.loop-parameter.invariant.visited c.in_err-parameter.ensures.read)
 
 pub returns-in_err-visit-clause-visited : goal.returns-in_err-visit-clause-visited
 returns-in_err-visit-clause-visited g c =

@@ -6,10 +6,9 @@ use Rattle.sfv.proofs.parser.member.EntryMember.consume.Goals as goal
 
 pub returns-in_err-visit-clause-visited : goal.returns-in_err-visit-clause-visited
 unfolding entry_at
-returns-in_err-visit-clause-visited g c =
-    rw (left_with c.from_residual.ensures.1)
-    (led_stops g.V.Visitor event.Entry member_events member_at c.args.cursor.now c.args.cursor.now c.args.visitor.now
-    c.visit.new.visitor _ refl c.in_err-visit.ensures.failed c.in_err-visit.ensures.failed_read)
+returns-in_err-visit-clause-visited g c = rw (left_with c.from_residual.ensures.1)
+    (led_stops g.V.Visitor event.Entry member_events member_at c.args.cursor.now c.args.cursor.now
+    c.args.visitor.now c.visit.new.visitor _ refl c.in_err-visit.ensures.failed c.in_err-visit.ensures.failed_read)
 
 pub returns-clause-visited : goal.returns-clause-visited
 unfolding entry_at

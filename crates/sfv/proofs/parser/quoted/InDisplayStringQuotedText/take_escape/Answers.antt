@@ -4,8 +4,7 @@ use Rattle.sfv.proofs.reads.{Errors.left_with, Escapes.{both_digits, second_faul
 use Rattle.sfv.proofs.parser.quoted.InDisplayStringQuotedText.take_escape.Goals as goal
 
 pub returns-in_err-high : goal.returns-in_err-high
-returns-in_err-high c =
-    rw (left_with c.from_residual.ensures.1) c.in_err-high.ensures.0
+returns-in_err-high c = rw (left_with c.from_residual.ensures.1) c.in_err-high.ensures.0
 
 pub returns-in_err-low : goal.returns-in_err-low
 returns-in_err-low c =
