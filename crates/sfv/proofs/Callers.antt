@@ -1,51 +1,24 @@
 -- Lemmas for callers. They lead from a value to the text, from a visitor's run to the field, and from a written text to
 -- its parsed value. Callers cite them from here.
 use Rattle.std.proofs.Common.{◌≡◌, ℕ, List, [], ◌∷◌, ◌++◌, true, cond, Result, Ok, Err, refl, sym, ◌∙◌, ap, subst, inl}
-use Rattle.std.proofs.Common.{inr}
-use Rattle.std.specs.Prelude.{fold}
-use Rattle.sfv_spec.specs.Events.{TreeEvent, events}
-use Rattle.sfv_base.specs.declared.error.ParseError.TheVariants as parse_errors
-use Rattle.sfv_spec.proofs.Runs.{runs_fold}
-use Rattle.std.specs.Prelude.{⊤, bytes_eq, option_map, Some, None, IfOk, IfErr, MatchResult}
-use Rattle.std.specs.declared.alloc.Global.{Global}
-use Rattle.std.specs.declared.vec.Vec.{Vec}
-use Rattle.std.proofs.lemmas.Option.{same_Some}
-use Rattle.std.proofs.lemmas.Result.{IfOk-weaker, IfErr-weaker}
+use Rattle.std.{proofs.Common.{inr, fold, bytes_eq, option_map, Some, None, IfOk, IfErr, MatchResult}, specs.Prelude.⊤}
+use Rattle.std.specs.declared.{alloc.Global.Global, vec.Vec.Vec}
+use Rattle.std.proofs.lemmas.{Option.same_Some, Result.{IfOk-weaker, IfErr-weaker}}
 use Rattle.indexmap.specs.IndexMap.{IndexMap, insert_entry}
-use Rattle.sfv_spec.specs.Values.{RawMember, RawField}
-use Rattle.sfv_spec.specs.declared.field_kind.FieldKind.{FieldKind}
-use Rattle.sfv_spec.specs.declared.field_kind.FieldKind.TheVariants.{Item as item_field, List as list_field}
-use Rattle.sfv_spec.specs.declared.field_kind.FieldKind.TheVariants.{Dictionary as dictionary_field}
-use Rattle.sfv_spec.specs.declared.version.Version.{Version}
-use Rattle.sfv_spec.specs.Grammar.{IsFieldText}
-use Rattle.sfv_spec.specs.Ordered.{last_of, ordered, ordered_member}
-use Rattle.sfv_spec.proofs.Repeats.{no_repeats}
-use Rattle.sfv_spec.proofs.Marks.{keys}
-use Rattle.sfv_spec.specs.Statements.{IsParsedAs, IsValue}
-use Rattle.sfv_spec.proofs.Collapse.{entered, collapse-distinct, collapse-push, last_of-push}
-use Rattle.sfv_spec.proofs.Structure.{one_field_lem}
-use Rattle.sfv_spec.proofs.Valid.{accepted_is_value_lem}
-use Rattle.sfv_spec.specs.Faults.{IsFaultAt}
-use Rattle.sfv_spec.specs.declared.error_kind.ErrorKind.{ErrorKind}
-use Rattle.sfv_base.specs.declared.error.Error.{Error}
-use Rattle.sfv_base.specs.Errors.{index_of, kind_of, out_of_memory}
-use Rattle.sfv_tree.specs.Trees.{list_tree, dictionary_tree}
+use Rattle.sfv_spec.proofs.{Collapse.{entered, collapse-distinct, collapse-push, last_of-push}, Marks.keys}
+use Rattle.sfv_spec.proofs.{Repeats.no_repeats, Runs.runs_fold, Structure.one_field_lem, Valid.accepted_is_value_lem}
 use Rattle.sfv_tree.specs.Builders.{list_state, list_step, dictionary_state, ListAdds, DictionaryAdds, dictionary_step}
-use Rattle.sfv_tree.specs.declared.hash_seed.HashSeed.{HashSeed}
-use Rattle.sfv_tree.specs.declared.parsed.ListEntry.{ListEntry}
-use Rattle.sfv_tree.specs.declared.visitor.list_builder.ListBuilder.{ListBuilder}
-use Rattle.sfv_tree.specs.declared.visitor.dictionary_builder.DictionaryBuilder.{DictionaryBuilder}
-use Rattle.sfv_base.specs.declared.error.ParseError.{ParseError}
-use Rattle.sfv_tree.specs.declared.visitor.Visitor.{Ghosts as Visitor}
-use Rattle.sfv.specs.declared.parser.Parser.{Parser}
-use Rattle.sfv.specs.Parsers.{version_of, input_of, IsParseError, IsAnswerBy, IsSyntaxErrorBy}
-use Rattle.sfv.specs.Parsers.{ReceivesAsReadBy, ReadsBy, ReadsItemBy}
+use Rattle.sfv_tree.{specs.declared.visitor.Visitor.Ghosts as Visitor, proofs.Entered.insert_entry-entered}
+use Rattle.sfv.specs.Field.{TreeEvent, events, RawMember, RawField, FieldKind, item_field, list_field, dictionary_field}
+use Rattle.sfv.specs.Field.{Version, IsFieldText, last_of, ordered, ordered_member, IsParsedAs, IsValue, IsFaultAt}
+use Rattle.sfv.specs.Field.{ErrorKind, index_of, kind_of, out_of_memory, list_tree, dictionary_tree, IsParseError}
+use Rattle.sfv.specs.Field.{IsAnswerBy, IsSyntaxErrorBy}
+use Rattle.sfv.specs.Parsers.{version_of, input_of, ReceivesAsReadBy, ReadsBy, ReadsItemBy}
+use Rattle.sfv.specs.Types.{Error, HashSeed, ListEntry, ListBuilder, DictionaryBuilder, ParseError}
+use Rattle.sfv.specs.{declared.parser.Parser.Parser, parser.Visits.ReturnsAfter}
 use Rattle.sfv.proofs.Relations.{HasFirst, HasVisitorError, has_visitor_error}
-use Rattle.sfv.proofs.visits.First.{has_first}
-use Rattle.sfv.specs.parser.Visits.{ReturnsAfter}
-use Rattle.sfv.proofs.built.Items.{insert_entry-entered}
-use Rattle.sfv.proofs.built.Lists.{built_list_after}
-use Rattle.sfv.proofs.built.Dictionaries.{built_dictionary_after}
+use Rattle.sfv.proofs.{built.Dictionaries.built_dictionary_after, built.Lists.built_list_after, visits.First.has_first}
+use Rattle.sfv_base.specs.declared.error.ParseError.TheVariants as parse_errors
 -- The last pair of a key: `IsLast` splits the pairs there (`last_of-split`, `split-last_of`). `none-last_of`: the key
 -- has no pair. `lookup-last_of`: without repeated keys, the last pair is the first. `last_of-over`: a function of each
 -- value.
@@ -164,7 +137,8 @@ pub use Rattle.sfv.proofs.Elements.{inner_list_ended}
 -- a test of some element, and a fact of some element, through a function of each element
 pub use Rattle.sfv.proofs.Elements.{list_any-map, Any-map, Any-from_map}
 -- the pairs of a dictionary or of parameters after a removal, and their last pairs: of the removed key, and of another
-pub use Rattle.sfv_tree.proofs.Removed.{member_removed, param_removed, last_of-without_same, last_of-without_other}
+pub use Rattle.sfv_tree.proofs.Removed.{member_removed, param_removed}
+pub use Rattle.sfv_spec.proofs.Collapse.{last_of-without_same, last_of-without_other}
 
 -- the member of a key in a parsed dictionary is the last member of the key in the text, with ordered parameters
 pub member_read : (version : Version) (t : List ℕ) (value : List (List ℕ × RawMember)) (key : List ℕ)
@@ -178,9 +152,8 @@ pub last_of-insert : {A : Type 0} (j : List ℕ) (ps : List (List ℕ × A)) (k 
     ≡ cond (bytes_eq j k) (Some v) (last_of j ps)
 last_of-insert {A} j ps k v distinct =
     let same = collapse-distinct ps distinct in
-    ap (last_of j) (insert_entry-entered ps k v
-    ∙ ap (λ (qs : List (List ℕ × A)). entered qs k v) (sym same) ∙ sym (collapse-push ps k v))
-    ∙ last_of-collapse j (ps ++ (k, v) ∷ []) ∙ last_of-push j ps k v
+    ap (last_of j) (insert_entry-entered ps k v ∙ ap (λ (qs : List (List ℕ × A)). entered qs k v) (sym same)
+    ∙ sym (collapse-push ps k v)) ∙ last_of-collapse j (ps ++ (k, v) ∷ []) ∙ last_of-push j ps k v
 
 -- an accepted text parses to its ordered value
 pub parsed_as : (version : Version) (kind : FieldKind) (t : List ℕ) (raw : RawField kind)
@@ -299,8 +272,7 @@ never_fails takes fails finishes finish_fails version kind t from raw (Ok out) a
     subst (λ (raw : RawField kind). ReturnsAfter takes finishes from (events kind raw) out) (sym (h.only raw accepted))
     h.holds
 never_fails takes fails finishes finish_fails version kind t from raw (Err (parse_errors.Syntax e)) accepted h k l P memory
-    failed =
-    subst (λ (e : Error). P (parse_errors.Syntax e)) (sym (accepted_error version kind t raw e accepted k.0)) memory
+    failed = subst (λ (e : Error). P (parse_errors.Syntax e)) (sym (accepted_error _ _ _ _ _ accepted k.0)) memory
 never_fails takes fails finishes finish_fails version kind t from raw (Err (parse_errors.Visitor error)) accepted h k l P
     memory failed = failed error (l.0 raw accepted)
 

@@ -1,32 +1,18 @@
 -- The text of all elements that an iterator over a list, an inner list or a dictionary returns, and of one element.
-use Rattle.std.proofs.Common.{◌≡◌, ◌++◌, ◌∙◌, ℕ, zero, suc, Bool, true, List, [], ◌∷◌, map, refl, sym, ap}
-use Rattle.std.proofs.Common.{subst, append-nil, Iter, arith, inl, inr}
-use Rattle.std.specs.Prelude.{codes, ◌||◌}
-use Rattle.std.specs.Borrow.{Bor}
-use Rattle.std.specs.Iterator.{Drains}
-use Rattle.std.specs.List.{list_any, Any}
-use Rattle.std.specs.Map.Iter.{TakesFirst, deref_pair}
-use Rattle.std.specs.Slice.Iter.{iter_rest, iter_steps}
-use Rattle.std.proofs.lemmas.Simd.{map-map}
-use Rattle.sfv_spec.specs.Texts.{joined}
-use Rattle.sfv_spec.specs.Values.{BareValue, RawItem, RawParameters, RawMember}
-use Rattle.sfv_spec.specs.declared.field_kind.FieldKind.TheVariants.{List as list_field}
-use Rattle.sfv_spec.specs.declared.field_kind.FieldKind.TheVariants.{Dictionary as dictionary_field}
-use Rattle.sfv_spec.specs.Canonical.{canonical, value_text, parameters_text, item_text, inner_list_text, member_text}
-use Rattle.sfv_spec.specs.Canonical.{dictionary_member_text}
-use Rattle.sfv_spec.specs.declared.version.Version.TheVariants.{Rfc9651}
+use Rattle.std.proofs.Common.{◌≡◌, ◌++◌, ◌∙◌, ℕ, zero, suc, Bool, true, List, [], ◌∷◌, map, refl, sym, ap, subst}
+use Rattle.std.proofs.Common.{append-nil, Iter, arith, inl, inr, codes, ◌||◌, Bor, Any}
+use Rattle.std.specs.{Iterator.Drains, List.list_any, Map.Iter.{TakesFirst, deref_pair}}
+use Rattle.std.{specs.Slice.Iter.{iter_rest, iter_steps}, proofs.lemmas.Simd.map-map}
+use Rattle.sfv_spec.specs.{Canonical.{value_text, parameters_text, item_text, dictionary_member_text}, Texts.joined}
 use Rattle.sfv_spec.proofs.Given.{newer_has_all}
-use Rattle.sfv_tree.specs.Trees.{item_tree, member_tree, list_tree, dictionary_tree}
-use Rattle.sfv_tree.specs.declared.parsed.Item.{Item}
-use Rattle.sfv_tree.specs.declared.parsed.ListEntry.{ListEntry}
-use Rattle.sfv_tree.proofs.Words.{entry_tree}
 use Rattle.sfv_writer.specs.Versions.{inner_items, list_members, dictionary_members, parts_text, IsSerializeError}
-use Rattle.sfv_writer.specs.declared.serialize_error.SerializeError.{SerializeError}
-use Rattle.sfv_writer.specs.declared.serialize_error.SerializeError.TheVariants as errors
 use Rattle.sfv_writer.specs.Written.{with_separators}
-use Rattle.sfv_writer.proofs.Lent.{slice_gives, map_gives}
-use Rattle.sfv_writer.proofs.Separated.{in_a_row_first}
+use Rattle.sfv_writer.proofs.{Lent.{slice_gives, map_gives}, Separated.in_a_row_first}
 use Rattle.sfv_serializer.proofs.Scripts.{inner_list_ended as ended}
+use Rattle.sfv.specs.Field.{canonical, inner_list_text, member_text, BareValue, RawItem, RawParameters, RawMember}
+use Rattle.sfv.specs.Field.{item_tree, list_tree, dictionary_tree, list_field, dictionary_field, Rfc9651}
+use Rattle.sfv.specs.Types.{Item, ListEntry, SerializeError}
+use Rattle.sfv_writer.specs.declared.serialize_error.SerializeError.TheVariants as errors
 
 -- the text of all elements, through a function of each
 through : {A B : Type 0} (separator : List ℕ) (text : B → List ℕ) (lent : A → B) (taken : List A) (all : List B)
@@ -38,21 +24,18 @@ through separator text lent taken all is = in_a_row_first separator (map (λ x. 
 -- all members of a list
 pub members_all : (s : Iter ListEntry) (taken : List (Bor ListEntry)) → Drains iter_steps s taken
     → parts_text list_members (codes ", ") true taken ≡ canonical list_field (list_tree (iter_rest s))
-members_all s taken drained = through (codes ", ") member_text (λ (m : Bor ListEntry). member_tree m.now) taken
-    (list_tree (iter_rest s)) ((slice_gives member_tree s (iter_rest s) refl).all taken drained)
+members_all s taken drained = through _ _ _ _ _ ((slice_gives _ _ _ refl).all taken drained)
 
 -- all items of an inner list
 pub items_all : (s : Iter Item) (taken : List (Bor Item)) → Drains iter_steps s taken
     → parts_text inner_items (codes " ") true taken ≡ joined (codes " ") (map item_text (map item_tree (iter_rest s)))
-items_all s taken drained = through (codes " ") item_text (λ (i : Bor Item). item_tree i.now) taken
-    (map item_tree (iter_rest s)) ((slice_gives item_tree s (iter_rest s) refl).all taken drained)
+items_all s taken drained = through _ _ _ _ _ ((slice_gives _ _ _ refl).all taken drained)
 
 -- all members of a dictionary
 pub entries_all : (es : List (List ℕ × ListEntry)) (taken : List (Bor (List ℕ) × Bor ListEntry))
     → Drains (TakesFirst deref_pair) es taken
     → parts_text dictionary_members (codes ", ") true taken ≡ canonical dictionary_field (dictionary_tree es)
-entries_all es taken drained = through (codes ", ") dictionary_member_text (λ m. entry_tree (deref_pair m)) taken
-    (dictionary_tree es) ((map_gives deref_pair entry_tree es es refl).all taken drained)
+entries_all es taken drained = through _ _ _ _ _ ((map_gives _ _ _ _ refl).all taken drained)
 
 -- ---- one element
 
@@ -66,8 +49,7 @@ pub one_inner_item : (i : RawItem) (ps : RawParameters)
     → inner_list_text (record { items = i ∷ []; parameters = ps }) ≡ codes "(" ++ item_text i ++ codes ")" ++ parameters_text ps
 one_inner_item i ps = refl
 
-pub one_parameter : (key : List ℕ) (b : BareValue)
-    → parameters_text ((key, b) ∷ []) ≡ codes ";" ++ key ++ value_text b
+pub one_parameter : (key : List ℕ) (b : BareValue) → parameters_text ((key, b) ∷ []) ≡ codes ";" ++ key ++ value_text b
 one_parameter key b = append-nil (codes ";" ++ key ++ value_text b)
 
 -- ---- an inner list that was begun, written and ended

@@ -1,6 +1,6 @@
 -- A list that is not called empty has a first element.
-use Rattle.std.proofs.Common.{◌≡◌, Bool, true, false, List, [], ◌∷◌, length, map, refl, ap, ◌∙◌, sym, arith}
-use Rattle.std.specs.Prelude.{IsTrue, ◌↔◌, not}
+use Rattle.std.proofs.Common.{◌≡◌, Bool, true, false, List, [], ◌∷◌, length, map, refl, ap, ◌∙◌, sym, arith, IsTrue}
+use Rattle.std.proofs.Common.{◌↔◌, not}
 
 pub first_unless_empty : {A B : Type 0} (f : A → B) (xs : List A) (empty : Bool) → IsTrue empty ↔ (length xs ≡ 0)
     → IsTrue (not empty) ↔ ((y : B) × (ys : List B) × (map f xs ≡ y ∷ ys))

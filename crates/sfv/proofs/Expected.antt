@@ -1,30 +1,18 @@
 -- What a visitor that expects one bare item says of the field.
 use Rattle.std.proofs.Common.{◌≡◌, List, [], ◌∷◌, ◌++◌, Option, Some, None, Result, Ok, Err, refl, sym, ap, subst, ◌∙◌}
-use Rattle.std.proofs.Common.{inl, inr}
-use Rattle.std.specs.Prelude.{⊤, ℕ, IfOk, MatchOption}
-use Rattle.std.proofs.lemmas.Option.{same_Some}
-use Rattle.sfv_spec.specs.Values.{BareValue, RawItem}
-use Rattle.sfv_spec.specs.declared.field_kind.FieldKind.TheVariants.{Item as item_field}
-use Rattle.sfv_spec.specs.declared.version.Version.{Version}
-use Rattle.sfv_spec.specs.Grammar.{IsFieldText, BeginsWithLongest}
+use Rattle.std.proofs.Common.{inl, inr, ℕ, IfOk, MatchOption}
+use Rattle.std.{specs.List.FoldsTo, specs.Prelude.⊤, proofs.lemmas.Option.same_Some}
+use Rattle.sfv_spec.specs.{Events.item_events, Grammar.BeginsWithLongest}
 use Rattle.sfv_model.proofs.FirstBareItem.{BeginsWithComplete}
-use Rattle.sfv_spec.specs.Events.{TreeEvent, bare_item, parameters_events, item_events}
-use Rattle.std.specs.List.{FoldsTo}
-use Rattle.sfv_base.specs.declared.error.Error.{Error}
-use Rattle.sfv_base.specs.declared.error.ParseError.{ParseError}
-use Rattle.sfv_base.specs.declared.error.ParseError.TheVariants.{Syntax, Visitor}
-use Rattle.sfv_base.specs.Errors.{out_of_memory}
-use Rattle.sfv_values.specs.BareItems.{input_value}
-use Rattle.sfv_tree.specs.declared.visitor.ItemFault.{ItemFault}
-use Rattle.sfv_tree.specs.declared.visitor.ItemFault.TheVariants as faults
-use Rattle.sfv_tree.specs.Events.{event_of}
-use Rattle.sfv_tree.specs.declared.visitor.Event.{Event}
-use Rattle.sfv_tree.specs.declared.visitor.Event.TheVariants as event
-use Rattle.sfv_tree.specs.ProvidedVisitors.{ReadBareItem, OnRead, KeepTakes, KeepFails}
-use Rattle.sfv_tree.specs.declared.expect_item.ExpectItem.{ExpectItem}
-use Rattle.sfv.specs.Parsers.{IsBorrowedIfPlain}
-use Rattle.sfv.proofs.built.Seeded.{runs_weaker}
+use Rattle.sfv_base.specs.declared.error.{Error.Error, ParseError.ParseError, ParseError.TheVariants.{Syntax, Visitor}}
+use Rattle.sfv_tree.specs.{Events.event_of, ProvidedVisitors.{ReadBareItem, OnRead, KeepTakes, KeepFails}}
+use Rattle.sfv_tree.specs.declared.{expect_item.ExpectItem.ExpectItem, visitor.Event.Event, visitor.ItemFault.ItemFault}
+use Rattle.sfv.specs.Field.{BareValue, RawItem, item_field, Version, IsFieldText, TreeEvent, bare_item}
+use Rattle.sfv.specs.{Field.{parameters_events, out_of_memory, input_value}, Parsers.IsBorrowedIfPlain}
 use Rattle.sfv.proofs.Relations.{WithSomeVisitor, Answers, FailsIn, HasVisitorError, HasFirst, HasBorrowed}
+use Rattle.sfv.proofs.built.Seeded.{runs_weaker}
+use Rattle.sfv_tree.specs.declared.visitor.ItemFault.TheVariants as faults
+use Rattle.sfv_tree.specs.declared.visitor.Event.TheVariants as event
 
 module _ {T : Type 0} (holds : T → BareValue) (is_of : T → ReadBareItem → Type 0)
     (fails : ReadBareItem → ItemFault → Type 0) where

@@ -1,29 +1,16 @@
 -- Lemmas that lead from a visitor's result to the clause of a field crate in one step. `Callers` re-exports them.
 use Rattle.std.proofs.Common.{◌≡◌, ℕ, List, [], ◌∷◌, true, false, cond, Option, Some, None, Bool, refl, sym, ap, ◌∙◌, ℤ}
-use Rattle.std.proofs.Common.{IsTrue, ◌++◌, Result, Ok, Err, subst, append_assoc}
-use Rattle.std.specs.Prelude.{OnOk, bytes_eq, fold, option_map, unwrap_or}
-use Rattle.std.proofs.lemmas.List.{append-nil}
-use Rattle.std.proofs.lemmas.Slice.Eq.{bytes_eq-Decides}
-use Rattle.sfv_spec.specs.Values.{RawField, BareValue, RawParameters, RawMember, IsFieldValue, integer, decimal, string}
-use Rattle.sfv_spec.specs.Values.{token, byte_sequence, boolean, date, display_string, Fits, fits_bare, bare_values}
-use Rattle.sfv_spec.specs.declared.field_kind.FieldKind.{FieldKind}
-use Rattle.sfv_spec.specs.declared.field_kind.FieldKind.TheVariants.{List as list_field, Dictionary as dictionary_field}
-use Rattle.sfv_spec.specs.declared.version.Version.{Version}
-use Rattle.sfv_spec.specs.declared.version.Version.TheVariants.{Rfc8941, Rfc9651}
-use Rattle.sfv_spec.specs.Events.{TreeEvent, entry, keyed_entry, begins_item, begins_inner_list, bare_item, parameter}
-use Rattle.sfv_spec.specs.Events.{inner_list_end, parameters_end, parameters_events, entry_events, keyed_events, events}
-use Rattle.sfv_spec.specs.Ordered.{last_of, ordered, ordered_member}
-use Rattle.sfv_spec.specs.Statements.{IsParsedAs}
-use Rattle.sfv_spec.proofs.Structure.{one_field_lem}
-use Rattle.sfv_spec.proofs.Fields.{all_fit_newer}
-use Rattle.sfv_spec.proofs.Kept.{last_kept, fold_parameters}
-use Rattle.sfv_spec.proofs.Collapse.{last_of-push}
-use Rattle.sfv_spec.proofs.Repeats.{IsOrdered}
-use Rattle.sfv_spec.proofs.Distinct.{ordered_same}
-use Rattle.sfv_spec.specs.Canonical.{canonical}
-use Rattle.sfv_spec.proofs.Runs.{runs_fold}
-use Rattle.sfv.proofs.Relations.{Answers}
-use Rattle.sfv.proofs.LastRead.{fold_entries, IsIdle, last_read, read_back_either}
+use Rattle.std.proofs.Common.{IsTrue, ◌++◌, Result, Ok, Err, subst, append_assoc, OnOk, bytes_eq, fold, option_map}
+use Rattle.std.proofs.{Common.{unwrap_or, append-nil}, lemmas.Slice.Eq.bytes_eq-Decides}
+use Rattle.sfv_spec.{specs.Values.{fits_bare, bare_values}, proofs.Collapse.last_of-push}
+use Rattle.sfv_spec.proofs.{Distinct.ordered_same, Fields.all_fit_newer, Kept.{last_kept, fold_parameters}}
+use Rattle.sfv_spec.proofs.{Repeats.IsOrdered, Runs.runs_fold, Structure.one_field_lem}
+use Rattle.sfv.specs.Field.{RawField, BareValue, RawParameters, RawMember, IsFieldValue, integer, decimal, string}
+use Rattle.sfv.specs.Field.{token, byte_sequence, boolean, date, display_string, Fits, FieldKind, list_field}
+use Rattle.sfv.specs.Field.{dictionary_field, Version, Rfc8941, Rfc9651, TreeEvent, entry, keyed_entry, begins_item}
+use Rattle.sfv.specs.Field.{begins_inner_list, bare_item, parameter, inner_list_end, parameters_end, parameters_events}
+use Rattle.sfv.specs.Field.{entry_events, keyed_events, events, last_of, ordered, ordered_member, IsParsedAs, canonical}
+use Rattle.sfv.proofs.{LastRead.{fold_entries, IsIdle, last_read, read_back_either}, Relations.Answers}
 
 -- If each pair of a key sets the looked-at part of the state, and no other pair changes it, the final part comes from the
 -- key's last pair. It begins as without a pair.
@@ -35,9 +22,8 @@ pub last_set : {A S X : Type 0} (holds : S → Type 0) (step : S → List ℕ ×
     → (look (fold step s pairs) ≡ of (last_of key pairs)) × holds (fold step s pairs)
 last_set {A} {S} {X} holds step look key of set pairs s h none =
     let own : bytes_eq key key ≡ true = (bytes_eq-Decides key key).1 refl in
-    let kept = last_kept holds step look key (λ v. of (Some v))
-    (λ s k v h n. let now = set s k v h in (now.0 ∙ rw n refl, now.1))
-    (λ s v h. let now = set s key v h in (now.0 ∙ rw own refl, now.1)) pairs s h in
+    let kept = last_kept holds step look key (λ v. of (Some v)) (λ s k v h n. let now = set s k v h in
+    (now.0 ∙ rw n refl, now.1)) (λ s v h. let now = set s key v h in (now.0 ∙ rw own refl, now.1)) pairs s h in
     (kept.0 ∙ rw none (by_default (last_of key pairs)), kept.1)
   where
     by_default : (o : Option A) → unwrap_or (option_map (λ v. of (Some v)) o) (of None) ≡ of o
@@ -69,9 +55,8 @@ module _ {S : Type 0} (step : S → TreeEvent → S) where
   pub parameters_kept : (state : RawParameters → S)
       → ((ps : RawParameters) (k : List ℕ) (v : BareValue) → step (state ps) (parameter k v) ≡ state (ps ++ (k, v) ∷ []))
       → (ps : RawParameters) → fold step (state []) (parameters_events ps) ≡ step (state ps) parameters_end
-  parameters_kept state next ps = fold_parameters step ps (state [])
-      ∙ ap (λ (s : S). step s parameters_end) (state_kept (λ s p. step s (parameter p.0 p.1)) state
-      (λ ps p. next ps p.0 p.1) ps)
+  parameters_kept state next ps = fold_parameters step ps (state []) ∙ ap (λ (s : S). step s parameters_end)
+      (state_kept (λ s p. step s (parameter p.0 p.1)) state (λ ps p. next ps p.0 p.1) ps)
 
   -- a state is idle if each of six kinds of event leaves it
   pub idle_by : {s : S} → step s begins_item ≡ s → step s begins_inner_list ≡ s → ((b : BareValue) → step s (bare_item b) ≡ s)
@@ -89,9 +74,8 @@ module _ {S : Type 0} (step : S → TreeEvent → S) where
   -- The looked-at part, after the members of a list, is a fold over the ordered list by a function of each member.
   pub list_read : {X : Type 0} (look : S → X) (next : X → RawMember → X)
       → ((x : X) (m : RawMember) → next x (ordered_member m) ≡ next x m)
-      → ((s : S) (m : RawMember) → look (fold step s (entry_events m)) ≡ next (look s) m)
-      → (raw : List RawMember) (s : S)
-      → look (fold step s (events list_field raw)) ≡ fold next (look s) (ordered list_field raw)
+      → ((s : S) (m : RawMember) → look (fold step s (entry_events m)) ≡ next (look s) m) → (raw : List RawMember)
+      (s : S) → look (fold step s (events list_field raw)) ≡ fold next (look s) (ordered list_field raw)
   list_read {X} look next same kept raw s = ap look (fold_entries step raw s) ∙ members raw s
     where
       members : (raw : List RawMember) (s : S) → look (fold (λ s m. fold step s (entry_events m)) s raw)
@@ -127,10 +111,8 @@ pub answer_read : {V S O X : Type 0} {finishes : V → O → Type 0} (view : V �
 answer_read {V} {S} view step look shown kind of start finished all {version} {t} {from} {out} begun h = (
   ordered kind h.raw,
   record { raw = h.raw; accepted = h.accepted; only = λ other k. one_field_lem version kind t other h.raw k h.accepted; holds = refl },
-  finished h.holds.0 out h.holds.2
-      ∙ ap look (runs_fold view step (events kind h.raw) from h.holds.0 h.holds.1
-      ∙ ap (λ (s : S). fold step s (events kind h.raw)) begun)
-      ∙ all h.raw,
+  finished h.holds.0 out h.holds.2 ∙ ap look (runs_fold view step (events kind h.raw) from h.holds.0 h.holds.1
+      ∙ ap (λ (s : S). fold step s (events kind h.raw)) begun) ∙ all h.raw,
 )
 
 -- The text of calls that describe a value parses back to it under both versions, if the older one has the value.

@@ -1,25 +1,16 @@
 -- From the events of a field to what a visitor keeps of it: member by member, and in the end the last member of a key in
 -- the ordered dictionary. Callers cite these lemmas by `Callers`.
 use Rattle.std.proofs.Common.{◌≡◌, ℕ, List, [], ◌∷◌, ◌++◌, false, Option, Some, None, Result, Ok, Err, refl, sym, ap}
-use Rattle.std.proofs.Common.{◌∙◌}
-use Rattle.std.specs.Prelude.{bytes_eq, fold, flat_map, option_map, unwrap_or, OnOk}
+use Rattle.std.proofs.Common.{◌∙◌, bytes_eq, fold, flat_map, option_map, unwrap_or, OnOk}
 use Rattle.std.proofs.lemmas.List.Sums.{fold-append}
-use Rattle.sfv_spec.specs.Values.{RawField, RawItem, RawInnerList, RawMember, item, inner_list, Fits, bare_values}
-use Rattle.sfv_spec.specs.declared.field_kind.FieldKind.{FieldKind}
-use Rattle.sfv_spec.specs.declared.field_kind.FieldKind.TheVariants.{List as list_field, Dictionary as dictionary_field}
-use Rattle.sfv_spec.specs.declared.version.Version.{Version}
-use Rattle.sfv_spec.specs.declared.version.Version.TheVariants.{Rfc8941, Rfc9651}
-use Rattle.sfv_spec.specs.Canonical.{canonical}
-use Rattle.sfv_spec.specs.Statements.{IsParsedAs, IsValue}
-use Rattle.sfv_spec.specs.Events.{TreeEvent, begins_item, begins_inner_list, bare_item, inner_list_end}
-use Rattle.sfv_spec.specs.Events.{parameters_events, inner_item_events, member_events, entry_events, keyed_events}
-use Rattle.sfv_spec.specs.Events.{events}
-use Rattle.sfv_spec.specs.Ordered.{last_of, ordered, ordered_member}
-use Rattle.sfv_spec.proofs.Kept.{last_kept, fold_members, idle_within}
-use Rattle.sfv_spec.proofs.Last.{last_of-ordered}
+use Rattle.sfv_spec.specs.{Events.inner_item_events, Values.bare_values}
+use Rattle.sfv_spec.proofs.{Fields.all_fit_newer, Kept.{last_kept, fold_members, idle_within}, Last.last_of-ordered}
 use Rattle.sfv_spec.proofs.Runs.{IsInside, member_inside}
-use Rattle.sfv_spec.proofs.Fields.{all_fit_newer}
 use Rattle.sfv_writer.proofs.ReadBack.{value_read_back}
+use Rattle.sfv.specs.Field.{RawField, RawItem, RawInnerList, RawMember, item, inner_list, Fits, FieldKind, list_field}
+use Rattle.sfv.specs.Field.{dictionary_field, Version, Rfc8941, Rfc9651, canonical, IsParsedAs, IsValue, TreeEvent}
+use Rattle.sfv.specs.Field.{begins_item, begins_inner_list, bare_item, inner_list_end, parameters_events, member_events}
+use Rattle.sfv.specs.Field.{entry_events, keyed_events, events, last_of, ordered, ordered_member}
 
 -- what holds in any case holds on success
 pub on_ok : {A E : Type 0} (r : Result A E) (P : Type 0) → P → OnOk r P
@@ -69,11 +60,9 @@ module _ {S : Type 0} (step : S → TreeEvent → S) where
       → ((s : S) (m : RawMember) → look (fold step s (keyed_events (key, m))) ≡ of m)
       → (raw : List (List ℕ × RawMember)) (s : S) → look (fold step s (events dictionary_field raw))
       ≡ unwrap_or (option_map of (last_of key (ordered dictionary_field raw))) (look s)
-  last_read look key of same other own raw s =
-      ap look (fold_members step raw s)
-      ∙ (last_kept (λ _. Unit {0}) (λ s m. fold step s (keyed_events m)) look key of
-      (λ s k m h n. (other s k m n, tt)) (λ s m h. (own s m, tt)) raw s tt).0
-      ∙ sym (in_order (last_of key raw)) ∙ ap (λ o. unwrap_or (option_map of o) (look s)) (sym (last_of-ordered key raw))
+  last_read look key of same other own raw s = ap look (fold_members step raw s) ∙ (last_kept (λ _. Unit {0})
+      (λ s m. fold step s (keyed_events m)) _ _ _ (λ s k m h n. (other s k m n, tt)) (λ s m h. (own s m, tt)) _ _ tt).0
+      ∙ sym (in_order (last_of key raw)) ∙ ap (λ o. unwrap_or (option_map of o) (look s)) (sym (last_of-ordered _ _))
     where
       in_order : (o : Option RawMember)
           → unwrap_or (option_map of (option_map ordered_member o)) (look s) ≡ unwrap_or (option_map of o) (look s)

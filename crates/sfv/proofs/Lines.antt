@@ -1,17 +1,11 @@
 -- The value of two lines of a field is the value of the lines joined by a comma and a space.
-use Rattle.std.proofs.Common.{◌≡◌, ◌∙◌, ℕ, ◌<◌, List, ◌∷◌, ◌++◌, length, ap, sym, arith}
-use Rattle.std.specs.Prelude.{map, codes}
+use Rattle.std.proofs.Common.{◌≡◌, ◌∙◌, ℕ, ◌<◌, List, ◌∷◌, ◌++◌, length, ap, sym, arith, map, codes}
 use Rattle.std.proofs.lemmas.List.{map-append}
-use Rattle.sfv_spec.specs.Values.{RawMember, HasMember}
-use Rattle.sfv_spec.specs.Grammar.{IsFieldText}
-use Rattle.sfv_spec.specs.Ordered.{collapse, ordered_member, ordered}
-use Rattle.sfv_spec.specs.Statements.{IsParsedAs}
-use Rattle.sfv_spec.specs.declared.field_kind.FieldKind.TheVariants.{List as list_field, Dictionary as dictionary_field}
-use Rattle.sfv_spec.specs.declared.version.Version.{Version}
+use Rattle.sfv_spec.specs.Ordered.{collapse}
 use Rattle.sfv_spec.proofs.Collapse.{collapse-distinct, no_repeats-collapse, entered_all, entered_all-collapse}
-use Rattle.sfv_spec.proofs.Distinct.{is_ordered, ordered_same}
-use Rattle.sfv_spec.proofs.Structure.{one_field_lem}
-use Rattle.sfv_model.proofs.Lines.{joined_lines_lem}
+use Rattle.sfv_spec.proofs.{Distinct.{is_ordered, ordered_same}, Structure.one_field_lem}
+use Rattle.sfv_model.proofs.{Lines.joined_lines_lem, Types.{list_field, dictionary_field, Version}}
+use Rattle.sfv.specs.Field.{RawMember, HasMember, IsFieldText, ordered_member, ordered, IsParsedAs}
 use Rattle.sfv.proofs.built.Dictionaries.{collapse-over}
 
 -- the value of the first line has the same effect as its members
@@ -21,17 +15,15 @@ dictionary_again a b =
     let g : List ℕ × RawMember → List ℕ × RawMember = λ m. (m.0, ordered_member m.1) in
     let first = sym (collapse-over ordered_member (ordered dictionary_field a ++ b))
     ∙ ap collapse (map-append g (ordered dictionary_field a) b) in
-    let same : map g (ordered dictionary_field a) ≡ collapse (map g a) =
-    ap (map g) (sym (collapse-distinct (ordered dictionary_field a) (is_ordered dictionary_field a).0))
-    ∙ ordered_same dictionary_field (ordered dictionary_field a) (is_ordered dictionary_field a)
-    ∙ sym (collapse-over ordered_member a) in
+    let same : map g (ordered dictionary_field a) ≡ collapse (map g a) = ap (map g) (sym
+    (collapse-distinct (ordered dictionary_field a) (is_ordered dictionary_field a).0)) ∙ ordered_same dictionary_field
+    (ordered dictionary_field a) (is_ordered dictionary_field a) ∙ sym (collapse-over ordered_member a) in
     let twice : collapse (collapse (map g a)) ≡ collapse (map g a) =
     collapse-distinct (collapse (map g a)) (no_repeats-collapse (map g a)) in
     let last = sym (ap collapse (map-append g a b)) ∙ collapse-over ordered_member (a ++ b) in
     first ∙ ap (λ (es : List (List ℕ × RawMember)). collapse (es ++ map g b)) same
-    ∙ sym (entered_all-collapse (collapse (map g a)) (map g b))
-    ∙ ap (λ (es : List (List ℕ × RawMember)). entered_all es (map g b)) twice
-    ∙ entered_all-collapse (map g a) (map g b) ∙ last
+    ∙ sym (entered_all-collapse (collapse (map g a)) (map g b)) ∙ ap (λ (es : List (List ℕ × RawMember)). entered_all es
+    (map g b)) twice ∙ entered_all-collapse (map g a) (map g b) ∙ last
 
 some_member : {A : Type 0} {ms : List A} → (m : A) × (rest : List A) × (ms ≡ m ∷ rest) → 0 < length ms
 some_member h = rw h.2 (omega arith)

@@ -1,16 +1,8 @@
 -- Texts for which a reading asks for memory.
-use Rattle.std.proofs.Common.{ℕ, List, ◌∷◌, Result, Ok, Err, subst, arith}
-use Rattle.std.specs.Prelude.{IfErr}
-use Rattle.std.specs.List.{Contains}
+use Rattle.std.proofs.Common.{ℕ, List, ◌∷◌, Result, Ok, Err, subst, arith, IfErr, Contains}
 use Rattle.std.proofs.lemmas.List.Elements.{Contains-get_or}
-use Rattle.sfv_spec.specs.declared.field_kind.FieldKind.{FieldKind}
-use Rattle.sfv_spec.specs.declared.version.Version.{Version}
-use Rattle.sfv_spec.specs.Events.{TreeEvent}
-use Rattle.sfv_base.specs.declared.error.Error.{Error}
-use Rattle.sfv_base.specs.declared.error.ParseError.{ParseError}
-use Rattle.sfv_base.specs.declared.error.ParseError.TheVariants.{Syntax, Visitor}
-use Rattle.sfv.specs.Memory.{NeedsMark}
-use Rattle.sfv.specs.parser.Visits.{VisitsField}
+use Rattle.sfv_base.specs.declared.error.{Error.Error, ParseError.ParseError, ParseError.TheVariants.{Syntax, Visitor}}
+use Rattle.sfv.specs.{Field.{FieldKind, Version, TreeEvent}, Memory.NeedsMark, parser.Visits.VisitsField}
 
 -- ---- a byte of a text
 

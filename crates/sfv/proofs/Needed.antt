@@ -1,21 +1,11 @@
 -- The text of a list or of a dictionary with a member may need memory.
 use Rattle.std.proofs.Common.{◌≡◌, ◌==◌, ℕ, List, [], ◌∷◌, not, ap, sym, ◌∙◌, refl, inl, inr, arith, Result, Ok, Err}
-use Rattle.std.specs.Prelude.{◌⊎◌, IsTrue, IfErr}
-use Rattle.std.specs.List.{Contains}
-use Rattle.std.proofs.lemmas.Bool.{cases_Bool}
-use Rattle.std.proofs.lemmas.List.Elements.{Contains-append_right, Contains-get_or}
-use Rattle.sfv_spec.specs.Ascii.{byte}
-use Rattle.sfv_spec.specs.Values.{RawField, HasMember}
-use Rattle.sfv_spec.specs.declared.field_kind.FieldKind.{FieldKind}
-use Rattle.sfv_spec.specs.declared.field_kind.FieldKind.TheVariants.{Item as item_field, List as list_field}
-use Rattle.sfv_spec.specs.declared.field_kind.FieldKind.TheVariants.{Dictionary as dictionary_field}
-use Rattle.sfv_spec.specs.declared.version.Version.{Version}
-use Rattle.sfv_spec.specs.Grammar.{Spaces}
+use Rattle.std.proofs.Common.{◌⊎◌, IsTrue, IfErr, Contains}
+use Rattle.std.proofs.lemmas.{Bool.cases_Bool, List.Elements.{Contains-append_right, Contains-get_or}}
+use Rattle.sfv_spec.specs.{Ascii.byte, Grammar.Spaces}
+use Rattle.sfv.specs.Field.{RawField, HasMember, FieldKind, item_field, list_field, dictionary_field, Version, ordered}
+use Rattle.sfv.specs.{Field.{IsParsedAs, NeedsMemory}, Memory.may_need_memory, Types.Error}
 use Rattle.sfv_spec.specs.Ordered as order
-use Rattle.sfv_spec.specs.Ordered.{ordered}
-use Rattle.sfv_spec.specs.Statements.{IsParsedAs}
-use Rattle.sfv_base.specs.declared.error.Error.{Error}
-use Rattle.sfv.specs.Memory.{may_need_memory, NeedsMemory}
 
 -- some byte of the text may need memory in this type of field
 abbrev pub HasByte : FieldKind → List ℕ → Type 0

@@ -1,26 +1,12 @@
 -- What an answer of the reading says of the text, in the words of the definitions.
 use Rattle.std.proofs.Common.{◌≡◌, ℕ, ◌≤◌, ◌-◌, List, length, drop, Option, Some, None, Result, Ok, Err, refl, sym, ap}
-use Rattle.std.proofs.Common.{subst, ◌∙◌, inl, inr, arith}
-use Rattle.std.specs.Prelude.{MatchOption}
-use Rattle.std.proofs.lemmas.List.{length-drop}
-use Rattle.sfv_spec.specs.Values.{RawField}
-use Rattle.sfv_spec.specs.declared.field_kind.FieldKind.{FieldKind}
-use Rattle.sfv_spec.specs.declared.version.Version.{Version}
-use Rattle.sfv_spec.specs.Faults.{IsFaultAt}
-use Rattle.sfv_spec.specs.Ordered.{ordered}
-use Rattle.sfv_spec.specs.Statements.{IsParsedAs}
-use Rattle.sfv_spec.proofs.Structure.{one_field_lem}
-use Rattle.sfv_base.specs.declared.error.Error.{Error}
-use Rattle.sfv_spec.specs.declared.error_kind.ErrorKind.{ErrorKind}
-use Rattle.sfv_spec.specs.declared.error_kind.ErrorKind.TheVariants.{OutOfMemory}
-use Rattle.sfv_base.specs.Errors.{error_of, out_of_memory}
-use Rattle.sfv_model.specs.Reader.{Fault}
-use Rattle.sfv_model.specs.Fields.{read_field}
-use Rattle.sfv_model.proofs.Theorems.{read_is_accepted}
-use Rattle.sfv_model.proofs.FaultTable.{fault_is_at, fault_rejects}
-use Rattle.sfv.specs.parser.Cursor.{located_whole}
-use Rattle.sfv.specs.Parsers.{IsParseError}
-use Rattle.sfv.specs.Memory.{IsRefusal}
+use Rattle.std.proofs.Common.{subst, ◌∙◌, inl, inr, arith, MatchOption, length-drop}
+use Rattle.sfv_spec.{specs.declared.error_kind.ErrorKind.TheVariants.OutOfMemory, proofs.Structure.one_field_lem}
+use Rattle.sfv_model.specs.{Fields.read_field, Reader.Fault}
+use Rattle.sfv_model.proofs.{FaultTable.{fault_is_at, fault_rejects}, Theorems.read_is_accepted}
+use Rattle.sfv_base.specs.{Errors.error_of, declared.error.Error.Error}
+use Rattle.sfv.specs.Field.{RawField, FieldKind, Version, IsFaultAt, ordered, IsParsedAs, ErrorKind, out_of_memory}
+use Rattle.sfv.specs.{Field.IsParseError, Memory.IsRefusal, parser.Cursor.located_whole}
 
 -- a field that was read is the one that the grammar gives
 pub parsed : (version : Version) (kind : FieldKind) (t : List ℕ) (raw value : RawField kind)
@@ -47,9 +33,8 @@ located_at version kind t f index e here le =
 pub unnamed : (e : Error) → e.index ≡ None → e.kind ≡ OutOfMemory → e ≡ out_of_memory
 unnamed e i k = ap (λ (o : Option ℕ). error_of e.kind o) i ∙ ap (λ (kind : ErrorKind). error_of kind None) k
 
-pub located_fault : {A : Type 0} (answer : Result A Fault) (k : ErrorKind) (r : List ℕ) → located_whole answer
-    ≡ Err (k, r)
-    → (f : Fault) × (answer ≡ Err f) × (f.kind ≡ k) × (f.rest ≡ r)
+pub located_fault : {A : Type 0} (answer : Result A Fault) (k : ErrorKind) (r : List ℕ)
+    → located_whole answer ≡ Err (k, r) → (f : Fault) × (answer ≡ Err f) × (f.kind ≡ k) × (f.rest ≡ r)
 located_fault (Ok v) k r h = absurd cc
 located_fault (Err f) k r h =
     let there : ErrorKind × List ℕ = (k, r) in

@@ -1,36 +1,21 @@
 -- The ends of parsing with a visitor, for its relations, a version and a text. Lemmas for callers are stated in these. A
 -- clause says the same of a visitor and a parser.
 use Rattle.std.proofs.Common.{◌≡◌, ℕ, List, [], ◌∷◌, ◌++◌, take, Some, Result, Ok, Err, refl, sym, subst, inl, inr}
-use Rattle.std.proofs.Common.{arith}
-use Rattle.std.specs.Prelude.{⊤, ◌⊎◌, IfErr, map}
-use Rattle.std.specs.List.{FoldsTo, Contains}
-use Rattle.std.proofs.lemmas.List.Elements.{Contains-append_right}
-use Rattle.sfv_spec.specs.Values.{RawField, RawItem, BareValue, RawParameters, IsFieldValue}
-use Rattle.sfv_spec.specs.declared.field_kind.FieldKind.{FieldKind}
-use Rattle.sfv_spec.specs.declared.field_kind.FieldKind.TheVariants.{Item as item_field}
-use Rattle.sfv_spec.specs.declared.version.Version.{Version}
-use Rattle.sfv_spec.specs.declared.error_kind.ErrorKind.TheVariants.{TrailingCharactersAfterParsedValue}
-use Rattle.sfv_spec.specs.Grammar.{IsFieldText, IsAccepted, BeginsWithLongest, HasField}
-use Rattle.sfv_spec.specs.Reach.{IsReach}
-use Rattle.sfv_spec.specs.Events.{TreeEvent, bare_item, parameters_events, item_events, events}
-use Rattle.sfv_base.specs.declared.error.ParseError.{ParseError}
-use Rattle.sfv_base.specs.declared.error.ParseError.TheVariants.{Syntax, Visitor}
-use Rattle.sfv_base.specs.Errors.{error_of, out_of_memory}
-use Rattle.sfv_values.specs.BareItems.{input_value}
-use Rattle.sfv_tree.specs.declared.visitor.Event.{Event}
-use Rattle.sfv_tree.specs.declared.visitor.Visitor.{Ghosts}
-use Rattle.sfv_tree.specs.declared.visitor.Event.TheVariants as event
-use Rattle.sfv_tree.specs.Events.{event_of}
-use Rattle.sfv_tree.specs.ProvidedVisitors.{ReadBareItem}
+use Rattle.std.proofs.Common.{arith, ◌⊎◌, IfErr, map, Contains}
+use Rattle.std.{specs.List.FoldsTo, specs.Prelude.⊤, proofs.lemmas.List.Elements.Contains-append_right}
+use Rattle.sfv_spec.specs.{Events.item_events, Grammar.{BeginsWithLongest, HasField}, Reach.IsReach}
 use Rattle.sfv_spec.proofs.Valid.{accepted_is_value_lem}
-use Rattle.sfv_model.specs.Reader.{Fault}
-use Rattle.sfv_model.specs.Fields.{read_field}
-use Rattle.sfv_model.proofs.FirstBareItem.{BeginsWithComplete}
-use Rattle.sfv_model.proofs.Theorems.{read_is_accepted}
-use Rattle.sfv.specs.declared.parser.Parser.{Parser}
-use Rattle.sfv.specs.Parsers.{version_of, input_of, IsParseError, IsBorrowedIfPlain, AreReadFrom, FailsOn, at_event}
-use Rattle.sfv.specs.Parsers.{at_end, IsVisitorErrorBy}
-use Rattle.sfv.specs.parser.Visits.{ReturnsAfter}
+use Rattle.sfv_model.{specs.Fields.read_field, specs.Reader.Fault, proofs.FirstBareItem.BeginsWithComplete}
+use Rattle.sfv_model.proofs.{Theorems.read_is_accepted, Types.TrailingCharactersAfterParsedValue}
+use Rattle.sfv_base.specs.{Errors.error_of, declared.error.ParseError.TheVariants.{Syntax, Visitor}}
+use Rattle.sfv_tree.specs.{Events.event_of, ProvidedVisitors.ReadBareItem}
+use Rattle.sfv_tree.specs.declared.visitor.{Event.Event, Visitor.Ghosts}
+use Rattle.sfv.specs.Field.{RawField, RawItem, BareValue, RawParameters, IsFieldValue, FieldKind, item_field, Version}
+use Rattle.sfv.specs.Field.{IsFieldText, IsAccepted, TreeEvent, bare_item, parameters_events, events, out_of_memory}
+use Rattle.sfv.specs.Field.{input_value, IsParseError, IsVisitorErrorBy}
+use Rattle.sfv.specs.Parsers.{version_of, input_of, IsBorrowedIfPlain, AreReadFrom, FailsOn, at_event, at_end}
+use Rattle.sfv.specs.{Types.ParseError, declared.parser.Parser.Parser, parser.Visits.ReturnsAfter}
+use Rattle.sfv_tree.specs.declared.visitor.Event.TheVariants as event
 
 -- `P` holds of `x` and of some visitor as it is made
 abbrev pub WithSomeVisitor : {S X : Type 0} → (S → Type 0) → (S → X → Type 0) → X → Type 0
@@ -45,9 +30,8 @@ Answers takes finishes version kind t from out =
 -- an error at one of these events, or, if the visitor may, in finish after all of them
 abbrev pub FailsIn : {S E : Type 0} → (S → TreeEvent → S → Type 0) → (S → TreeEvent → E → Type 0) → (S → E → Type 0) → S
     → List TreeEvent → Type 0 → E → Type 0
-FailsIn {S} takes fails finish_fails from es may_finish error =
-    ((before : List TreeEvent) × (e : TreeEvent) × (after : List TreeEvent) × (s : S) × (es ≡ before ++ e ∷ after)
-    × FoldsTo takes from before s × fails s e error)
+FailsIn {S} takes fails finish_fails from es may_finish error = ((before : List TreeEvent) × (e : TreeEvent)
+    × (after : List TreeEvent) × (s : S) × (es ≡ before ++ e ∷ after) × FoldsTo takes from before s × fails s e error)
     ⊎ (may_finish × (last : S) × FoldsTo takes from es last × finish_fails last error)
 
 -- a syntax error is one of `parse`; one for characters after an item comes after the visitor has finished
@@ -62,15 +46,12 @@ HasSyntax takes finishes version kind t from (Visitor error) = ⊤
 abbrev pub HasVisitorError : {S E : Type 0} → (S → TreeEvent → S → Type 0) → (S → TreeEvent → E → Type 0)
     → (S → E → Type 0) → Version → FieldKind → List ℕ → S → ParseError E → Type 0
 HasVisitorError takes fails finish_fails version kind t from (Syntax e) = ⊤
-HasVisitorError takes fails finish_fails version kind t from (Visitor error) =
-    ((raw : RawField kind) → IsFieldText version kind raw t
-    → FailsIn takes fails finish_fails from (events kind raw) ⊤ error)
-    × (¬ IsAccepted version kind t
-    → ((raw : RawField kind) × IsFieldValue kind raw
-    × FailsIn takes fails finish_fails from (events kind raw) (kind ≡ item_field) error)
-    × ((n : ℕ) → IsReach version kind t n → (raw : RawField kind) × (more : List ℕ)
-    × IsFieldText version kind raw (take n t ++ more)
-    × FailsIn takes fails finish_fails from (events kind raw) ((kind ≡ item_field) × (more ≡ [])) error))
+HasVisitorError takes fails finish_fails version kind t from (Visitor error) = ((raw : RawField kind)
+    → IsFieldText version kind raw t → FailsIn takes fails finish_fails from (events kind raw) ⊤ error)
+    × (¬ IsAccepted version kind t → ((raw : RawField kind) × IsFieldValue kind raw
+    × FailsIn takes fails finish_fails from (events kind raw) (kind ≡ item_field) error) × ((n : ℕ)
+    → IsReach version kind t n → (raw : RawField kind) × (more : List ℕ) × IsFieldText version kind raw (take n t
+    ++ more) × FailsIn takes fails finish_fails from (events kind raw) ((kind ≡ item_field) × (more ≡ [])) error))
 
 -- the bare item that comes first
 abbrev pub HasFirst : {S E : Type 0} → (S → TreeEvent → S → Type 0) → (S → TreeEvent → E → Type 0) → (S → E → Type 0)
@@ -86,9 +67,8 @@ abbrev pub HasBorrowed : {S O : Type 0} → (S → TreeEvent → S → Type 0) �
     → Version → List ℕ → S → O → Type 0
 HasBorrowed {S} takes takes_read finishes version t from out = (read : ReadBareItem) × (parameters : RawParameters)
     × IsFieldText version item_field (record { bare = input_value read; parameters = parameters }) t
-    × (stands : BeginsWithLongest version (input_value read) t) × IsBorrowedIfPlain read stands.front
-    × (s : S) × takes_read from (event.BareItem read) s
-    × ReturnsAfter takes finishes s (parameters_events parameters) out
+    × (stands : BeginsWithLongest version (input_value read) t) × IsBorrowedIfPlain read stands.front × (s : S)
+    × takes_read from (event.BareItem read) s × ReturnsAfter takes finishes s (parameters_events parameters) out
 
 -- the events as read, and the result
 abbrev pub HasEventsRead : {S O : Type 0} → (S → TreeEvent → S → Type 0) → (S → Event → S → Type 0) → (S → O → Type 0)

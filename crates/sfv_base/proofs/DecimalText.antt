@@ -1,11 +1,7 @@
 -- The digits of a fraction, each printed as a number.
-use Rattle.std.proofs.Common.{◌≡◌, ℕ, ◌+◌, ◌/◌, ◌%◌, ◌<◌, ◌≢◌, List, [], ◌∷◌, ◌++◌, arith, ℤ}
-use Rattle.std.specs.Prelude.{nat_abs, decimal}
-use Rattle.std.proofs.lemmas.Fmt.{decimal_digit}
-use Rattle.std.proofs.lemmas.Grind.{common_steps}
-use Rattle.sfv_spec.proofs.Marks.{digit_zero, minus_text}
-use Rattle.std.specs.Int.{is_negative}
-use Rattle.sfv_spec.specs.Canonical.{decimal_text, fraction_digits}
+use Rattle.std.proofs.Common.{◌≡◌, ℕ, ◌+◌, ◌/◌, ◌%◌, ◌<◌, ◌≢◌, List, [], ◌∷◌, ◌++◌, arith, ℤ, nat_abs, decimal}
+use Rattle.std.{specs.Int.is_negative, proofs.lemmas.Fmt.decimal_digit, proofs.lemmas.Grind.common_steps}
+use Rattle.sfv_spec.{specs.Canonical.{decimal_text, fraction_digits}, proofs.Marks.{digit_zero, minus_text}}
 
 tenth : (f : ℕ) → f < 1000 → decimal (f / 100) ≡ (digit_zero + f / 100) ∷ []
 tenth f h = decimal_digit (f / 100) (omega arith)

@@ -1,4 +1,4 @@
 pub mod DecimalText
-mod Masks
+pub mod Masks
 mod Rows
 mod RunEnds

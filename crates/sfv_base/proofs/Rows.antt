@@ -1,22 +1,18 @@
 -- The rows of the tables of classes, and the classes as bits of a row.
-use Rattle.std.proofs.Common.{◌≡◌, ℕ, ◌<◌, Bool, true, not, eqb, List, get_or, bit_and, refl}
-use Rattle.std.proofs.lemmas.Bool.{agree_below, agree_below_at, eqb-true}
+use Rattle.std.proofs.Common.{◌≡◌, ℕ, ◌<◌, Bool, true, not, eqb, List, get_or, bit_and, refl, eqb-true}
+use Rattle.std.proofs.lemmas.Bool.{agree_below, agree_below_at}
 use Rattle.sfv_spec.specs.Classes.{is_string_byte, is_token_start, is_token_inner, is_key_start, is_key_inner}
-use Rattle.sfv_spec.specs.Classes.{is_lower_hexadecimal}
-use Rattle.sfv_spec.specs.Strings.{is_plain_in_display}
+use Rattle.sfv_spec.specs.{Classes.is_lower_hexadecimal, Strings.is_plain_in_display}
 use Rattle.sfv_spec.proofs.Marks.{is_plain_in_string, is_symbol}
-use Rattle.sfv_base.specs.Digits.{digit_row}
-use Rattle.sfv_base.specs.Rows.{class_sum, run_class_sum}
-use Rattle.sfv_base.specs.declared.utils.TheConstants.{CLASSES, DIGITS}
-use Rattle.sfv_base.specs.declared.runs.TheConstants.{RUN_CLASSES}
+use Rattle.sfv_base.specs.{Digits.digit_row, Rows.{class_sum, run_class_sum}}
+use Rattle.sfv_base.specs.declared.{runs.TheConstants.RUN_CLASSES, utils.TheConstants.{CLASSES, DIGITS}}
 
 -- the rows of a table are the values of a function, which is computed
 abbrev rows_are : (ℕ → ℕ) → List ℕ → Bool
 rows_are row table = agree_below (λ b. eqb (get_or table b 0) (row b)) (λ _. true) 256
 
 row_at : (row : ℕ → ℕ) (table : List ℕ) (b : ℕ) → b < 256 → rows_are row table ≡ true → get_or table b 0 ≡ row b
-row_at row table b lt all =
-    eqb-true _ _ (agree_below_at (λ k. eqb (get_or table k 0) (row k)) (λ _. true) 256 b all lt)
+row_at row table b lt all = eqb-true _ _ (agree_below_at (λ k. eqb (get_or table k 0) (row k)) (λ _. true) 256 b all lt)
 
 pub classes_at : (b : ℕ) → b < 256 → rows_are class_sum CLASSES ≡ true → get_or CLASSES b 0 ≡ class_sum b
 classes_at = row_at class_sum CLASSES

@@ -1,17 +1,13 @@
 -- A run of a class, seen 32 bytes at a time through the mask of those outside it.
 use Rattle.std.proofs.Common.{◌≡◌, ℕ, zero, suc, ◌+◌, ◌-◌, ◌*◌, ◌/◌, ◌<◌, ◌≤◌, Bool, true, false, not, cond, eqb, List}
 use Rattle.std.proofs.Common.{[], ◌∷◌, ◌++◌, inl, inr, length, get_or, take, drop, refl, sym, ap, ap₂, ◌∙◌, arith}
-use Rattle.std.proofs.Common.{drop-drop, length-drop}
+use Rattle.std.proofs.Common.{drop-drop, length-drop, eq-eqb, ne_eqb, take_all, take-append-drop, length-take-le}
+use Rattle.std.{proofs.Common.length-append, specs.Array.IsWholeChunk}
+use Rattle.std.{specs.List.{prefix_len, list_all}, specs.Simd.first_chunks, proofs.lemmas.Bool.{and_from, cases_lt}}
+use Rattle.std.proofs.lemmas.List.{Folds.prefix_len-append, Sums.{prefix_len-le-length, prefix_len_stops}}
 use Rattle.std.proofs.lemmas.Simd.{chunk-drop, length-chunk, leading_from_mask_l, trailing_mask_l}
-use Rattle.std.proofs.lemmas.List.Folds.{prefix_len-append}
-use Rattle.std.proofs.lemmas.List.Sums.{prefix_len-le-length, prefix_len_stops}
-use Rattle.std.proofs.lemmas.Bool.{eq-eqb, ne_eqb, and_from, cases_lt}
-use Rattle.std.specs.List.{prefix_len, list_all}
-use Rattle.std.specs.Simd.{first_chunks}
-use Rattle.std.specs.Array.{IsWholeChunk}
-use Rattle.std.proofs.lemmas.List.{take_all, take-append-drop, length-take-le, length-append}
-use lib.Lanes.{chunk}
 use lib.Count.{count_trailing_zeros}
+use lib.Lanes.{chunk}
 use Rattle.sfv_base.specs.Lanes.{outside_mask}
 
 -- the chunk at an index
@@ -75,18 +71,15 @@ module _ (class : ℕ → Bool) where
       (room : end + n ≤ length xs)
       (masked : mask ≡ outside_mask class (get_or blocks i [])) where
     mask_is : mask ≡ outside_mask class (chunk end n xs)
-    mask_is =
-        masked ∙ ap (outside_mask class) (ap (λ l. get_or l i []) front
-        ∙ chunk_at n (length xs / n) xs i (omega (arith, count, lt)))
-        ∙ ap (λ k. outside_mask class (chunk k n xs)) (sym place)
+    mask_is = masked ∙ ap (outside_mask class) (ap (λ l. get_or l i []) front ∙ chunk_at n
+        (length xs / n) xs i (omega (arith, count, lt))) ∙ ap (λ k. outside_mask class (chunk k n xs)) (sym place)
 
     pub block_passed : mask ≡ 0 → prefix_len class xs ≡ end + n + prefix_len class (drop (end + n) xs)
     block_passed none = omega (arith, so_far, run_through xs end n room (sym mask_is ∙ none))
 
     pub block_ends : (mask ≡ 0 → ⊥) → prefix_len class xs ≡ end + count_trailing_zeros 64 mask
-    block_ends some =
-        so_far ∙ ap (λ k. end + k) (run_stops xs end n room short (omega (arith, some, mask_is))
-        ∙ ap (count_trailing_zeros 64) (sym mask_is))
+    block_ends some = so_far ∙ ap (λ k. end + k)
+        (run_stops xs end n room short (omega (arith, some, mask_is)) ∙ ap (count_trailing_zeros 64) (sym mask_is))
 
   -- ---- the last n bytes, of which those before let the run go on
 
@@ -116,10 +109,8 @@ module _ (class : ℕ → Bool) where
         )
 
     pub last_ends : (mask ≡ 0 → ⊥) → prefix_len class xs ≡ start + count_trailing_zeros 64 mask
-    last_ends some =
-        run_from xs start (omega (arith, so_far, near))
-        ∙ ap (λ k. start + k) (run_stops xs start n (omega (arith, room)) short (omega (arith, some, masked))
-        ∙ ap (count_trailing_zeros 64) (sym masked))
+    last_ends some = run_from xs start (omega (arith, so_far, near)) ∙ ap (λ k. start + k) (run_stops xs start n
+        (omega (arith, room)) short (omega (arith, some, masked)) ∙ ap (count_trailing_zeros 64) (sym masked))
 
   -- the mask of a last chunk
   pub last_mask : (n : ℕ) (xs last : List ℕ) (start mask : ℕ) → mask ≡ outside_mask class last

@@ -1,24 +1,18 @@
 -- What `base64` accepts is symbols and padding.
 use Rattle.std.proofs.Common.{◌≡◌, ℕ, zero, suc, ◌<◌, ◌≤◌, ◌+◌, ◌*◌, true, false, List, [], ◌∷◌, ◌++◌, length, take}
-use Rattle.std.proofs.Common.{drop, replicate, refl, sym, ◌∙◌, ap, arith, slice_index, inl, inr, ◌⊎◌}
-use Rattle.std.specs.Prelude.{◌==◌}
-use Rattle.std.specs.List.{list_all}
-use Rattle.std.specs.declared.option.Option.{Option}
-use Rattle.std.specs.declared.option.Option.TheVariants.{None, Some}
-use Rattle.std.specs.declared.result.Result.TheVariants.{Err}
-use Rattle.std.proofs.lemmas.Bool.{cases_Bool, eqb-true}
-use Rattle.std.proofs.lemmas.List.Folds.{list_all-append}
-use lib.Seq.{take-add}
-use Rattle.base64.specs.declared.decode.DecodeError.{DecodeError}
-use Rattle.base64.specs.declared.decode.DecodeError.TheVariants.{InvalidByte}
-use Rattle.base64.specs.declared.engine.DecodePaddingMode.TheVariants.{Indifferent}
+use Rattle.std.proofs.Common.{drop, replicate, refl, sym, ◌∙◌, ap, arith, slice_index, inl, inr, ◌⊎◌, ◌==◌, eqb-true}
+use Rattle.std.{proofs.Common.take-add, specs.List.list_all, specs.declared.option.Option.Option}
+use Rattle.std.specs.declared.{option.Option.TheVariants.{None, Some}, result.Result.TheVariants.Err}
+use Rattle.std.proofs.lemmas.{Bool.cases_Bool, List.Folds.list_all-append}
 use Rattle.base64.specs.Decode.{or_else, symbol_error, group_error, groups_error, scan, scan_steps, scan_error}
 use Rattle.base64.specs.Decode.{no_leftover}
+use Rattle.base64.specs.declared.decode.DecodeError.{DecodeError, TheVariants.InvalidByte}
+use Rattle.base64.specs.declared.engine.DecodePaddingMode.TheVariants.{Indifferent}
 use Rattle.base64.proofs.Decoding.{scan-cons_ok, scan-cons_err}
 use Rattle.sfv_spec.proofs.Marks.{is_symbol}
 use Rattle.sfv_model.specs.Content.{most_padding}
-use Rattle.sfv_base64.proofs.Symbols.{IsTable, IsSymbol, symbol_of, no_symbol}
 use Rattle.sfv_base64.proofs.Groups.{four_at, one_scanned, two_scanned, three_scanned}
+use Rattle.sfv_base64.proofs.Symbols.{IsTable, IsSymbol, symbol_of, no_symbol}
 
 -- ---- the groups before the last
 

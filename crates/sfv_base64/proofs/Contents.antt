@@ -1,35 +1,28 @@
 -- What `base64` decodes, and the contents of byte sequences.
 use Rattle.std.proofs.Common.{◌≡◌, ℕ, ◌<◌, ◌≤◌, ◌+◌, ◌-◌, ◌*◌, ◌/◌, ◌%◌, true, false, List, [], ◌∷◌, ◌++◌, length, map}
-use Rattle.std.proofs.Common.{take, drop, replicate, append_assoc, refl, sym, ◌∙◌, ap, subst, arith, inl, inr}
-use Rattle.std.specs.Prelude.{◌==◌, ◌↔◌, IfOk, IfErr}
-use Rattle.std.specs.List.{list_all}
-use Rattle.std.specs.declared.option.Option.TheVariants.{None, Some}
-use Rattle.std.specs.declared.result.Result.TheVariants.{Ok, Err}
-use Rattle.std.proofs.lemmas.Bool.{cases_Bool, eqb-true, eqb-false, ne_eqb, cases_lt}
-use Rattle.std.proofs.lemmas.List.{length-append, length-replicate, length-drop, length-map, length-take-le, map-append}
-use Rattle.std.proofs.lemmas.List.{take-append-drop, take-append-le, drop-append-le, get_or-drop, nil_from_length}
-use Rattle.base64.specs.declared.engine.general_purpose.GeneralPurpose.{GeneralPurpose}
-use Rattle.std.specs.declared.result.Result.{Result}
-use Rattle.base64.specs.declared.decode.DecodeError.{DecodeError}
-use Rattle.base64.specs.declared.engine.DecodePaddingMode.TheVariants.{Indifferent}
+use Rattle.std.proofs.Common.{take, drop, replicate, append_assoc, refl, sym, ◌∙◌, ap, subst, arith, inl, inr, ◌==◌}
+use Rattle.std.proofs.Common.{◌↔◌, IfOk, IfErr, eqb-true, ne_eqb, length-append, length-drop, length-take-le}
+use Rattle.std.{proofs.Common.{take-append-drop, get_or-drop}, specs.List.list_all}
+use Rattle.std.specs.declared.option.Option.{Option, TheVariants.{None, Some}}
+use Rattle.std.specs.declared.result.Result.{Result, TheVariants.{Ok, Err}}
+use Rattle.std.proofs.lemmas.Bool.{cases_Bool, eqb-false, cases_lt}
+use Rattle.std.proofs.lemmas.List.{length-replicate, length-map, map-append, take-append-le, drop-append-le}
+use Rattle.std.proofs.lemmas.List.{nil_from_length, Folds.list_all-append}
 use Rattle.base64.specs.Decode.{lone_error, groups_error, groups_bytes, scan_steps, decode_error, decoded_bytes}
 use Rattle.base64.specs.Decode.{decode_outcome, groups_before_last}
 use Rattle.base64.specs.GeneralPurpose.{IsBytes, IsDecodeFailure, decode_of}
-use Rattle.base64.proofs.Tables.{are_tables_inverse, are_tables_padding}
-use Rattle.sfv_spec.specs.Base64.{IsBase64Text, symbol}
-use Rattle.sfv_model.proofs.base64.Contents.{counted, well_formed, gives_the_bytes}
-use Rattle.sfv_model.proofs.base64.Shape.{are_symbols}
-use Rattle.std.specs.declared.option.Option.{Option}
-use Rattle.std.proofs.lemmas.List.Folds.{list_all-append}
 use Rattle.base64.specs.declared.decode.DecodeAllocError.{DecodeAllocError}
 use Rattle.base64.specs.declared.decode.DecodeAllocError.TheVariants.{DecodeError as Failed, OutOfMemory}
-use Rattle.sfv_spec.proofs.Marks.{is_symbol}
+use Rattle.base64.specs.declared.{decode.DecodeError.DecodeError, engine.DecodePaddingMode.TheVariants.Indifferent}
+use Rattle.base64.specs.declared.engine.general_purpose.GeneralPurpose.{GeneralPurpose}
+use Rattle.base64.proofs.Tables.{are_tables_inverse, are_tables_padding}
+use Rattle.sfv_spec.{specs.Base64.{IsBase64Text, symbol}, proofs.Marks.is_symbol}
 use Rattle.sfv_model.specs.Content.{symbol_value, bytes_from, most_padding}
+use Rattle.sfv_model.proofs.base64.{Contents.{counted, well_formed, gives_the_bytes}, Shape.are_symbols}
 use Rattle.sfv.proofs.reads.Coded.{all_parts, bytes_from-append}
 use Rattle.sfv_base64.specs.Agreement.{HasNoBytes, IsLenient, ParsedAsDecoded}
-use Rattle.sfv_base64.proofs.Symbols.{IsTable}
-use Rattle.sfv_base64.proofs.Groups.{groups, last}
 use Rattle.sfv_base64.proofs.Accepted.{or_else_none, groups_symbols, last_symbols}
+use Rattle.sfv_base64.proofs.{Groups.{groups, last}, Symbols.IsTable}
 
 -- the decoding of a lenient engine, by its table
 abbrev decoding : List ℕ → List ℕ → Result (List ℕ) DecodeError

@@ -1,11 +1,7 @@
 -- What `base64` encodes.
 use Rattle.std.proofs.Common.{◌++◌, codes, ◌≡◌, ℕ, suc, ◌%◌, List, [], ◌∷◌, length, refl, arith}
-use Rattle.base64.specs.Rfc4648.{encode_symbols}
-use Rattle.base64.specs.Engines.{standard}
-use Rattle.base64.specs.GeneralPurpose.{encode_of}
-use Rattle.sfv_spec.specs.Values.{byte_sequence}
-use Rattle.sfv_spec.specs.Canonical.{bare_text}
-use Rattle.sfv_spec.specs.Base64.{base64_text}
+use Rattle.base64.specs.{Engines.standard, GeneralPurpose.encode_of, Rfc4648.encode_symbols}
+use Rattle.sfv_spec.specs.{Base64.base64_text, Canonical.bare_text, Values.byte_sequence}
 use Rattle.sfv_base64.specs.Agreement.{WrittenAsEncoded}
 
 encoded : (bytes : List ℕ) → encode_of standard bytes ≡ base64_text bytes

@@ -1,15 +1,11 @@
 -- The decoder of `base64` on symbols and padding, group by group.
 use Rattle.std.proofs.Common.{◌≡◌, ℕ, zero, suc, ◌≤◌, ◌+◌, ◌*◌, ◌/◌, ◌%◌, true, false, List, [], ◌∷◌, ◌++◌, length, map}
-use Rattle.std.proofs.Common.{take, drop, replicate, get_or, refl, sym, ◌∙◌, ap, arith, slice_index}
-use Rattle.std.specs.List.{list_all}
-use Rattle.std.specs.declared.option.Option.TheVariants.{None}
-use Rattle.std.proofs.lemmas.Bool.{and_parts}
-use Rattle.std.proofs.lemmas.List.{get_or-drop, length-map, length-take-le, length-drop, map-append}
-use Rattle.std.proofs.lemmas.List.Folds.{list_all-append}
-use lib.Seq.{take-add}
-use Rattle.base64.specs.declared.engine.DecodePaddingMode.TheVariants.{Indifferent}
+use Rattle.std.proofs.Common.{take, drop, replicate, get_or, refl, sym, ◌∙◌, ap, arith, slice_index, get_or-drop}
+use Rattle.std.proofs.Common.{length-take-le, length-drop, take-add}
+use Rattle.std.specs.{List.list_all, declared.option.Option.TheVariants.None}
+use Rattle.std.proofs.lemmas.{Bool.and_parts, List.{length-map, map-append}, List.Folds.list_all-append}
 use Rattle.base64.specs.Decode.{group_error, group_bytes, groups_error, groups_bytes, scan, scan_steps, scan_error}
-use Rattle.base64.specs.Decode.{scan_bytes, no_leftover}
+use Rattle.base64.specs.{Decode.{scan_bytes, no_leftover}, declared.engine.DecodePaddingMode.TheVariants.Indifferent}
 use Rattle.base64.proofs.Decoding.{scan-cons_ok}
 use Rattle.sfv_spec.proofs.Marks.{is_symbol}
 use Rattle.sfv_model.specs.Content.{symbol_value, bytes_from, most_padding}

@@ -1,13 +1,9 @@
 -- The values of symbols, in the table of an engine.
-use Rattle.std.proofs.Common.{◌≡◌, ℕ, ◌<◌, true, false, List, refl, sym, ◌∙◌, ap, arith, slice_index, inl, inr}
-use Rattle.std.specs.Prelude.{◌==◌}
-use Rattle.std.proofs.lemmas.Bool.{eq-eqb, ne_eqb, ltb-true, lt-ltb, both_ways}
-use Rattle.base64.specs.Tables.{is_inverse}
-use Rattle.base64.proofs.Tables.{decode-encode_table, encode-decode_table}
-use Rattle.sfv_spec.specs.Base64.{symbols}
-use Rattle.sfv_spec.proofs.Marks.{is_symbol}
-use Rattle.sfv_model.specs.Content.{symbol_value}
-use Rattle.sfv_model.proofs.base64.Shape.{symbol-value, value_within, symbol-is_symbol}
+use Rattle.std.proofs.Common.{◌≡◌, ℕ, ◌<◌, true, false, List, refl, sym, ◌∙◌, ap, arith, slice_index, inl, inr, ◌==◌}
+use Rattle.std.proofs.{Common.{eq-eqb, ne_eqb, ltb-true, lt-ltb}, lemmas.Bool.both_ways}
+use Rattle.base64.{specs.Tables.is_inverse, proofs.Tables.{decode-encode_table, encode-decode_table}}
+use Rattle.sfv_spec.{specs.Base64.symbols, proofs.Marks.is_symbol}
+use Rattle.sfv_model.{specs.Content.symbol_value, proofs.base64.Shape.{symbol-value, value_within, symbol-is_symbol}}
 
 -- the table of an engine with the standard alphabet
 pub record IsTable (dec : List ℕ) : Type 0 where

@@ -1,17 +1,15 @@
 -- Events that are read to their end are those of a field, and from each place there are events that end it.
-use Rattle.std.proofs.Common.{◌≡◌, ℕ, List, [], ◌∷◌, ◌++◌, flat_map, refl, sym, ◌∙◌, ap, subst, append_assoc}
-use Rattle.std.proofs.Common.{true, false, Option, Some, None, option_map, MatchOption}
-use Rattle.std.proofs.lemmas.List.{append-nil}
-use Rattle.sfv.specs.Values.{boolean, RawParameters, RawItem, RawInnerList, RawMember, item, inner_list, RawField}
-use Rattle.sfv.specs.Types.{FieldKind, item_field, list_field, dictionary_field}
+use Rattle.std.proofs.Common.{◌≡◌, ℕ, List, [], ◌∷◌, ◌++◌, flat_map, refl, sym, ◌∙◌, ap, subst, append_assoc, true}
+use Rattle.std.proofs.Common.{false, Option, Some, None, option_map, MatchOption, append-nil}
 use Rattle.sfv.specs.Events.{TreeEvent, entry, keyed_entry, begins_item, begins_inner_list, bare_item, parameter}
 use Rattle.sfv.specs.Events.{parameters_end, inner_list_end, parameters_events, item_events, inner_item_events}
 use Rattle.sfv.specs.Events.{member_events, entry_events, keyed_events, events}
-use Rattle.sfv_c.specs.Writing.{BeginsEvents}
+use Rattle.sfv.specs.Types.{FieldKind, item_field, list_field, dictionary_field}
+use Rattle.sfv.specs.Values.{boolean, RawParameters, RawItem, RawInnerList, RawMember, item, inner_list, RawField}
 use Rattle.sfv_c.specs.RowEvents.{ParseState, ended, list_members, dictionary_members, member, value, parameters, items}
 use Rattle.sfv_c.specs.RowEvents.{IsValidEvent, after, added, beginning, Piece, followed_by, piece, text_only}
-use Rattle.sfv_c.proofs.Stops.{a_place}
-use Rattle.sfv_c.proofs.Valid.{AreValid, valid_field, valid_together}
+use Rattle.sfv_c.specs.Writing.{BeginsEvents}
+use Rattle.sfv_c.proofs.{Stops.a_place, Valid.{AreValid, valid_field, valid_together}}
 
 -- the events of an inner list after the one that begins it
 abbrev inside : RawInnerList → List TreeEvent

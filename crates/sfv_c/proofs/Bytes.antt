@@ -1,9 +1,7 @@
 -- The items of a list of bytes are bytes.
 use Rattle.std.proofs.Common.{◌≡◌, ℕ, suc, true, List, [], ◌∷◌, get_or, Fits, w8, refl, arith}
-use Rattle.std.proofs.lemmas.Bool.{and_from}
-use Rattle.std.proofs.lemmas.Bool.Decides.{nat_tests}
-use Rattle.sfv.specs.Texts.{RunOf}
-use Rattle.sfv.specs.Values.{is_byte}
+use Rattle.std.proofs.lemmas.Bool.{and_from, Decides.nat_tests}
+use Rattle.sfv.specs.{Texts.RunOf, Values.is_byte}
 
 below : (x : ℕ) → Fits w8 x → is_byte x ≡ true
 below x h = grind (arith, nat_tests)

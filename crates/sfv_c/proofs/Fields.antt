@@ -1,32 +1,22 @@
 -- Rows that are read to their end, and their text.
 use Rattle.std.proofs.Common.{◌≡◌, ℕ, ◌<◌, List, [], ◌∷◌, ◌++◌, length, map, take, drop, refl, sym, ◌∙◌, ap, subst}
 use Rattle.std.proofs.Common.{arith, true, if◌then◌else◌, Option, Some, None, option_map, inl, inr, MatchOption}
-use Rattle.std.specs.Prelude.{string_bytes}
-use Rattle.std.proofs.lemmas.Option.{same_Some}
-use Rattle.std.proofs.lemmas.List.{append-nil, length-append, take-append-drop}
-use Rattle.sfv.specs.Values.{RawField, item, inner_list, token, HasMember, Fits, AllFit, fits_bare, bare_values}
-use Rattle.sfv.specs.Types.{FieldKind, item_field, list_field, dictionary_field, Version, SerializeError}
-use Rattle.sfv.specs.Types.serialize_errors as errors
-use Rattle.sfv.specs.Events.{TreeEvent, parameter, parameters_end, events}
-use Rattle.sfv.specs.Canonical.{canonical}
-use Rattle.sfv.specs.Ordered.{ordered}
-use Rattle.sfv.specs.Statements.{IsParsedAs}
-use Rattle.sfv.specs.Versions.{NamesFirstUnfit}
+use Rattle.std.proofs.{Common.{string_bytes, append-nil, length-append, take-append-drop}, lemmas.Option.same_Some}
 use Rattle.sfv_writer.proofs.ReadBack.{read_back}
-use Rattle.sfv_c.specs.declared.rows.Row.{Row}
-use Rattle.sfv_c.specs.declared.output.Output.{Output}
-use Rattle.sfv_c.specs.declared.answer.Written.{Written}
-use Rattle.sfv_c.specs.declared.answer.Written.TheVariants as written
-use Rattle.sfv_c.specs.declared.answer.CallFault.TheVariants as faults
+use Rattle.sfv.specs.Field.{RawField, item, inner_list, token, HasMember, Fits, FieldKind, item_field, list_field}
+use Rattle.sfv.specs.Field.{dictionary_field, Version, TreeEvent, parameter, parameters_end, events, canonical, ordered}
+use Rattle.sfv.specs.Field.{IsParsedAs, Rfc8941, Rfc9651}
+use Rattle.sfv.specs.{Types.SerializeError, Values.{AllFit, fits_bare, bare_values}, Versions.NamesFirstUnfit}
 use Rattle.sfv_c.specs.Answers.{Puts}
-use Rattle.sfv_c.specs.Writing.{AreRowsOfField, BeginRowsOfField, IsWriteFault, PutsRows}
 use Rattle.sfv_c.specs.RowEvents.{ParseState, Piece, text_only, followed_by, added, beginning, may_end, Reads}
 use Rattle.sfv_c.specs.RowEvents.{WritesAll, IsErrorOf, IsAppended, Appends, IsTokenAlone}
-use Rattle.sfv.specs.Types.versions.{Rfc8941, Rfc9651}
-use Rattle.sfv_c.proofs.Accepted.{field_of_events}
-use Rattle.sfv_c.proofs.Places.{adds_field, same_piece, piece_of}
-use Rattle.sfv_c.proofs.Valid.{valid_field}
-use Rattle.sfv_c.proofs.RowEvents.{reads_valid, reads_rows, rows_first, rows_length}
+use Rattle.sfv_c.specs.Writing.{AreRowsOfField, BeginRowsOfField, IsWriteFault, PutsRows}
+use Rattle.sfv_c.specs.declared.{answer.Written.Written, output.Output.Output, rows.Row.Row}
+use Rattle.sfv_c.proofs.{Accepted.field_of_events, Places.{adds_field, same_piece, piece_of}}
+use Rattle.sfv_c.proofs.{RowEvents.{reads_valid, reads_rows, rows_first, rows_length}, Valid.valid_field}
+use Rattle.sfv.specs.Types.serialize_errors as errors
+use Rattle.sfv_c.specs.declared.answer.Written.TheVariants as written
+use Rattle.sfv_c.specs.declared.answer.CallFault.TheVariants as faults
 
 end_here : (p : ParseState) → may_end p ≡ true → added p [] ≡ Some (text_only [])
 end_here p e = subst (λ b. (if b then Some (text_only []) else None) ≡ Some (text_only [])) (sym e) refl

@@ -1,15 +1,10 @@
 -- An error that says why a text isn't of its class says that it isn't.
 use Rattle.std.proofs.Common.{◌≡◌, ℕ, suc, List, [], ◌∷◌, Bool, true, false, not, ◌&&◌, IsTrue, Option, Some, None}
 use Rattle.std.proofs.Common.{refl, if◌then◌else◌, inl, inr, option_map, position, Result, Ok, Err, MatchResult}
-use Rattle.std.proofs.Common.{MatchOption, arith}
-use Rattle.std.specs.Result.{result_ok}
-use Rattle.std.proofs.lemmas.Grind.{common_steps}
-use Rattle.std.proofs.lemmas.Bool.Decides.{nat_tests}
-use Rattle.std.specs.List.{list_all}
+use Rattle.std.{proofs.Common.{MatchOption, arith}, specs.List.list_all, specs.Result.result_ok}
+use Rattle.std.proofs.lemmas.{Bool.Decides.nat_tests, Grind.common_steps}
 use Rattle.sfv.specs.Classes.{is_key, is_key_start, is_key_inner, is_token, is_token_start, is_token_inner}
-use Rattle.sfv.specs.Classes.{is_string_byte}
-use Rattle.sfv.specs.InvalidTexts.{IsInvalidKey, IsInvalidToken, IsInvalidString}
-use Rattle.sfv.specs.Types.{Error}
+use Rattle.sfv.specs.{Classes.is_string_byte, InvalidTexts.{IsInvalidKey, IsInvalidToken, IsInvalidString}, Types.Error}
 
 all_inside : (b rest : Bool) (r : Option ℕ) (i : ℕ) → ((j : ℕ) → r ≡ Some j → rest ≡ true → ⊥)
     → (if b then option_map suc r else Some 0) ≡ Some i → (b && rest) ≡ true → ⊥

@@ -1,9 +1,7 @@
 -- A row that is put is kept.
 use Rattle.std.proofs.Common.{◌≡◌, ◌+◌, length, refl, ap, arith}
-use Rattle.sfv_c.specs.Rows.{row_parts}
-use Rattle.sfv_c.specs.Events.{counted, put_row, IsRowKept}
-use Rattle.sfv_c.specs.declared.events.Collector.{Collector}
-use Rattle.sfv_c.specs.declared.rows.Row.{Row}
+use Rattle.sfv_c.specs.{Events.{counted, put_row, IsRowKept}, Rows.row_parts}
+use Rattle.sfv_c.specs.declared.{events.Collector.Collector, rows.Row.Row}
 
 pub row_kept : (before after : Collector) (row : Row) → after.rows.ghost_name ≡ before.rows.ghost_name
     → after.rows.now ≡ put_row before.rows.now before.count row → after.count ≡ counted (before.count + 1)

@@ -1,18 +1,15 @@
 -- What the events of the parts of a field add.
-use Rattle.std.proofs.Common.{◌≡◌, ℕ, List, [], ◌∷◌, ◌++◌, map, flat_map, refl, sym, ap, ◌∙◌, append_assoc, Bool}
-use Rattle.std.proofs.Common.{true, false, if◌then◌else◌, Option, Some, None, option_map}
-use Rattle.std.specs.Prelude.{codes}
+use Rattle.std.proofs.Common.{◌≡◌, ℕ, List, [], ◌∷◌, ◌++◌, map, flat_map, refl, sym, ap, ◌∙◌, append_assoc, Bool, true}
+use Rattle.std.proofs.Common.{false, if◌then◌else◌, Option, Some, None, option_map, codes, append-nil}
 use Rattle.std.specs.Map.{values_of}
-use Rattle.std.proofs.lemmas.List.{append-nil}
-use Rattle.sfv.specs.Values.{BareValue, RawField, RawParameters, RawItem, RawMember, item, inner_list}
-use Rattle.sfv.specs.Values.{item_values, member_values, bare_values}
-use Rattle.sfv.specs.Types.{FieldKind, item_field, list_field, dictionary_field}
-use Rattle.sfv.specs.Events.{TreeEvent, parameter, begins_inner_list, inner_list_end, parameters_events, item_events}
-use Rattle.sfv.specs.Events.{inner_item_events, member_events, entry_events, keyed_events, events}
+use Rattle.sfv_writer.proofs.Separated.{in_a_row_first}
 use Rattle.sfv.specs.Canonical.{parameters_text, item_text, member_text, dictionary_member_text, inner_list_text}
 use Rattle.sfv.specs.Canonical.{canonical}
-use Rattle.sfv.specs.Written.{with_separators, separator_before}
-use Rattle.sfv_writer.proofs.Separated.{in_a_row_first}
+use Rattle.sfv.specs.Events.{TreeEvent, parameter, begins_inner_list, inner_list_end, parameters_events, item_events}
+use Rattle.sfv.specs.Events.{inner_item_events, member_events, entry_events, keyed_events, events}
+use Rattle.sfv.specs.Types.{FieldKind, item_field, list_field, dictionary_field}
+use Rattle.sfv.specs.Values.{BareValue, RawField, RawParameters, RawItem, RawMember, item, inner_list, item_values}
+use Rattle.sfv.specs.{Values.{member_values, bare_values}, Written.{with_separators, separator_before}}
 use Rattle.sfv_c.specs.RowEvents.{ParseState, ended, list_members, dictionary_members, member, value, parameters, items}
 use Rattle.sfv_c.specs.RowEvents.{Piece, text_only, followed_by, item_piece, piece, added, beginning}
 

@@ -1,7 +1,5 @@
 -- What a receiver receives through a visitor.
-use Rattle.std.proofs.Common.{◌≡◌, List, [], ◌∷◌, ap, sym, ◌∙◌}
-use Rattle.std.specs.Prelude.{⊤}
-use Rattle.std.specs.List.{FoldsTo}
+use Rattle.std.{proofs.Common.{◌≡◌, List, [], ◌∷◌, ap, sym, ◌∙◌}, specs.List.FoldsTo, specs.Prelude.⊤}
 use Rattle.sfv_tree.specs.declared.visitor.Event.{Event}
 use Rattle.sfv_c.specs.declared.reading.Passing.{Passing}
 

@@ -1,14 +1,9 @@
 -- Rows and the events that they are.
-use Rattle.std.proofs.Common.{◌≡◌, ℕ, zero, suc, ◌+◌, List, [], ◌∷◌, ◌++◌, length, take, refl, sym, ◌∙◌, ap}
-use Rattle.std.proofs.Common.{subst, arith, get_or, drop}
-use Rattle.std.specs.Array.{IsFirstChunk}
+use Rattle.std.proofs.Common.{◌≡◌, ℕ, zero, suc, ◌+◌, List, [], ◌∷◌, ◌++◌, length, take, refl, sym, ◌∙◌, ap, subst}
+use Rattle.std.{proofs.Common.{arith, get_or, drop}, specs.Array.IsFirstChunk}
 use Rattle.sfv.specs.Events.{TreeEvent}
-use Rattle.sfv_c.specs.declared.rows.Row.{Row}
-use Rattle.sfv_c.specs.Rows.{IsRowOf}
-use Rattle.sfv_c.specs.Writing.{AreRowsOf}
-use Rattle.sfv_c.specs.RowEvents.{Reads}
-use Rattle.sfv_c.proofs.Unique.{same_event}
-use Rattle.sfv_c.proofs.Valid.{AreValid}
+use Rattle.sfv_c.specs.{RowEvents.Reads, Rows.IsRowOf, Writing.AreRowsOf, declared.rows.Row.Row}
+use Rattle.sfv_c.proofs.{Unique.same_event, Valid.AreValid}
 
 -- a row is that of one event alone
 pub only_event : (row : Row) (a b : TreeEvent) → IsRowOf row a → IsRowOf row b → a ≡ b

@@ -1,21 +1,12 @@
 -- The state of a collector after events.
-use Rattle.std.proofs.Common.{◌≡◌, ℕ, ◌+◌, ◌-◌, ◌^◌, ◌<◌, ◌≤◌, Bool, true, List, [], ◌∷◌, ◌++◌, length, map, drop, refl, ap, sym, ◌∙◌}
-use Rattle.std.proofs.Common.{if◌then◌else◌, subst, append_assoc, length-append, arith}
-use Rattle.std.specs.Prelude.{nat_lt, slice_set}
-use Rattle.std.specs.List.{AllZip, FoldsTo, sum_by}
-use Rattle.std.specs.Borrow.{MutBor}
-use Rattle.std.proofs.lemmas.Bool.Decides.{nat_tests}
-use Rattle.std.proofs.lemmas.List.{append-nil, length-map, set_at}
-use Rattle.std.proofs.lemmas.List.Sums.{sum_by-cons}
-use Rattle.sfv.specs.Types.{Version}
-use Rattle.sfv.specs.Events.{TreeEvent}
-use Rattle.sfv.specs.EventValues.{event_of}
-use Rattle.sfv.specs.Parsers.{AreReadFrom}
+use Rattle.std.proofs.Common.{◌≡◌, ℕ, ◌+◌, ◌-◌, ◌^◌, ◌<◌, ◌≤◌, Bool, true, List, [], ◌∷◌, ◌++◌, length, map, drop, refl}
+use Rattle.std.proofs.Common.{ap, sym, ◌∙◌, if◌then◌else◌, subst, append_assoc, length-append, arith, nat_lt, slice_set}
+use Rattle.std.{proofs.Common.{sum_by, MutBor, append-nil}, specs.List.{AllZip, FoldsTo}}
+use Rattle.std.proofs.lemmas.{Bool.Decides.nat_tests, List.{length-map, set_at}, List.Sums.sum_by-cons}
 use Rattle.sfv_tree.specs.declared.visitor.Event.{Event}
-use Rattle.sfv_c.specs.declared.rows.Row.{Row}
-use Rattle.sfv_c.specs.declared.events.Collector.{Collector}
-use Rattle.sfv_c.specs.Rows.{numbers_of, IsRowOf}
+use Rattle.sfv.specs.{EventValues.event_of, Events.TreeEvent, Parsers.AreReadFrom, Types.Version}
 use Rattle.sfv_c.specs.Events.{TakesRow, room_of, IsRowKept, AreCollected, counted, collector_of, put_row}
+use Rattle.sfv_c.specs.{Rows.{numbers_of, IsRowOf}, declared.events.Collector.Collector, declared.rows.Row.Row}
 
 -- the largest 64-bit number
 abbrev most : ℕ

@@ -1,31 +1,21 @@
 -- Reading rows step by step, and where it stops.
-use Rattle.std.proofs.Common.{◌≡◌, ℕ, ◌+◌, List, [], ◌∷◌, ◌++◌, drop, refl, sym, ◌∙◌, ap, subst, append_assoc}
-use Rattle.std.proofs.Common.{arith, length-append, drop-drop, get_or, Bool, false, IsTrue, Option, Some, None, Result, Ok, Err, inl}
-use Rattle.std.proofs.Common.{inr, option_map, MatchOption}
-use Rattle.std.specs.Prelude.{⊤, string_bytes, codes}
-use Rattle.std.proofs.lemmas.List.{append-nil}
-use Rattle.std.specs.declared.alloc.Global.{Global}
-use Rattle.std.specs.declared.string.String as std_string
-use Rattle.sfv.specs.Types.{Version, SerializeError}
-use Rattle.sfv.specs.Events.{TreeEvent, entry, keyed_entry, begins_item, begins_inner_list, bare_item, parameter}
-use Rattle.sfv.specs.Events.{parameters_end, inner_list_end}
-use Rattle.sfv.specs.Classes.{is_key}
-use Rattle.sfv.specs.Values.{BareValue, IsBareValue}
+use Rattle.std.proofs.Common.{◌≡◌, ℕ, ◌+◌, List, [], ◌∷◌, ◌++◌, drop, refl, sym, ◌∙◌, ap, subst, append_assoc, arith}
+use Rattle.std.proofs.Common.{length-append, drop-drop, get_or, Bool, false, IsTrue, Option, Some, None, Result, Ok}
+use Rattle.std.proofs.Common.{Err, inl, inr, option_map, MatchOption, string_bytes, codes, append-nil}
+use Rattle.std.specs.{Array.IsFirstChunk, Prelude.⊤, declared.alloc.Global.Global}
 use Rattle.sfv_spec.proofs.Fields.{fit_append}
 use Rattle.sfv_writer.proofs.Checks.{names_front, names_after}
-use Rattle.sfv_c.specs.declared.rows.Row.{Row}
-use Rattle.sfv_c.specs.declared.output.Output.{Output}
-use Rattle.sfv_c.specs.declared.rows_to_text.WrongRow.{WrongRow}
+use Rattle.sfv.specs.{BareItems.ref_value, Classes.is_key}
+use Rattle.sfv.specs.Events.{TreeEvent, entry, keyed_entry, begins_item, begins_inner_list, bare_item, parameter}
+use Rattle.sfv.specs.Events.{parameters_end, inner_list_end}
+use Rattle.sfv.specs.{Types.{Version, SerializeError}, Values.{BareValue, IsBareValue}, Written.separator_before}
 use Rattle.sfv_c.specs.RowEvents.{ParseState, ended, list_members, dictionary_members, member, value, parameters, items}
 use Rattle.sfv_c.specs.RowEvents.{IsValidEvent, added, after, may_end, piece, Piece, text_only, followed_by, Reads}
 use Rattle.sfv_c.specs.RowEvents.{IsStuck, IsErrorOf, IsAppended, Appends, Writes, StopsAt, WritesOrStops, item_piece}
-use Rattle.sfv_c.specs.RowEvents.{IsPlainEntryAt, RefItem, GivesValue}
-use Rattle.sfv.specs.BareItems.{ref_value}
-use Rattle.std.specs.Array.{IsFirstChunk}
-use Rattle.sfv.specs.Written.{separator_before}
-use Rattle.sfv_c.specs.Rows.{IsRowOf}
-use Rattle.sfv_c.proofs.Places.{adds_nothing, adds_both}
-use Rattle.sfv_c.proofs.RowEvents.{reads_on, four_rows}
+use Rattle.sfv_c.specs.{RowEvents.{IsPlainEntryAt, RefItem, GivesValue}, Rows.IsRowOf}
+use Rattle.sfv_c.specs.declared.{output.Output.Output, rows.Row.Row, rows_to_text.WrongRow.WrongRow}
+use Rattle.sfv_c.proofs.{Places.{adds_nothing, adds_both}, RowEvents.{reads_on, four_rows}}
+use Rattle.std.specs.declared.string.String as std_string
 
 -- nothing is appended
 pub appends_none : (o : Output) → Appends (text_only []) o o

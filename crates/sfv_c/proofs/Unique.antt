@@ -1,9 +1,8 @@
 -- The one event that parts can be those of.
-use Rattle.std.proofs.Common.{◌≡◌, pos, true, false, Some, ◌==◌, if◌then◌else◌, refl, sym, ◌∙◌, ap}
-use Rattle.std.specs.Ordering.{int_eq}
-use Rattle.sfv.specs.Values.{BareValue, integer, decimal, string, token, byte_sequence, boolean, date, display_string}
+use Rattle.std.proofs.Common.{◌≡◌, pos, true, false, Some, ◌==◌, if◌then◌else◌, refl, sym, ◌∙◌, ap, int_eq}
 use Rattle.sfv.specs.Events.{TreeEvent, entry, keyed_entry, begins_item, begins_inner_list, bare_item, parameter}
 use Rattle.sfv.specs.Events.{parameters_end, inner_list_end}
+use Rattle.sfv.specs.Values.{BareValue, integer, decimal, string, token, byte_sequence, boolean, date, display_string}
 use Rattle.sfv_c.specs.Rows.{ValueNumbers, EventNumbers, value_numbers, numbers_of}
 
 abbrev pub value_from : ValueNumbers → BareValue

@@ -1,12 +1,11 @@
 -- Fields and their events: they are valid together.
-use Rattle.std.proofs.Common.{ℕ, List, [], ◌∷◌, ◌++◌, flat_map, sym, subst, append_assoc}
+use Rattle.std.proofs.Common.{ℕ, List, [], ◌∷◌, ◌++◌, flat_map, sym, subst, append_assoc, append-nil}
 use Rattle.std.specs.List.{AllByRecursion}
-use Rattle.std.proofs.lemmas.List.{append-nil}
-use Rattle.sfv.specs.Values.{RawParameters, RawItem, RawMember, RawField, item, inner_list, AreParameters, IsItem}
-use Rattle.sfv.specs.Values.{IsMember, IsFieldValue}
-use Rattle.sfv.specs.Types.{FieldKind, item_field, list_field, dictionary_field}
 use Rattle.sfv.specs.Events.{TreeEvent, inner_list_end, parameters_events, item_events, inner_item_events}
 use Rattle.sfv.specs.Events.{member_events, entry_events, keyed_events, events}
+use Rattle.sfv.specs.Types.{FieldKind, item_field, list_field, dictionary_field}
+use Rattle.sfv.specs.Values.{RawParameters, RawItem, RawMember, RawField, item, inner_list, AreParameters, IsItem}
+use Rattle.sfv.specs.Values.{IsMember, IsFieldValue}
 use Rattle.sfv_c.specs.RowEvents.{IsValidEvent}
 
 -- each has a key and a value of their classes, where it has one

@@ -1,17 +1,12 @@
 -- Where rows go wrong.
 use Rattle.std.proofs.Common.{◌≡◌, ℕ, ◌+◌, ◌<◌, List, [], ◌∷◌, ◌++◌, length, take, drop, sym, ◌∙◌, ap, subst, arith}
 use Rattle.std.proofs.Common.{append_assoc}
-use Rattle.sfv.specs.Types.{FieldKind}
-use Rattle.sfv.specs.Events.{TreeEvent, events}
-use Rattle.sfv_c.specs.declared.rows.Row.{Row}
-use Rattle.sfv_c.specs.declared.output.Output.{Output}
-use Rattle.sfv_c.specs.Writing.{AreRowsOf, BeginRowsOfField, AreWrongAt}
+use Rattle.sfv.specs.{Events.{TreeEvent, events}, Types.FieldKind}
 use Rattle.sfv_c.specs.RowEvents.{ParseState, StopsAt, IsStuck, added, beginning}
-use Rattle.sfv_c.proofs.Valid.{AreValid, valid_first, field_valid}
-use Rattle.sfv_c.proofs.Accepted.{begin_field, MayEnd, inside_map}
-use Rattle.sfv_c.proofs.Places.{adds_field}
-use Rattle.sfv_c.proofs.Stops.{no_place}
-use Rattle.sfv_c.proofs.RowEvents.{reads_length, reads_valid, reads_rows, reads_taken, read_alike}
+use Rattle.sfv_c.specs.{Writing.{AreRowsOf, BeginRowsOfField, AreWrongAt}, declared.output.Output.Output}
+use Rattle.sfv_c.{specs.declared.rows.Row.Row, proofs.Accepted.{begin_field, MayEnd, inside_map}}
+use Rattle.sfv_c.proofs.{Places.adds_field, RowEvents.{reads_length, reads_valid, reads_rows, reads_taken, read_alike}}
+use Rattle.sfv_c.proofs.{Stops.no_place, Valid.{AreValid, valid_first, field_valid}}
 
 -- the rows where reading is stuck are those of no events that end a field
 never_ends : (p : ParseState) (rest : List Row) (es : List TreeEvent) → IsStuck p rest → AreValid es

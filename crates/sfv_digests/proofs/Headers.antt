@@ -1,18 +1,13 @@
 -- The verification by a header map is the one by the text of the field.
 use Rattle.std.proofs.Common.{◌≡◌, ℕ, ◌<◌, List, Option, Some, Result, Ok, Err, length, refl, sym, ap, subst, ◌∙◌}
-use Rattle.std.specs.Prelude.{option_map, IfOk}
-use Rattle.std.specs.Cow.{cow_slice_items}
-use Rattle.std.specs.declared.alloc.Global.{Global}
-use Rattle.std.specs.declared.borrow.CowSlice.{CowSlice}
-use Rattle.http_header.specs.HeaderMap.{Entries}
-use Rattle.http_header.specs.FieldValue.{FieldValue}
-use Rattle.http_header.specs.Token.{lowercase}
+use Rattle.std.{proofs.Common.{option_map, IfOk}, specs.Cow.cow_slice_items}
+use Rattle.std.specs.declared.{alloc.Global.Global, borrow.CowSlice.CowSlice}
+use Rattle.http_header.specs.{FieldValue.FieldValue, HeaderMap.Entries, Token.lowercase}
 use Rattle.sfv_headers.specs.Lines.{lines_in, text_in}
-use Rattle.sfv_digests.specs.declared.DigestField.{DigestField}
-use Rattle.sfv_digests.specs.declared.DigestField.TheVariants as fields
-use Rattle.sfv_digests.specs.declared.Verification.{Verification}
-use Rattle.sfv_digests.specs.declared.Verification.TheVariants as results
 use Rattle.sfv_digests.specs.Verifying.{name_of, IsVerified, IsVerifiedIn}
+use Rattle.sfv_digests.specs.declared.{DigestField.DigestField, Verification.Verification}
+use Rattle.sfv_digests.specs.declared.DigestField.TheVariants as fields
+use Rattle.sfv_digests.specs.declared.Verification.TheVariants as results
 
 -- a name is in lower case
 same_name : (field : DigestField) → lowercase (name_of field) ≡ name_of field

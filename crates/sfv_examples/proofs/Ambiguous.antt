@@ -1,7 +1,6 @@
 -- With line feeds in values, one text is the base of different values.
 use Rattle.std.proofs.Common.{◌≡◌, ℕ, List, [], ◌∷◌, refl, codes}
-use Rattle.sfv.specs.Field.{RawItem, RawInnerList, string}
-use Rattle.sfv.specs.Ordered.{last_of, collapse}
+use Rattle.sfv.specs.{Field.{RawItem, RawInnerList, string}, Ordered.{last_of, collapse}}
 use Rattle.sfv_examples.specs.Signed.{WithoutTheCheck}
 
 -- a name without parameters

@@ -1,19 +1,13 @@
 -- What a visitor that calls a function once says of an item.
-use Rattle.std.proofs.Common.{◌≡◌, ℕ, List, [], ◌∷◌, ◌++◌, Option, Some, None, Result, Ok, Err, sym, ap, ◌∙◌, inl}
-use Rattle.std.proofs.Common.{inr, subst}
-use Rattle.std.specs.Prelude.{⊤, MatchOption}
-use Rattle.std.specs.List.{FoldsTo}
-use Rattle.sfv.specs.Values.{RawItem}
-use Rattle.sfv.specs.Types.{Rfc9651, item_field, OutOfMemory, ItemVisitorWith}
-use Rattle.sfv.specs.Grammar.{BeginsWithLongest}
-use Rattle.sfv.specs.Events.{TreeEvent, bare_item, parameters_events, item_events}
-use Rattle.sfv.specs.EventValues.{event_of}
-use Rattle.sfv.specs.declared.visitor.Event.{Event}
-use Rattle.sfv.specs.declared.visitor.Event.TheVariants as event
-use Rattle.sfv.specs.BareItems.{input_value}
-use Rattle.sfv.specs.ProvidedVisitors.{ReadBareItem, OnRead, CallTakes, CallFails}
+use Rattle.std.proofs.Common.{◌≡◌, ℕ, List, [], ◌∷◌, ◌++◌, Option, Some, None, Result, Ok, Err, sym, ap, ◌∙◌, inl, inr}
+use Rattle.std.{proofs.Common.{subst, MatchOption}, specs.List.FoldsTo, specs.Prelude.⊤}
+use Rattle.sfv.specs.{EventValues.event_of, Events.item_events}
+use Rattle.sfv.specs.Field.{RawItem, Rfc9651, item_field, TreeEvent, bare_item, parameters_events, input_value}
+use Rattle.sfv.specs.{Grammar.BeginsWithLongest, ProvidedVisitors.{ReadBareItem, OnRead, CallTakes, CallFails}}
+use Rattle.sfv.specs.{Types.{OutOfMemory, ItemVisitorWith}, declared.visitor.Event.Event}
 use Rattle.sfv.proofs.Callers.{Answers, FailsIn}
 use Rattle.sfv_examples.specs.Uses.{IsReturnedFor, FailsAtFirst}
+use Rattle.sfv.specs.declared.visitor.Event.TheVariants as event
 
 module _ {F T : Type 0} (post : F → ReadBareItem → Result T OutOfMemory → Type 0) where
   abbrev Takes : ItemVisitorWith F T → TreeEvent → ItemVisitorWith F T → Type 0

@@ -1,18 +1,16 @@
 -- The errors of calls that write several values, where a `?` returns them.
 use Rattle.std.proofs.Common.{◌≡◌, ◌≤◌, ℕ, Bool, true, false, List, [], ◌∷◌, ◌++◌, not, ap, subst, inl, inr}
-use Rattle.std.proofs.Common.{append_assoc, refl, ◌∙◌, map, codes, Result, string_bytes, string_capacity}
-use Rattle.std.specs.Prelude.{◌⊎◌, Some, Ok, Err, IsTrue, MatchResult, IsErrAnd}
-use Rattle.std.specs.List.{find}
-use Rattle.std.specs.declared.string.String.{String}
-use Rattle.std.proofs.lemmas.Result.{err_from_is_err_and}
-use Rattle.sfv.specs.Values.{BareValue, AllFit, fits_bare, RawItem, RawParameters, inner_list}
+use Rattle.std.proofs.Common.{append_assoc, refl, ◌∙◌, map, codes, Result, string_bytes, string_capacity, ◌⊎◌, Some, Ok}
+use Rattle.std.proofs.Common.{Err, IsTrue, MatchResult, IsErrAnd, find}
+use Rattle.std.{specs.declared.string.String.String, proofs.lemmas.Result.err_from_is_err_and}
 use Rattle.sfv.specs.Canonical.{item_text, parameters_text, dictionary_member_text}
 use Rattle.sfv.specs.Types.{Version, Rfc8941, Rfc9651, SerializeError}
-use Rattle.sfv.specs.Types.serialize_errors as errors
+use Rattle.sfv.specs.Values.{BareValue, AllFit, fits_bare, RawItem, RawParameters, inner_list}
 use Rattle.sfv.specs.Versions.{NamesFirstUnfit, IsSerializeError, ChecksVersionFirst, OnOutOfMemory}
 use Rattle.sfv.specs.Written.{LacksRoom, separator_before, with_separators}
 use Rattle.sfv.proofs.Callers.{names_front, names_after, all_fit_newer, room_before, room_after, no_less}
 use Rattle.sfv.proofs.Callers.{named_list_ended}
+use Rattle.sfv.specs.Types.serialize_errors as errors
 
 -- what `ChecksEach` says of an error
 abbrev pub IsWriteError : Version → List BareValue → SerializeError → Type 0
@@ -79,9 +77,6 @@ one_memory version b e fit (inr h) = only_memory version (b ∷ []) e (fit, tt) 
 -- No room for a part means no room for the whole. `old` is the text before all parts, and `mid` and `now` are after
 -- some.
 module _ {Z : Type 0} (old : String Z) (front part : List ℕ) where
-  pub lacks_first : (more : List ℕ) → LacksRoom old (front ++ part) → LacksRoom old (front ++ (part ++ more))
-  lacks_first more h = subst (LacksRoom old) (append_assoc front part more) (room_before old (front ++ part) more h)
-
   module _ (mid : String Z) (begun : string_bytes mid ≡ string_bytes old ++ (front ++ part))
       (room : string_capacity old ≤ string_capacity mid) where
     pub lacks_after : (rest : List ℕ) → LacksRoom mid rest → LacksRoom old (front ++ (part ++ rest))
@@ -134,10 +129,6 @@ module _ {Z : Type 0} (old : String Z) (front key : List ℕ) (none : Bool) (ite
       (named_list_ended [] opening (opening ++ inside) ((opening ++ inside) ++ codes ")")
       (((opening ++ inside) ++ codes ")") ++ parameters_text params) front key none items params refl refl begun refl
       refl) h
-
-  pub opening_lacks : LacksRoom old opening → Lacks
-  opening_lacks h = whole_lacks (room_before old ((opening ++ inside) ++ codes ")") (parameters_text params)
-      (room_before old (opening ++ inside) (codes ")") (room_before old opening inside h)))
 
   module _ (mid : String Z) (opened : string_bytes mid ≡ string_bytes old ++ opening)
       (room : string_capacity old ≤ string_capacity mid) where

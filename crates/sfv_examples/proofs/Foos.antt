@@ -1,18 +1,14 @@
 -- The visitor of the example finds what the ordered dictionary holds.
-use Rattle.std.specs.Prelude.{◌≡◌, ℕ, List, Bool, true, false, Option, Some, None, Result, Ok, Err, bytes_eq, fold}
-use Rattle.std.specs.Prelude.{if◌then◌else◌}
+use Rattle.std.proofs.Common.{cond, refl, ap, ◌∙◌, inl, inr, ◌≡◌, ℕ, List, Bool, true, false, Option, Some, None}
+use Rattle.std.proofs.{Common.{Result, Ok, Err, bytes_eq, fold, if◌then◌else◌}, lemmas.Bool.cases_Bool}
 use Rattle.sfv.specs.Field.{RawParameters, RawMember, item, inner_list, dictionary_field, last_of, ordered}
 use Rattle.sfv.specs.Field.{ordered_member, events, member_events, keyed_events}
-use Rattle.std.proofs.Common.{cond, refl, ap, ◌∙◌, inl, inr}
-use Rattle.std.proofs.lemmas.Bool.{cases_Bool}
 use Rattle.sfv.proofs.Callers.{of_pushed, parameters_kept, last_of-collapse, IsIdle, idle_by, member_passed}
 use Rattle.sfv.proofs.Callers.{inner_list_passed, member_looked}
-use Rattle.sfv_examples.specs.declared.foo.Color.{Color}
-use Rattle.sfv_examples.specs.declared.foo.FooFault.{FooFault}
-use Rattle.sfv_examples.specs.declared.foo.FooFault.TheVariants as faults
-use Rattle.sfv_examples.specs.declared.foo.FooVisitor.{FooVisitor}
 use Rattle.sfv_examples.specs.Foo.{color_key, strong_key, color_in, strong_in, strong_of, foo_of, foo_in, foo}
 use Rattle.sfv_examples.specs.FooSteps.{unread, begun, foo_step, foo_found}
+use Rattle.sfv_examples.specs.declared.foo.{Color.Color, FooFault.FooFault, FooVisitor.FooVisitor}
+use Rattle.sfv_examples.specs.declared.foo.FooFault.TheVariants as faults
 
 -- what a member of the color gives, if there is one
 abbrev Kept : Type 0

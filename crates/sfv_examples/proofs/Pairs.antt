@@ -1,10 +1,6 @@
 -- Where one of two values isn't written.
-use Rattle.std.proofs.Common.{◌≡◌, [], ◌∷◌, inl, inr, Result}
-use Rattle.std.specs.Prelude.{IfErr, IsErrAnd}
-use Rattle.std.proofs.lemmas.Result.{err_from_is_err_and}
-use Rattle.sfv.specs.Values.{BareValue, AllFit}
-use Rattle.sfv.specs.Types.{Version, SerializeError}
-use Rattle.sfv.specs.Versions.{IsSerializeError}
+use Rattle.std.proofs.{Common.{◌≡◌, [], ◌∷◌, inl, inr, Result, IfErr, IsErrAnd}, lemmas.Result.err_from_is_err_and}
+use Rattle.sfv.specs.{Types.{Version, SerializeError}, Values.{BareValue, AllFit}, Versions.IsSerializeError}
 use Rattle.sfv.proofs.Callers.{names_front, names_after}
 use Rattle.sfv_examples.specs.Pairs.{IsPairError}
 

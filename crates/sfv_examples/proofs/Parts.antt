@@ -1,12 +1,8 @@
 -- What is written call by call after a serializer.
 use Rattle.std.proofs.Common.{◌≡◌, ◌≤◌, ℕ, Bool, List, [], ◌++◌, Result, Err, sym, ap, ◌∙◌, subst, append_assoc}
-use Rattle.std.proofs.Common.{string_bytes, string_capacity}
-use Rattle.std.specs.Prelude.{OnErr}
-use Rattle.std.proofs.lemmas.List.{append-nil}
-use Rattle.sfv.specs.declared.SequenceSerializer.{SequenceSerializer}
-use Rattle.sfv.specs.declared.Sink.{Ghosts as Sink}
-use Rattle.sfv.specs.Serializers.{HasAppended, KeepsSequence}
-use Rattle.sfv.specs.Written.{Extends}
+use Rattle.std.proofs.Common.{string_bytes, string_capacity, OnErr, append-nil}
+use Rattle.sfv.specs.{Serializers.{HasAppended, KeepsSequence}, Written.Extends}
+use Rattle.sfv.specs.declared.{SequenceSerializer.SequenceSerializer, Sink.Ghosts as Sink}
 use Rattle.sfv.proofs.Callers.{no_less}
 
 -- a part and its one parameter

@@ -1,7 +1,6 @@
 -- The integers of the items after one more item.
-use Rattle.std.specs.Prelude.{◌≡◌, List, [], ◌∷◌, ◌++◌}
+use Rattle.std.proofs.{Common.{◌≡◌, List, [], ◌∷◌, ◌++◌}, lemmas.List.Elements.filter_map-append}
 use Rattle.sfv_readers.specs.Field.{RawItem}
-use Rattle.std.proofs.lemmas.List.Elements.{filter_map-append}
 use Rattle.sfv_examples.specs.Rows.{integer_in, integers_of}
 
 pub one_more : (items : List RawItem) (i : RawItem) → integers_of (items ++ i ∷ []) ≡ integers_of items ++ integers_of (i ∷ [])

@@ -1,40 +1,25 @@
 -- What the uses rest on.
 use Rattle.std.proofs.Common.{◌≡◌, ℕ, ℤ, ◌+◌, ◌<◌, ◌≤◌, List, [], ◌∷◌, length, refl, sym, ap, ◌∙◌, arith, inl, inr}
-use Rattle.std.proofs.Common.{subst}
-use Rattle.std.specs.Prelude.{Option, Some, None, Result, Ok, Err, OnOk, IsSome, IfOk, IfErr, MatchResult, fold, ⊤}
-use Rattle.std.specs.Prelude.{filter_map, option_map}
-use Rattle.std.specs.List.{FoldsTo, cons_option}
-use Rattle.std.proofs.lemmas.List.{length-append, length-map}
-use Rattle.std.proofs.lemmas.List.Elements.{filter_map-append}
-use Rattle.sfv.specs.Values.{RawItem, BareValue, integer, decimal, string, token, byte_sequence, boolean, date}
-use Rattle.sfv.specs.Values.{display_string, RawMember, item, inner_list}
+use Rattle.std.proofs.Common.{subst, Option, Some, None, Result, Ok, Err, IsSome, IfOk, IfErr, MatchResult, fold}
+use Rattle.std.{proofs.Common.{filter_map, option_map, length-append}, specs.List.{FoldsTo, cons_option}}
+use Rattle.std.{specs.Prelude.⊤, proofs.lemmas.List.length-map, proofs.lemmas.List.Elements.filter_map-append}
+use Rattle.sfv.specs.Field.{RawItem, BareValue, integer, decimal, string, token, byte_sequence, boolean, date}
+use Rattle.sfv.specs.Field.{display_string, RawMember, item, inner_list, TreeEvent, entry, keyed_entry, begins_item}
+use Rattle.sfv.specs.Field.{begins_inner_list, bare_item, parameter, parameters_end, inner_list_end, events}
+use Rattle.sfv.specs.Field.{IsFieldText, IsAccepted, last_of, ordered_member, IsParsedAs, IsParseError, input_value}
+use Rattle.sfv.specs.{Grammar.BeginsWithLongest, Parsers.IsBorrowedIfPlain}
+use Rattle.sfv.specs.{ProvidedVisitors.{ReadBareItem, OnRead, KeepTakes, KeepFails, IsWrongType}, TokenText.TokenRef}
 use Rattle.sfv.specs.Types.{FieldKind, item_field, dictionary_field, Rfc9651, Error, ParseError, OutOfMemory, ItemFault}
-use Rattle.sfv.specs.Types.{ExpectItem, StringFromInput}
-use Rattle.sfv.specs.Events.{TreeEvent, entry, keyed_entry, begins_item, begins_inner_list, bare_item, parameter}
-use Rattle.sfv.specs.Events.{parameters_end, inner_list_end, events}
-use Rattle.sfv.specs.Grammar.{IsFieldText, IsAccepted, BeginsWithLongest}
-use Rattle.sfv.specs.Ordered.{last_of, ordered_member}
-use Rattle.sfv.specs.Statements.{IsParsedAs}
-use Rattle.sfv.specs.Parsers.{IsParseError, IsBorrowedIfPlain}
-use Rattle.sfv.proofs.Callers.{WithSomeVisitor, Answers, FailsIn, HasSyntax, HasVisitorError, HasFirst}
-use Rattle.sfv.specs.ProvidedVisitors.{ReadBareItem, OnRead, KeepTakes, KeepFails, IsWrongType}
-use Rattle.sfv.specs.BareItems.{input_value}
+use Rattle.sfv.specs.Types.{ExpectItem, StringFromInput, parse_errors.{Syntax, Visitor}}
+use Rattle.sfv.proofs.Callers.{WithSomeVisitor, Answers, FailsIn, HasSyntax, HasVisitorError, HasFirst, runs_fold}
+use Rattle.sfv.proofs.Callers.{key_in, keys_in_events, member_read, last_of-collapse, expect_answers, expect_fails}
+use Rattle.sfv.proofs.Callers.{expect_first, begins_with_its, accepted_error}
+use Rattle.sfv_examples.specs.Uses.{BeginsWithComplete, integer_or, param_in, counts, HasMembers, IsCountError}
+use Rattle.sfv_examples.specs.Uses.{IsExpectError, IsTokenError, IsReadError, IsErrorOfLines, IsLentString}
+use Rattle.sfv_examples.specs.declared.visiting.{MemberCounter.MemberCounter, TooMany.TooMany}
 use Rattle.sfv.specs.Types.bare_items as bare_items
 use Rattle.sfv.specs.Types.bare_item_types as kinds
-use Rattle.sfv.specs.TokenText.{TokenRef}
 use Rattle.sfv.specs.Types.item_faults as item_faults
-use Rattle.sfv.specs.Types.parse_errors.{Syntax, Visitor}
-use Rattle.sfv.proofs.Callers.{runs_fold, key_in, keys_in_events, member_read, last_of-collapse, expect_answers}
-use Rattle.sfv.proofs.Callers.{expect_fails, expect_first, begins_with_its, accepted_error}
-use Rattle.sfv_examples.specs.Uses.{BeginsWithComplete, integer_or, param_in, counts, HasMembers, IsCountError, IsExpectError, IsTokenError}
-use Rattle.sfv_examples.specs.Uses.{IsReadError, IsErrorOfLines, IsLentString}
-use Rattle.sfv_examples.specs.declared.visiting.MemberCounter.{MemberCounter}
-use Rattle.sfv_examples.specs.declared.visiting.TooMany.{TooMany}
-
--- what holds anyway holds of an answer
-pub on_ok : {A E : Type 0} (r : Result A E) (P : Type 0) → P → OnOk r P
-on_ok (Ok x) P h = h
-on_ok (Err e) P h = tt
 
 -- of another kind it is the default
 pub integer_or-other : (default : ℤ) (b : BareValue) → ((z : ℤ) → ¬ (b ≡ integer z)) → integer_or default b ≡ default

@@ -1,10 +1,8 @@
 -- The lines of a field are joined one after the other.
 use Rattle.std.proofs.Common.{◌≡◌, ℕ, ◌<◌, List, [], ◌∷◌, ◌++◌, length, Option, Some, None, refl, sym, ap, ◌∙◌}
-use Rattle.std.proofs.Common.{append_assoc, append-nil, arith, length-append}
-use Rattle.std.specs.Prelude.{◌≢◌, option_map, codes, IfSome}
+use Rattle.std.proofs.Common.{append_assoc, arith, length-append, ◌≢◌, option_map, codes, IfSome}
 use Rattle.std.specs.Cow.{cow_slice_items, IsBorrowedSlice}
-use Rattle.std.specs.declared.alloc.Global.{Global}
-use Rattle.std.specs.declared.borrow.CowSlice.{CowSlice}
+use Rattle.std.specs.declared.{alloc.Global.Global, borrow.CowSlice.CowSlice}
 use Rattle.sfv.specs.Texts.{joined}
 use Rattle.sfv_headers.specs.Lines.{text_of_lines, with_line}
 
@@ -63,12 +61,3 @@ two_lines all text line left so_far more = rw so_far.whole (some so_far.done so_
         → 1 < length (done ++ line ∷ left)
     some [] h = absurd (more (none_first text h))
     some (x ∷ xs) h = omega (arith, length-append xs (line ∷ left))
-
-pub all_text : (all : List (List ℕ)) (text : Option Text) → IsSoFar all text []
-    → option_map cow_slice_items text ≡ text_of_lines all
-all_text all text so_far =
-    so_far.text_is ∙ ap text_of_lines (sym (so_far.whole ∙ append-nil so_far.done))
-
-pub all_borrowed : (all : List (List ℕ)) (text : Option Text) → IsSoFar all text [] → length all ≡ 1
-    → IfSome text IsBorrowedSlice
-all_borrowed all text so_far one = so_far.one_is_borrowed (ap length (sym (so_far.whole ∙ append-nil so_far.done)) ∙ one)

@@ -1,13 +1,9 @@
 -- The errors of reading a field of a header map.
-use Rattle.std.proofs.Common.{◌≡◌, ℕ, ◌<◌, List, [], ◌∷◌, length, Some, Result, refl, inl, arith}
-use Rattle.std.specs.Prelude.{IfErr, IsErrAnd}
+use Rattle.std.proofs.Common.{◌≡◌, ℕ, ◌<◌, List, [], ◌∷◌, length, Some, Result, refl, inl, arith, IfErr, IsErrAnd}
 use Rattle.std.proofs.lemmas.Result.{err_from_is_err_and}
-use Rattle.http_header.specs.HeaderMap.{Entries}
-use Rattle.http_header.specs.FieldValue.{FieldValue}
-use Rattle.sfv.specs.Field.{Version, FieldKind, out_of_memory}
-use Rattle.sfv.specs.Types.{Error}
-use Rattle.sfv_headers.specs.Lines.{text_of_lines, lines_in}
-use Rattle.sfv_headers.specs.Fields.{IsReadError}
+use Rattle.http_header.specs.{FieldValue.FieldValue, HeaderMap.Entries}
+use Rattle.sfv.specs.{Field.{Version, FieldKind, out_of_memory}, Types.Error}
+use Rattle.sfv_headers.specs.{Fields.IsReadError, Lines.{text_of_lines, lines_in}}
 
 some_text : (lines : List (List ℕ)) → 1 < length lines → (text : List ℕ) × (text_of_lines lines ≡ Some text)
 some_text [] h = absurd (omega (arith, h))

@@ -1,23 +1,14 @@
 -- What is written into a header map.
-use Rattle.std.proofs.Common.{◌≡◌, ℕ, ◌<◌, List, [], ◌∷◌, length, Some, Result, Ok, Err, refl, ap, inl, inr, arith}
-use Rattle.std.specs.Prelude.{map, IfErr, OnOk, IsErrAnd}
-use Rattle.std.proofs.lemmas.Result.{err_from_is_err_and}
-use Rattle.http_header.specs.HeaderMap.{Entries, insert}
-use Rattle.http_header.specs.FieldValue.{FieldValue, plain_value}
+use Rattle.std.proofs.Common.{◌≡◌, ℕ, ◌<◌, List, [], ◌∷◌, length, Some, Result, Ok, Err, refl, ap, inl, inr, arith, map}
+use Rattle.std.proofs.{Common.{IfErr, OnOk, IsErrAnd}, lemmas.Result.err_from_is_err_and}
+use Rattle.http_header.specs.{FieldValue.{FieldValue, plain_value}, HeaderMap.{Entries, insert}}
 use Rattle.http_header.proofs.HeaderMapLemmas.{get_all-insert_same}
-use Rattle.sfv.specs.Field.{Version, FieldKind, RawField, HasMember, IsParsedAs, canonical}
-use Rattle.sfv.specs.Types.{SerializeError, item_field, list_field, dictionary_field}
+use Rattle.sfv.specs.{Classes.is_string_byte, Field.{Version, FieldKind, RawField, HasMember, IsParsedAs, canonical}}
+use Rattle.sfv.specs.{Texts.RunOf, Types.{SerializeError, item_field, list_field, dictionary_field}, Values.bare_values}
+use Rattle.sfv.{specs.Versions.IsSerializeError, proofs.Callers.{read_is_value, printable_texts_lem}}
+use Rattle.sfv_headers.specs.{Errors.of_serializing, Fields.HasValue, Lines.{text_in, text_of_lines}}
+use Rattle.sfv_headers.specs.{Writing.IsWriteError, declared.write_error.WriteError.WriteError}
 use Rattle.sfv.specs.Types.serialize_errors
-use Rattle.sfv.specs.Values.{bare_values}
-use Rattle.sfv.specs.Versions.{IsSerializeError}
-use Rattle.sfv.specs.Texts.{RunOf}
-use Rattle.sfv.specs.Classes.{is_string_byte}
-use Rattle.sfv.proofs.Callers.{read_is_value, printable_texts_lem}
-use Rattle.sfv_headers.specs.Lines.{text_in, text_of_lines}
-use Rattle.sfv_headers.specs.Fields.{HasValue}
-use Rattle.sfv_headers.specs.Errors.{of_serializing}
-use Rattle.sfv_headers.specs.Writing.{IsWriteError}
-use Rattle.sfv_headers.specs.declared.write_error.WriteError.{WriteError}
 
 module _ (version : Version) (kind : FieldKind) (value : RawField kind) where
   -- a text that parses back is a header value

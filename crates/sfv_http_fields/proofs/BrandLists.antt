@@ -1,8 +1,7 @@
 -- The brands of a list with one more member.
 use Rattle.std.proofs.Common.{◌≡◌, ℕ, List, [], ◌∷◌, ◌++◌, Option, Some, None, refl, sym, ap, subst, ◌∙◌, append-nil}
-use Rattle.std.specs.Prelude.{◌≢◌, Bool, true, false, map, filter_map, option_map}
-use Rattle.std.proofs.lemmas.List.{map-append}
-use Rattle.std.proofs.lemmas.List.Elements.{filter_map-append}
+use Rattle.std.proofs.Common.{◌≢◌, Bool, true, false, map, filter_map, option_map}
+use Rattle.std.proofs.lemmas.List.{map-append, Elements.filter_map-append}
 use Rattle.sfv_readers.specs.Field.{RawMember, head_of, parameters_of, Version, list_field, IsParsedAs}
 use Rattle.sfv_http_fields.specs.SecChUa.{BrandValue, brand_in, brand_of, brand_value, HasBrand, AreSoFar}
 use Rattle.sfv_http_fields.specs.declared.sec_ch_ua.Brand.{Brand}

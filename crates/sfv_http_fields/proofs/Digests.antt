@@ -1,24 +1,18 @@
 -- The digests of members: of a text, of what was read of it, and of what is written.
-use Rattle.std.proofs.Common.{◌≡◌, ℕ, List, refl, sym, ap, ◌∙◌, subst, inl, inr}
-use Rattle.std.specs.Prelude.{Option, Some, None, option_map, Result, Ok, Err, IfOk, IfErr, IfSome, string_bytes}
-use Rattle.std.specs.declared.alloc.Global.{Global}
-use Rattle.std.specs.declared.string.String.{String}
-use Rattle.sfv.specs.Values.{RawMember, item, inner_list}
-use Rattle.sfv.specs.Types.{dictionary_field, Rfc9651, Error}
-use Rattle.sfv.specs.Ordered.{last_of, ordered, ordered_member}
-use Rattle.sfv.specs.Statements.{IsParsedAs, IsSerializedAs}
-use Rattle.sfv.proofs.Callers.{last_of-ordered}
+use Rattle.std.proofs.Common.{◌≡◌, ℕ, List, refl, sym, ap, ◌∙◌, subst, inl, inr, Option, Some, None, option_map, Result}
+use Rattle.std.proofs.Common.{Ok, Err, IfOk, IfErr, IfSome, string_bytes}
+use Rattle.std.specs.declared.{alloc.Global.Global, string.String.String}
+use Rattle.sfv.{specs.Types.Error, proofs.Callers.last_of-ordered}
+use Rattle.sfv_readers.specs.Field.{RawMember, item, inner_list, dictionary_field, Rfc9651, last_of, ordered}
+use Rattle.sfv_readers.specs.Field.{ordered_member, IsParsedAs, IsSerializedAs, ErrorNeedsMark}
 use Rattle.sfv_http_fields.specs.ContentDigests.{Members, sha_256_key, sha_512_key, bytes_in, last_bytes, Digests}
 use Rattle.sfv_http_fields.specs.ContentDigests.{digests_in, AreDigests, HasWrongType, IsDictionary, IsContentDigest}
 use Rattle.sfv_http_fields.specs.ContentDigests.{HasDigests, IsDigestError, ReturnsDigests, digest_members}
-use Rattle.sfv_http_fields.specs.ContentDigests.{NeedsMarkFor}
-use Rattle.sfv_readers.specs.Field.{ErrorNeedsMark}
+use Rattle.sfv_http_fields.specs.{ContentDigests.NeedsMarkFor, DigestSteps.{HoldsDigests, HoldsWrongType, GivesDigests}}
 use Rattle.sfv_http_fields.specs.LastDigests.{Held, held_value, HoldsMembers}
-use Rattle.sfv_http_fields.specs.DigestSteps.{HoldsDigests, HoldsWrongType, GivesDigests}
-use Rattle.sfv_http_fields.specs.declared.content_digest.DigestError.TheVariants as errors
-use Rattle.sfv_http_fields.specs.declared.content_digest.reading.LastMembers.{LastMembers}
 use Rattle.sfv_http_fields.specs.declared.content_digest.ContentDigest.{ContentDigest}
-use Rattle.sfv_http_fields.specs.declared.content_digest.DigestError.{DigestError}
+use Rattle.sfv_http_fields.specs.declared.content_digest.{DigestError.DigestError, reading.LastMembers.LastMembers}
+use Rattle.sfv_http_fields.specs.declared.content_digest.DigestError.TheVariants as errors
 
 bytes_in-ordered : (o : Option RawMember) → option_map bytes_in (option_map ordered_member o) ≡ option_map bytes_in o
 bytes_in-ordered None = refl

@@ -1,6 +1,5 @@
 -- The errors of a field of a request.
-use Rattle.std.proofs.Common.{◌≡◌, ℕ, List, [], Result, Ok, Err, refl}
-use Rattle.std.specs.Prelude.{◌≢◌, IfErr, OnErr, IsErrAnd}
+use Rattle.std.proofs.Common.{◌≡◌, ℕ, List, [], Result, Ok, Err, refl, ◌≢◌, IfErr, OnErr, IsErrAnd}
 use Rattle.std.proofs.lemmas.Result.{err_from_is_err_and}
 use Rattle.sfv.specs.Errors.{out_of_memory}
 use Rattle.sfv_http_fields.specs.Requests.{IsRequestField, IsFieldFault}

@@ -1,14 +1,10 @@
 -- The lines that a head's spans cover are those of its fields.
-use Rattle.std.proofs.Common.{◌≡◌, ℕ, List, [], ◌∷◌, take, refl, ap, ◌∙◌, inl, inr}
-use Rattle.std.specs.Prelude.{map, filter, codes}
+use Rattle.std.proofs.Common.{◌≡◌, ℕ, List, [], ◌∷◌, take, refl, ap, ◌∙◌, inl, inr, map, filter, codes}
 use Rattle.std.proofs.lemmas.Bool.{cases_Bool}
-use Rattle.httparse.specs.Grammar.{Field, field_value}
-use Rattle.httparse.specs.Spans.{header_bytes, name_and_value, IsRequestOf}
-use Rattle.httparse.specs.declared.spans.HeaderSpan.{HeaderSpan}
-use Rattle.httparse.specs.declared.spans.RequestSpans.{RequestSpans}
+use Rattle.httparse.specs.{Grammar.{Field, field_value}, Spans.{header_bytes, name_and_value, IsRequestOf}}
+use Rattle.httparse.specs.declared.spans.{HeaderSpan.HeaderSpan, RequestSpans.RequestSpans}
 use Rattle.sfv.specs.Texts.{joined}
-use Rattle.sfv_http_fields.specs.Requests.{is_named, IsRequestField}
-use Rattle.sfv_http_fields.specs.Lines.{lines_of, text_of_lines}
+use Rattle.sfv_http_fields.specs.{Lines.{lines_of, text_of_lines}, Requests.{is_named, IsRequestField}}
 
 lines_of_fields : (name : List ℕ) (fields : List Field)
     → lines_of name (map name_and_value fields) ≡ map field_value (filter (is_named name) fields)

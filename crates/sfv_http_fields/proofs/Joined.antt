@@ -1,16 +1,12 @@
 -- The lines of a field are joined one after the other.
-use Rattle.std.proofs.Common.{◌≡◌, ℕ, ◌+◌, ◌<◌, List, [], ◌∷◌, ◌++◌, true, false, length, get_or, refl, sym}
-use Rattle.std.proofs.Common.{Option, Some, None, arith}
-use Rattle.std.specs.Prelude.{◌≢◌, map, drop, codes, option_map}
-use Rattle.std.specs.Str.{str_eq_ignore_ascii_case}
-use Rattle.std.specs.Cow.{cow_slice_items, IsBorrowedSlice}
-use Rattle.std.specs.declared.alloc.Global.{Global}
-use Rattle.std.specs.declared.borrow.CowSlice.{CowSlice}
+use Rattle.std.proofs.Common.{◌≡◌, ℕ, ◌+◌, ◌<◌, List, [], ◌∷◌, ◌++◌, true, false, length, get_or, refl, sym, Option}
+use Rattle.std.proofs.Common.{Some, None, arith, ◌≢◌, map, drop, codes, option_map}
+use Rattle.std.specs.{Cow.{cow_slice_items, IsBorrowedSlice}, Str.str_eq_ignore_ascii_case}
+use Rattle.std.specs.declared.{alloc.Global.Global, borrow.CowSlice.CowSlice}
 use Rattle.std.proofs.lemmas.List.{drop_more}
 use Rattle.sfv.specs.Texts.{joined}
-use Rattle.sfv_headers.specs.Lines.{with_line, text_of_lines as text_of}
-use Rattle.sfv_headers.proofs.Joining.{IsSoFar, one_more, two_lines, all_text}
-use Rattle.sfv_http_fields.specs.Lines.{lines_of, text_of_lines, bytes_of}
+use Rattle.sfv_headers.{specs.Lines.with_line, proofs.Joining.{IsSoFar, one_more, two_lines}}
+use Rattle.sfv_http_fields.specs.Lines.{lines_of, text_of_lines}
 
 -- the step of a loop over what is seen as lines
 module _ {A : Type 0} (name : List ℕ) (f : A → List ℕ × List ℕ) (xs : List A) (i : ℕ) (h : i < length xs) (d : A)
@@ -51,15 +47,3 @@ module _ {A : Type 0} (name : List ℕ) (f : A → List ℕ × List ℕ) (xs : L
       some [] h = absurd (omega (arith, h))
       some (x ∷ []) h = absurd (omega (arith, h))
       some (x ∷ y ∷ ys) h = λ none. never x 44 (32 ∷ []) (joined (codes ", ") (y ∷ ys)) none
-
--- the text of all lines
-pub lines_joined : (name : List ℕ) (lines : List (List ℕ × List ℕ)) (text : Option (CowSlice ℕ Global))
-    → IsSoFar (lines_of name lines) text [] → bytes_of text ≡ text_of_lines name lines
-lines_joined name lines text so_far = of_text text (lines_of name lines) (all_text (lines_of name lines) text so_far)
-  where
-    of_text : (text : Option (CowSlice ℕ Global)) (lines : List (List ℕ))
-        → option_map cow_slice_items text ≡ text_of lines → bytes_of text ≡ joined (codes ", ") lines
-    of_text None [] h = refl
-    of_text None (x ∷ xs) h = absurd (cc)
-    of_text (Some t) [] h = absurd (cc)
-    of_text (Some t) (x ∷ xs) h = cc

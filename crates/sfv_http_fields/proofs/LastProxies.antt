@@ -1,10 +1,7 @@
 -- The state of a member after one more parameter.
-use Rattle.std.specs.Prelude.{◌≡◌, ℕ, List, Some, bytes_eq, codes, if◌then◌else◌}
-use Rattle.sfv_readers.specs.Field.{BareValue, RawParameters, last_of, put, Head}
-use Rattle.std.proofs.Common.{refl}
-use Rattle.sfv_readers.proofs.Puts.{of_put}
-use Rattle.sfv_http_fields.specs.ProxyStatus.{error_of, status_of}
-use Rattle.sfv_http_fields.specs.Kept.{name_of, kept_of}
+use Rattle.std.proofs.Common.{refl, ◌≡◌, ℕ, List, Some, bytes_eq, codes, if◌then◌else◌}
+use Rattle.sfv_readers.{specs.Field.{BareValue, RawParameters, last_of, put, Head}, proofs.Puts.of_put}
+use Rattle.sfv_http_fields.specs.{Kept.{name_of, kept_of}, ProxyStatus.{error_of, status_of}}
 
 pub kept_put : (head : Head) (ps : RawParameters) (k : List ℕ) (v : BareValue) → kept_of head (put ps k v) ≡ record {
   name = name_of head;

@@ -1,9 +1,6 @@
 -- When a call that parses a field of a header map runs out of memory: while two lines are joined, or in the text.
-use Rattle.std.proofs.Common.{◌≡◌, ℕ, ◌<◌, List, Some, Result, Ok, Err, length, inl, inr}
-use Rattle.std.specs.Prelude.{IfErr}
-use Rattle.std.specs.Result.{IsErrAnd}
-use Rattle.http_header.specs.HeaderMap.{Entries}
-use Rattle.http_header.specs.FieldValue.{FieldValue}
+use Rattle.std.proofs.Common.{◌≡◌, ℕ, ◌<◌, List, Some, Result, Ok, Err, length, inl, inr, IfErr, IsErrAnd}
+use Rattle.http_header.specs.{FieldValue.FieldValue, HeaderMap.Entries}
 use Rattle.sfv.specs.Types.{Error}
 use Rattle.sfv_readers.specs.Field.{ErrorNeedsMark}
 use Rattle.sfv_headers.specs.Lines.{lines_in, text_in}

@@ -1,8 +1,6 @@
 -- What the definitions of the Priority field say of some dictionaries.
 use Rattle.std.proofs.Common.{◌≡◌, ℕ, List, [], ◌∷◌, true, false, refl, pos, codes}
-use Rattle.sfv.specs.Values.{integer, boolean, RawMember, item}
-use Rattle.sfv.specs.Ordered.{last_of}
-use Rattle.sfv.specs.Builders.{plain_item}
+use Rattle.sfv.specs.{Builders.plain_item, Ordered.last_of, Values.{integer, boolean, RawMember, item}}
 use Rattle.sfv_http_fields.specs.Priority.{priority, priority_text}
 
 -- u=1, i

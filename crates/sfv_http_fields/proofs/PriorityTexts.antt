@@ -1,14 +1,8 @@
 -- What is written of a priority is read as it, under both versions.
-use Rattle.std.proofs.Common.{◌≡◌, ℕ, ◌+◌, ◌≤◌, ◌<◌, List, [], ◌∷◌, ◌++◌, Bool, true, false, refl, subst, arith}
-use Rattle.std.specs.Prelude.{nat_le, ◌==◌, ◌^◌, codes, if◌then◌else◌}
-use Rattle.std.proofs.lemmas.Fmt.{decimal_digit}
-use Rattle.sfv.specs.Ascii.{byte}
-use Rattle.sfv.specs.Texts.{joined}
-use Rattle.sfv.specs.Types.{dictionary_field, Version, Rfc8941}
-use Rattle.sfv.specs.Ordered.{last_of}
-use Rattle.sfv.specs.Canonical.{canonical}
-use Rattle.sfv.specs.Values.{Fits, IsFieldValue}
-use Rattle.sfv.specs.Statements.{IsParsedAs, IsValue}
+use Rattle.std.proofs.Common.{◌≡◌, ℕ, ◌+◌, ◌≤◌, ◌<◌, List, [], ◌∷◌, ◌++◌, Bool, true, false, refl, subst, arith, nat_le}
+use Rattle.std.proofs.{Common.{◌==◌, ◌^◌, codes, if◌then◌else◌}, lemmas.Fmt.decimal_digit}
+use Rattle.sfv.specs.{Ascii.byte, Canonical.canonical, Ordered.last_of, Statements.{IsParsedAs, IsValue}}
+use Rattle.sfv.specs.{Texts.joined, Types.{dictionary_field, Version, Rfc8941}, Values.{Fits, IsFieldValue}}
 use Rattle.sfv.proofs.Callers.{read_back_either, ordered_same, IsOrdered}
 use Rattle.sfv_http_fields.specs.Priority.{PriorityValue, priority, priority_text, IsPriorityOf}
 use Rattle.sfv_http_fields.specs.PrioritySteps.{members_by, members_of}

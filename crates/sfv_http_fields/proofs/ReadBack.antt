@@ -1,11 +1,9 @@
 -- The written text parses back to the intermediary.
-use Rattle.std.specs.Prelude.{◌≡◌, ◌≤◌, ◌++◌, ℕ, List, [], true, Some, nat_le, pos}
+use Rattle.std.proofs.Common.{refl, sym, ap, ◌∙◌, append_assoc, append-nil, arith, ◌≡◌, ◌≤◌, ◌++◌, ℕ, List, [], true}
+use Rattle.std.proofs.Common.{Some, nat_le, pos}
+use Rattle.sfv.{specs.TokenText.TokenRef, specs.Values.IsItem, proofs.Callers.{read_back_either, ordered_same}}
 use Rattle.sfv_readers.specs.Field.{Version, Rfc8941, list_field, RawMember, integer, Fits, IsParsedAs, canonical}
 use Rattle.sfv_readers.specs.Field.{last_of, text_of as token_text}
-use Rattle.sfv.specs.TokenText.{TokenRef}
-use Rattle.sfv.specs.Values.{IsItem}
-use Rattle.sfv.proofs.Callers.{read_back_either, ordered_same}
-use Rattle.std.proofs.Common.{refl, sym, ap, ◌∙◌, append_assoc, append-nil, arith}
 use Rattle.sfv_http_fields.specs.ProxyStatus.{status_in, last_proxy_of, name_value}
 use Rattle.sfv_http_fields.specs.Writing.{written_members, written_proxy, item_of, IsReadAs}
 use Rattle.sfv_http_fields.specs.declared.proxy_status.reading.Name.{Name}

@@ -1,11 +1,8 @@
 -- Rows of a table: the first with a name, and a test that no two have the same name.
-use Rattle.std.proofs.Common.{◌≡◌, ℕ, ◌+◌, ◌<◌, List, [], ◌∷◌, Bool, true, false, length, get_or, refl, inl, inr}
-use Rattle.std.specs.Prelude.{◌&&◌, not, map, drop, Some}
-use Rattle.std.specs.List.{IsDistinct, AllByRecursion, list_any}
-use Rattle.std.specs.Map.{lookup}
-use Rattle.std.specs.Str.{str_eq_ignore_ascii_case}
-use Rattle.std.proofs.lemmas.Bool.{cases_Bool}
-use Rattle.std.proofs.lemmas.List.{drop_more}
+use Rattle.std.proofs.Common.{◌≡◌, ℕ, ◌+◌, ◌<◌, List, [], ◌∷◌, Bool, true, false, length, get_or, refl, inl, inr, ◌&&◌}
+use Rattle.std.proofs.Common.{not, map, drop, Some}
+use Rattle.std.specs.{List.{IsDistinct, AllByRecursion, list_any}, Map.lookup, Str.str_eq_ignore_ascii_case}
+use Rattle.std.proofs.lemmas.{Bool.cases_Bool, List.drop_more}
 use Rattle.sfv_http_fields.specs.Registry.{OneRow, registered}
 
 -- the row at an index, after rows without this name

@@ -1,14 +1,10 @@
 -- The text of a field, line after line.
 use Rattle.std.proofs.Common.{◌≡◌, ℕ, ◌+◌, ◌-◌, ◌<◌, ◌≤◌, List, [], ◌∷◌, ◌++◌, length, take, refl, sym, ap, ◌∙◌}
-use Rattle.std.proofs.Common.{append_assoc, append-nil, arith, Bool, true, false, eqb-true}
-use Rattle.std.specs.Prelude.{map, filter, codes, flat_map, ◌==◌, Some}
-use Rattle.std.proofs.lemmas.Grind.{common_steps}
-use Rattle.std.proofs.lemmas.List.{take_all}
+use Rattle.std.proofs.Common.{append_assoc, append-nil, arith, Bool, true, false, eqb-true, map, filter, codes}
+use Rattle.std.proofs.Common.{flat_map, ◌==◌, take_all}
+use Rattle.std.proofs.lemmas.{Grind.common_steps, List.map-append, List.Elements.filter-append}
 use Rattle.sfv_lint_head.specs.Heads.{first_line, after_line}
-use Rattle.sfv_lint_head.specs.Lines.{joined_lines, place_in, lines_of_text, before_first, value_lines}
-use Rattle.sfv_lint_head.specs.Lines.{without_return, has_any}
-use Rattle.std.proofs.lemmas.List.{map-append}
-use Rattle.std.proofs.lemmas.List.Elements.{filter-append}
+use Rattle.sfv_lint_head.specs.Lines.{joined_lines, lines_of_text, before_first, value_lines, without_return, has_any}
 
 -- each line after a comma and a space
 abbrev pub more_lines : List (List ℕ) → List ℕ
@@ -17,17 +13,6 @@ more_lines lines = flat_map (λ line. codes ", " ++ line) lines
 pub joined_first : (line : List ℕ) (lines : List (List ℕ)) → joined_lines (line ∷ lines) ≡ line ++ more_lines lines
 joined_first line [] = sym (append-nil line)
 joined_first line (next ∷ lines) = rw (joined_first next lines) (grind (arith, common_steps))
-
--- the place is in the first line, or in a later one
-pub place_here : (line : List ℕ) (lines : List (List ℕ)) (last : List ℕ) (index : ℕ) → index < length line + 2
-    → place_in (line ∷ lines ++ last ∷ []) index ≡ Some (line, index)
-place_here line [] last index h = grind (arith, common_steps)
-place_here line (next ∷ lines) last index h = grind (arith, common_steps)
-
-pub place_later : (line : List ℕ) (lines : List (List ℕ)) (last : List ℕ) (index : ℕ) → length line + 2 ≤ index
-    → place_in (line ∷ lines ++ last ∷ []) index ≡ place_in (lines ++ last ∷ []) (index - (length line + 2))
-place_later line [] last index h = grind (arith, common_steps)
-place_later line (next ∷ lines) last index h = grind (arith, common_steps)
 
 pub joined_all : {A : Type 0} (g : A → List ℕ) (xs others : List A) (first : A) (n : ℕ) (start text : List ℕ)
     → xs ≡ first ∷ others → length others ≤ n → start ≡ g first → text ≡ start ++ more_lines (map g (take n others))
@@ -40,8 +25,7 @@ other_byte : (b : ℕ) (t : List ℕ) (more : before_first b (lines_of_text t) �
 other_byte b t more true e = rw e refl
 other_byte b t more false e = rw e more
 
-pub lines_split : (b : ℕ) (t : List ℕ)
-    → lines_of_text (b ∷ t) ≡ first_line (b ∷ t) ∷ lines_of_text (after_line (b ∷ t))
+pub lines_split : (b : ℕ) (t : List ℕ) → lines_of_text (b ∷ t) ≡ first_line (b ∷ t) ∷ lines_of_text (after_line (b ∷ t))
 lines_split b [] = other_byte b [] refl (b == 10) refl
 lines_split b (c ∷ t) = other_byte b (c ∷ t) (ap (before_first b) (lines_split c t)) (b == 10) refl
 

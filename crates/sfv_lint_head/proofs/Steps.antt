@@ -1,12 +1,9 @@
 -- Lists step by step.
-use Rattle.std.proofs.Common.{◌≡◌, ℕ, suc, zero, ◌+◌, ◌-◌, ◌<◌, ◌≤◌, List, [], ◌∷◌, ◌++◌, length, take, drop, get_or, refl, sym, ap, ◌∙◌}
-use Rattle.std.proofs.Common.{append_assoc, append-nil, arith, Bool, true, false, eq-eqb, eqb-true}
-use Rattle.std.specs.Prelude.{◌≢◌, IsTrue, map, slice_index, ◌==◌, if◌then◌else◌, flat_map, ◌||◌, codes, nat_eq}
-use Rattle.std.specs.List.{starts_with}
-use Rattle.std.specs.Str.{str_eq_ignore_ascii_case}
-use Rattle.std.proofs.lemmas.Grind.{common_steps}
-use Rattle.std.proofs.lemmas.List.{take_more, drop_more, map-append, take_all, length-drop}
-use Rattle.std.proofs.lemmas.List.Elements.{filter-append}
+use Rattle.std.proofs.Common.{◌≡◌, ℕ, suc, zero, ◌+◌, ◌-◌, ◌<◌, ◌≤◌, List, [], ◌∷◌, ◌++◌, length, take, drop, get_or}
+use Rattle.std.proofs.Common.{refl, sym, ap, ◌∙◌, append_assoc, append-nil, arith, Bool, true, false, eq-eqb, eqb-true}
+use Rattle.std.proofs.Common.{◌≢◌, IsTrue, map, slice_index, ◌==◌, if◌then◌else◌, flat_map, ◌||◌, codes, nat_eq}
+use Rattle.std.{proofs.Common.{take_all, length-drop}, specs.List.starts_with, specs.Str.str_eq_ignore_ascii_case}
+use Rattle.std.proofs.lemmas.{Grind.common_steps, List.{take_more, drop_more, map-append}, List.Elements.filter-append}
 use Rattle.httparse.specs.Grammar.{Field, LineEnd, crlf, lf, print_end, print_field, print_section, HasNoSection}
 use Rattle.httparse.specs.Spans.{SectionOverflows}
 use Rattle.sfv_lint_head.specs.Heads.{first_line, after_line, values_of, line_feeds, names_http}
@@ -53,11 +50,9 @@ feeds-append : (s t : List ℕ) → line_feeds (s ++ t) ≡ line_feeds s + line_
 feeds-append s t = grind (arith, common_steps)
 
 field_has_feed : (name raw : List ℕ) (end : LineEnd) → 1 ≤ line_feeds (name ++ 58 ∷ raw ++ print_end end)
-field_has_feed name raw end =
-    omega (arith, feeds-append (name ++ 58 ∷ raw) (print_end end), end_has_feed end)
+field_has_feed name raw end = omega (arith, feeds-append (name ++ 58 ∷ raw) (print_end end), end_has_feed end)
 
-section_has_feeds : (fields : List Field) (last : LineEnd)
-    → length fields ≤ line_feeds (print_section fields last)
+section_has_feeds : (fields : List Field) (last : LineEnd) → length fields ≤ line_feeds (print_section fields last)
 section_has_feeds [] last = omega arith
 section_has_feeds (f ∷ fields) last =
     let split : print_section (f ∷ fields) last ≡ print_field f ++ print_section fields last
@@ -93,27 +88,18 @@ without : (b : ℕ) (bytes : List ℕ) → starts_with nat_eq (b ∷ bytes) (cod
     → names_http (b ∷ bytes) ≡ names_http bytes
 without b bytes h = ap (λ (found : Bool). found || names_http bytes) h
 
-with_it : (b : ℕ) (bytes : List ℕ) → starts_with nat_eq (b ∷ bytes) (codes "HTTP/") ≡ true
-    → names_http (b ∷ bytes) ≡ true
-with_it b bytes h = ap (λ (found : Bool). found || names_http bytes) h
-
 module _ (line : List ℕ) (i : ℕ) (h : i < length line) where
   pub names_http_step : starts_with nat_eq (take (length line - i) (drop i line)) (codes "HTTP/") ≡ false
       → names_http (drop i line) ≡ names_http (drop (i + 1) line)
   names_http_step other = rw (drop_more line i 0 h) (without (get_or line i 0) (drop (i + 1) line) (rw (rest_at line i h) at other))
-
-  pub names_http_here : starts_with nat_eq (take (length line - i) (drop i line)) (codes "HTTP/") ≡ true
-      → names_http (drop i line) ≡ true
-  names_http_here found = rw (drop_more line i 0 h) (with_it (get_or line i 0) (drop (i + 1) line) (rw (rest_at line i h) at found))
 
 -- ---- the values of a name
 
 pub values_of_push : (name : List ℕ) (lines : List (List ℕ × List ℕ)) (line : List ℕ × List ℕ) (b : Bool)
     → str_eq_ignore_ascii_case line.0 name ≡ b
     → values_of name (lines ++ line ∷ []) ≡ values_of name lines ++ (if b then line.1 ∷ [] else [])
-values_of_push name lines line b h =
-    ap (map (λ line. line.1)) (filter-append (λ line. str_eq_ignore_ascii_case line.0 name) lines (line ∷ []))
-    ∙ rw (map-append, h) (one b)
+values_of_push name lines line b h = ap (map (λ line. line.1))
+    (filter-append (λ line. str_eq_ignore_ascii_case line.0 name) lines (line ∷ [])) ∙ rw (map-append, h) (one b)
   where
     one : (b : Bool) → values_of name lines ++ map (λ line. line.1) (if b then line ∷ [] else [])
         ≡ values_of name lines ++ (if b then line.1 ∷ [] else [])

@@ -1,16 +1,10 @@
 -- A number of thousandths as a float.
-use Rattle.std.proofs.Common.{◌≡◌, ℤ, pos, refl, rules}
-use Rattle.std.specs.Prelude.{option_map, unwrap_or}
-use Rattle.std.specs.Float.{binary64}
-use Rattle.std.specs.Float.Ieee.{of_int, of_bits, div}
-use Rattle.std.proofs.lemmas.Int.{to_z-of_z}
-use mir.Syntax.{w64}
-use mir.Val.{SFits, to_z, of_z}
-use Rattle.serde_json.specs.Data.{Data}
-use Rattle.serde_json.specs.Data as json
-use Rattle.serde_json.specs.Find.{of_float}
+use Rattle.std.proofs.Common.{◌≡◌, ℤ, pos, refl, rules, option_map, unwrap_or, w64, SFits, to_z, of_z}
+use Rattle.std.{specs.Float.binary64, specs.Float.Ieee.{of_int, of_bits, div}, proofs.lemmas.Int.to_z-of_z}
+use Rattle.serde_json.specs.{Data.Data, Find.of_float}
 use Rattle.sfv.specs.Values.{IsInRange}
 use Rattle.sfv_lint_json.specs.Json.{decimal_json}
+use Rattle.serde_json.specs.Data as json
 
 fits : (t : ℤ) → IsInRange t → SFits w64 t
 fits t h = search rules

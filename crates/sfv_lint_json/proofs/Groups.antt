@@ -1,10 +1,7 @@
 -- The text of bytes in Base32, group by group.
 use Rattle.std.proofs.Common.{◌≡◌, ◌<◌, ◌+◌, ◌*◌, ◌/◌, ◌%◌, ℕ, zero, suc, true, List, [], ◌∷◌, ◌++◌, length, refl}
-use Rattle.std.proofs.Common.{arith, ltb, get_or, append_assoc, append-nil}
-use Rattle.std.specs.Prelude.{min}
-use Rattle.std.specs.Str.{IsAscii}
-use Rattle.std.specs.List.{list_all}
-use Rattle.std.proofs.lemmas.Bool.{and_parts, ltb-true, lt-ltb}
+use Rattle.std.proofs.Common.{arith, ltb, get_or, append_assoc, append-nil, min, IsAscii, ltb-true, lt-ltb}
+use Rattle.std.{specs.List.list_all, proofs.lemmas.Bool.and_parts}
 use Rattle.sfv_lint_json.specs.Base32.{symbols, symbol, group_symbols, base32_text}
 
 -- ---- symbols are ASCII

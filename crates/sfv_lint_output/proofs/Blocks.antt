@@ -1,15 +1,10 @@
 -- The lines on fields, one field more at a time.
-use Rattle.std.proofs.Common.{◌≡◌, ℕ, ◌+◌, ◌<◌, ◌≤◌, List, [], ◌∷◌, ◌++◌, Bool, true, false, length, take, get_or, refl, sym, ap, ◌∙◌}
-use Rattle.std.proofs.Common.{append_assoc, append-nil}
-use Rattle.std.specs.Prelude.{flat_map}
-use Rattle.std.specs.List.{AllZip, concat}
-use Rattle.std.proofs.lemmas.List.{take_more, take_all}
-use Rattle.std.proofs.lemmas.List.Folds.{concat-append}
+use Rattle.std.proofs.Common.{◌≡◌, ℕ, ◌+◌, ◌<◌, ◌≤◌, List, [], ◌∷◌, ◌++◌, Bool, true, false, length, take, get_or, refl}
+use Rattle.std.{proofs.Common.{sym, ap, ◌∙◌, append_assoc, append-nil, flat_map, take_all}, specs.List.{AllZip, concat}}
+use Rattle.std.proofs.lemmas.List.{take_more, Folds.concat-append}
 use Rattle.sfv_lint_head.specs.declared.paint.Colors.{Colors}
-use Rattle.sfv_lint_report.specs.declared.report.Field.{Field}
-use Rattle.sfv_lint_report.specs.declared.report.Report.{Report}
-use Rattle.sfv_lint_report.specs.Prints.{field_text, summary_text}
-use Rattle.sfv_lint_report.specs.Reports.{has_error}
+use Rattle.sfv_lint_report.specs.{Prints.{field_text, summary_text}, Reports.has_error}
+use Rattle.sfv_lint_report.specs.declared.report.{Field.Field, Report.Report}
 use Rattle.sfv_lint_notes.specs.declared.notes.Note.{Note}
 use Rattle.sfv_lint_output.specs.Lines.{IsBlock, AppendsBlock, AppendsBlocks, AppendsNotes, AppendsTree, IsPrinted}
 use Rattle.sfv_lint_output.specs.Lines.{note_line, named_others}

@@ -1,12 +1,8 @@
 -- The runs that fail.
-use Rattle.std.proofs.Common.{◌≡◌, ℕ, zero, suc, ◌+◌, ◌<◌, ◌≤◌, List, [], ◌∷◌, ◌++◌, Bool, true, false, length, take, get_or, refl, sym, ap, ◌∙◌, inl, inr, arith}
-use Rattle.std.specs.Prelude.{◌||◌}
-use Rattle.std.specs.List.{list_any}
-use Rattle.std.proofs.lemmas.Bool.{cases_Bool}
-use Rattle.std.proofs.lemmas.Grind.{common_steps}
-use Rattle.std.proofs.lemmas.List.{take_more, take_all}
-use Rattle.sfv_lint_report.specs.declared.report.Field.{Field}
-use Rattle.sfv_lint_report.specs.Reports.{has_error}
+use Rattle.std.proofs.Common.{◌≡◌, ℕ, zero, suc, ◌+◌, ◌<◌, ◌≤◌, List, [], ◌∷◌, ◌++◌, Bool, true, false, length, take}
+use Rattle.std.{proofs.Common.{get_or, refl, sym, ◌∙◌, inl, inr, arith, take_all}, specs.List.list_any}
+use Rattle.std.proofs.lemmas.{Bool.cases_Bool, Grind.common_steps, List.take_more}
+use Rattle.sfv_lint_report.specs.{Reports.has_error, declared.report.Field.Field}
 use Rattle.sfv_lint_output.specs.Runs.{IsFailed}
 
 any_at : {A : Type 0} (p : A → Bool) (xs : List A) (i : ℕ) (d : A) → i < length xs → p (get_or xs i d) ≡ true

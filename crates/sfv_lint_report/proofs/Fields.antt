@@ -1,17 +1,11 @@
 -- A report with one more line.
-use Rattle.std.proofs.Common.{◌≡◌, ℕ, ◌+◌, ◌<◌, ◌≤◌, List, [], ◌∷◌, ◌++◌, Bool, true, false, length, take, get_or, refl, sym, ap, ◌∙◌, inl, inr, arith, zero, suc}
-use Rattle.std.specs.Prelude.{Some, None, All, map}
-use Rattle.std.specs.List.{list_any}
-use Rattle.std.specs.Str.{str_eq_ignore_ascii_case, str_to_ascii_lowercase}
-use Rattle.std.proofs.lemmas.Slice.Eq.{bytes_eq-Decides}
-use Rattle.std.proofs.lemmas.List.Elements.{All-append, All-map}
-use Rattle.std.proofs.lemmas.Grind.{common_steps}
-use Rattle.std.proofs.lemmas.List.{take_more, take_all}
+use Rattle.std.proofs.Common.{◌≡◌, ℕ, ◌+◌, ◌<◌, ◌≤◌, List, [], ◌∷◌, ◌++◌, Bool, true, length, take, get_or, refl, inl}
+use Rattle.std.{proofs.Common.{inr, arith, zero, suc, All, map, take_all}, specs.List.list_any}
+use Rattle.std.{specs.Str.{str_eq_ignore_ascii_case, str_to_ascii_lowercase}, proofs.lemmas.Grind.common_steps}
+use Rattle.std.proofs.lemmas.{List.take_more, List.Elements.{All-append, All-map}, Slice.Eq.bytes_eq-Decides}
 use Rattle.sfv.specs.Types.{Version}
-use Rattle.sfv_http_fields.specs.Registry.{registered_type}
 use Rattle.sfv_lint_report.specs.Reports.{IsFieldOf, IsCovered, AreFieldsOf, IsWithLine, is_of_name}
-use Rattle.sfv_lint_report.specs.declared.report.Field.{Field}
-use Rattle.sfv_lint_report.specs.declared.report.Report.{Report}
+use Rattle.sfv_lint_report.specs.declared.report.{Field.Field, Report.Report}
 
 any_more : {A : Type 0} (p : A → Bool) (xs : List A) (x : A) → list_any p xs ≡ true → list_any p (xs ++ x ∷ []) ≡ true
 any_more p xs x h = grind (arith, common_steps, h)
@@ -30,22 +24,6 @@ same_name : (name : List ℕ) → str_eq_ignore_ascii_case name name ≡ true
 same_name name = (bytes_eq-Decides (str_to_ascii_lowercase name) (str_to_ascii_lowercase name)).1 refl
 
 module _ (version : Version) (lines : List (List ℕ × List ℕ)) (name : List ℕ) (old new : Report) where
-  pub with_other : new.fields.items ≡ old.fields.items → registered_type name ≡ None
-      → IsWithLine version lines name old new
-  with_other same none = record {
-    fields = λ h. rw same h;
-    covered = inr none;
-    kept = λ other h. rw same h;
-  }
-
-  pub with_known : new.fields.items ≡ old.fields.items → list_any (is_of_name name) old.fields.items ≡ true
-      → IsWithLine version lines name old new
-  with_known same found = record {
-    fields = λ h. rw same h;
-    covered = inl (rw same found);
-    kept = λ other h. rw same h;
-  }
-
   pub with_field : (field : Field) → new.fields.items ≡ old.fields.items ++ field ∷ [] → IsFieldOf version lines field
       → field.name.items ≡ name → IsWithLine version lines name old new
   with_field field more is named = record {

@@ -1,14 +1,9 @@
 -- Names that the registry has are ASCII.
-use Rattle.std.proofs.Common.{◌≡◌, ℕ, zero, suc, ◌<◌, List, [], ◌∷◌, Bool, true, false, refl, sym, inl, inr, arith}
-use Rattle.std.specs.Prelude.{◌&&◌, map, nat_lt, None, IsUtf8, slice_index}
-use Rattle.std.specs.Map.{lookup}
-use Rattle.std.specs.Char.{to_ascii_lowercase}
-use Rattle.std.specs.Str.{str_eq_ignore_ascii_case, str_to_ascii_lowercase, IsAscii}
-use Rattle.std.proofs.lemmas.Bool.{cases_Bool}
-use Rattle.std.proofs.lemmas.Grind.{common_steps}
-use Rattle.std.proofs.lemmas.Slice.Eq.{bytes_eq-Decides}
-use Rattle.std.proofs.lemmas.Str.{IsUtf8-from_ascii}
-use Rattle.std.proofs.lemmas.Str.Ascii.{IsAscii-nil, lowercase_ascii, lowercase_is}
+use Rattle.std.proofs.Common.{◌≡◌, ℕ, zero, suc, ◌<◌, List, [], ◌∷◌, Bool, true, refl, inl, inr, arith, ◌&&◌, nat_lt}
+use Rattle.std.proofs.Common.{None, IsUtf8, IsAscii}
+use Rattle.std.specs.{Char.to_ascii_lowercase, Map.lookup, Str.{str_eq_ignore_ascii_case, str_to_ascii_lowercase}}
+use Rattle.std.proofs.lemmas.{Bool.cases_Bool, Grind.common_steps, Slice.Eq.bytes_eq-Decides}
+use Rattle.std.proofs.lemmas.Str.{IsUtf8-from_ascii, Ascii.{IsAscii-nil, lowercase_ascii}}
 use Rattle.sfv_http_fields.specs.Registry.{registered, registered_type}
 
 abbrev all_ascii : List ℕ → Bool

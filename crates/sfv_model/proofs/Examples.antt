@@ -1,39 +1,26 @@
 -- Worked texts, computed.
-use Rattle.std.proofs.Common.{◌≡◌, ℕ, List, [], ◌∷◌, Ok, Err, refl, pos, true, false}
-use Rattle.std.specs.Prelude.{codes}
-use Rattle.sfv_spec.proofs.Marks.{lower_f, is_symbol}
-use Rattle.sfv_spec.specs.declared.field_kind.FieldKind.{FieldKind}
-use Rattle.sfv_spec.specs.declared.field_kind.FieldKind.TheVariants.{Item as item_field, List as list_field}
-use Rattle.sfv_spec.specs.declared.field_kind.FieldKind.TheVariants.{Dictionary as dictionary_field}
-use Rattle.sfv_spec.specs.declared.version.Version.{Version}
-use Rattle.sfv_spec.specs.declared.version.Version.TheVariants.{Rfc8941, Rfc9651}
-use Rattle.sfv_spec.specs.Values.{integer, decimal, string, token, byte_sequence, boolean, display_string}
+use Rattle.std.proofs.Common.{◌≡◌, ℕ, List, [], ◌∷◌, Ok, Err, refl, pos, true, false, codes}
+use Rattle.std.specs.Str.{is_utf8, chars, Lossy.utf8_valid_len}
 use Rattle.sfv_spec.specs.Events.{entry, keyed_entry, begins_item, begins_inner_list, bare_item, parameter}
-use Rattle.sfv_spec.specs.Events.{parameters_end, inner_list_end, events}
-use Rattle.sfv_spec.specs.declared.error_kind.ErrorKind.TheVariants.{TrailingComma, TrailingDecimalPoint}
-use Rattle.sfv_spec.specs.declared.error_kind.ErrorKind.TheVariants.{NonIntegerDate, Rfc8941Date, ExpectedDigit}
-use Rattle.sfv_spec.specs.declared.error_kind.ErrorKind.TheVariants.{TooManyDigits, TooManyDigitsAfterDecimalPoint}
-use Rattle.sfv_spec.specs.declared.error_kind.ErrorKind.TheVariants.{ExpectedStartOfBareItem}
-use Rattle.sfv_spec.specs.declared.error_kind.ErrorKind.TheVariants.{TrailingCharactersAfterParsedValue}
-use Rattle.sfv_spec.specs.declared.error_kind.ErrorKind.TheVariants.{UnterminatedInnerList, InvalidByteSequence}
-use Rattle.sfv_spec.specs.declared.error_kind.ErrorKind.TheVariants.{UnterminatedByteSequence, InvalidEscapeSequence}
-use Rattle.sfv_spec.specs.declared.error_kind.ErrorKind.TheVariants.{UnterminatedEscapeSequence, UnterminatedString}
-use Rattle.sfv_spec.specs.declared.error_kind.ErrorKind.TheVariants.{InvalidUtf8InDisplayString, Rfc8941DisplayString}
-use Rattle.sfv_spec.specs.Grammar.{IsAccepted}
-use Rattle.sfv_model.specs.Reader.{Fault, at_reach, by_rule, give, fail, ruled, bind, led, branch, ahead, back, up_to}
-use Rattle.sfv_model.specs.Reader.{span, many, many_within, visited}
-use Rattle.std.specs.Str.{is_utf8, chars}
-use Rattle.std.specs.Str.Lossy.{utf8_valid_len}
-use Rattle.sfv_model.specs.Content.{symbol_value, padding_in, valid_from, values_in, bytes_from, bytes_of, fault_place}
-use Rattle.sfv_model.specs.Content.{content_in, bytes_at}
-use Rattle.sfv_model.specs.Quoted.{string_from, pieces_from, display_at}
+use Rattle.sfv_spec.specs.{Events.{parameters_end, inner_list_end, events}, Grammar.IsAccepted}
+use Rattle.sfv_spec.specs.Values.{integer, decimal, string, token, byte_sequence, boolean, display_string}
+use Rattle.sfv_spec.proofs.Marks.{lower_f, is_symbol}
 use Rattle.sfv_model.specs.Bare.{sign_at, long_at, decimal_at, fraction_at, point_at, whole_at, number_at, boolean_at}
 use Rattle.sfv_model.specs.Bare.{token_at, date_at, quoted_at, bare_at}
+use Rattle.sfv_model.specs.Content.{symbol_value, padding_in, valid_from, values_in, bytes_from, bytes_of, fault_place}
+use Rattle.sfv_model.specs.Content.{content_in, bytes_at}
+use Rattle.sfv_model.specs.Fields.{comma_at, next_at, members_at, whole_field_at, read_field}
 use Rattle.sfv_model.specs.Items.{key_at, value_at, parameter_at, parameters_at, item_at}
 use Rattle.sfv_model.specs.Members.{inner_item_at, next_item_at, inner_items_at, inner_at, member_at, entry_at}
-use Rattle.sfv_model.specs.Members.{member_value_at, keyed_at}
-use Rattle.sfv_model.specs.Fields.{comma_at, next_at, members_at, whole_field_at, read_field}
-use Rattle.sfv_model.proofs.Theorems.{read_is_accepted}
+use Rattle.sfv_model.specs.{Members.{member_value_at, keyed_at}, Quoted.{string_from, pieces_from, display_at}}
+use Rattle.sfv_model.specs.Reader.{Fault, at_reach, by_rule, give, fail, ruled, bind, led, branch, ahead, back, up_to}
+use Rattle.sfv_model.{specs.Reader.{span, many, many_within, visited}, proofs.Theorems.read_is_accepted}
+use Rattle.sfv_model.proofs.Types.{FieldKind, item_field, list_field, dictionary_field, Version, Rfc8941, Rfc9651}
+use Rattle.sfv_model.proofs.Types.{TrailingComma, TrailingDecimalPoint, NonIntegerDate, Rfc8941Date, ExpectedDigit}
+use Rattle.sfv_model.proofs.Types.{TooManyDigits, TooManyDigitsAfterDecimalPoint, ExpectedStartOfBareItem}
+use Rattle.sfv_model.proofs.Types.{TrailingCharactersAfterParsedValue, UnterminatedInnerList, InvalidByteSequence}
+use Rattle.sfv_model.proofs.Types.{UnterminatedByteSequence, InvalidEscapeSequence, UnterminatedEscapeSequence}
+use Rattle.sfv_model.proofs.Types.{UnterminatedString, InvalidUtf8InDisplayString, Rfc8941DisplayString}
 
 -- worked texts, and what is read in them
 record Read : Type 0 where

@@ -1,34 +1,20 @@
 -- The fault of the reader is that of the table of faults, and no other is.
 use Rattle.std.proofs.Common.{◌≡◌, ℕ, ◌+◌, ◌-◌, ◌≤◌, Bool, true, false, List, ◌++◌, length, take, Result, Ok, Err, refl}
-use Rattle.std.proofs.Common.{sym, ap, subst, ◌∙◌, inl, inr, arith}
-use Rattle.std.specs.Prelude.{◌⊎◌}
-use Rattle.std.proofs.lemmas.Bool.{cases_Bool, true≢false}
-use Rattle.std.proofs.lemmas.List.{length-append, length-drop, take_at}
-use Rattle.sfv_spec.specs.Values.{RawField}
-use Rattle.sfv_spec.specs.declared.field_kind.FieldKind.{FieldKind}
-use Rattle.sfv_spec.specs.declared.version.Version.{Version}
-use Rattle.sfv_spec.specs.Grammar.{IsAccepted}
-use Rattle.sfv_spec.specs.Reach.{IsReach}
-use Rattle.sfv_spec.specs.declared.error_kind.ErrorKind.{ErrorKind}
-use Rattle.sfv_spec.specs.declared.error_kind.ErrorKind.TheVariants.{ExpectedStartOfBareItem, ExpectedStartOfKey}
-use Rattle.sfv_spec.specs.declared.error_kind.ErrorKind.TheVariants.{ExpectedInnerListDelimiter}
-use Rattle.sfv_spec.specs.declared.error_kind.ErrorKind.TheVariants.{TrailingCharactersAfterMember}
-use Rattle.sfv_spec.specs.declared.error_kind.ErrorKind.TheVariants.{TrailingCharactersAfterParsedValue}
+use Rattle.std.proofs.Common.{sym, ap, subst, ◌∙◌, inl, inr, arith, ◌⊎◌, true≢false, length-append, length-drop}
+use Rattle.std.proofs.{Common.take_at, lemmas.Bool.cases_Bool}
 use Rattle.sfv_spec.specs.Faults.{RuledFault, BareItemFault, BegunFault, WantedFault, IsWantedAt, IsFaultAt}
-use Rattle.sfv_spec.specs.Faults as faults
+use Rattle.sfv_spec.specs.{Grammar.IsAccepted, Reach.IsReach, Values.RawField}
 use Rattle.sfv_spec.proofs.Versions.{one_reach_lem}
-use Rattle.sfv_model.specs.Reader.{Fault, has_rule}
-use Rattle.sfv_model.specs.Fields.{read_field}
-use Rattle.sfv_model.specs.Places.{IsLike, IsOfBare}
+use Rattle.sfv_model.specs.{Fields.read_field, Places.{IsLike, IsOfBare}, Reader.{Fault, has_rule}}
 use Rattle.sfv_model.proofs.Theorems.{read_is_accepted, fault_is_placed}
-use Rattle.sfv_model.proofs.faults.TrailingCommas.{comma_row, not_item}
-use Rattle.sfv_model.proofs.faults.BareFaultIsRow.{bare_fault_has_row}
-use Rattle.sfv_model.proofs.faults.BareRowIsFault.{bare_row_is_given}
-use Rattle.sfv_model.proofs.faults.BareRuleIsFault.{ruled_is_given}
-use Rattle.sfv_model.proofs.faults.InnerListCutOff.{open_list_is_read}
-use Rattle.sfv_model.proofs.places.CalledIsWanted.{bare_is_wanted}
-use Rattle.sfv_model.proofs.places.WantedIsCalled.{wanted_bare_is_read}
-use Rattle.sfv_model.proofs.places.OneWanted.{one_wanted}
+use Rattle.sfv_model.proofs.Types.{FieldKind, Version, ErrorKind, ExpectedStartOfBareItem, ExpectedStartOfKey}
+use Rattle.sfv_model.proofs.Types.{ExpectedInnerListDelimiter, TrailingCharactersAfterMember}
+use Rattle.sfv_model.proofs.Types.{TrailingCharactersAfterParsedValue}
+use Rattle.sfv_model.proofs.faults.{BareFaultIsRow.bare_fault_has_row, BareRowIsFault.bare_row_is_given}
+use Rattle.sfv_model.proofs.faults.{BareRuleIsFault.ruled_is_given, InnerListCutOff.open_list_is_read}
+use Rattle.sfv_model.proofs.{faults.TrailingCommas.{comma_row, not_item}, places.CalledIsWanted.bare_is_wanted}
+use Rattle.sfv_model.proofs.places.{OneWanted.one_wanted, WantedIsCalled.wanted_bare_is_read}
+use Rattle.sfv_spec.specs.Faults as faults
 
 -- ---- kinds
 
@@ -53,8 +39,7 @@ wanted_kind version kind u _ _ = refl
 
 ruled_kind : (version : Version) (kind : FieldKind) (t : List ℕ) (f : ErrorKind) (i : ℕ)
     → RuledFault version kind t f i → is_want f ≡ false
-ruled_kind version kind t _ _ (faults.bare _ _ _ _ _
-    (faults.display _ _ _ _ _ _ _ (faults.open_display _ _))) = refl
+ruled_kind version kind t _ _ (faults.bare _ _ _ _ _ (faults.display _ _ _ _ _ _ _ (faults.open_display _ _))) = refl
 ruled_kind version kind t _ _ _ = refl
 
 begun_kind : (version : Version) (kind : FieldKind) (t : List ℕ) (f : ErrorKind) (i : ℕ)
@@ -136,13 +121,7 @@ module _ (version : Version) (kind : FieldKind) where
       }
   begun_given t _ _ (faults.open_inner_list accepted no_space) =
       let r = open_list_is_read version kind t accepted no_space in
-      record {
-        fault = r.0;
-        read = r.1;
-        kind_of = r.2;
-        exact_of = r.4;
-        here = omega (arith, ap (length {A = ℕ}) r.3);
-      }
+      record { fault = r.0; read = r.1; kind_of = r.2; exact_of = r.4; here = omega (arith, ap (length {A = ℕ}) r.3) }
 
   -- ---- the reader's fault is the table's
 
@@ -167,9 +146,8 @@ module _ (version : Version) (kind : FieldKind) where
         let same : length t - length e.rest ≡ length c.trails.before =
         omega (arith, n, length-drop c.index t, m, c.trails.here, length-append {A = ℕ}) in
         inl (rw (c.kind_of, same) (faults.comma c.trails.before c.trails.whitespace c.trails.raw
-        (not_item kind c.trails.many) c.trails.accepted c.trails.member c.trails.text c.trails.blank))
-    | inr (inr (x, inl w)) ↦
-        inr (inr (wanted_at t e h x (wanted_kind version kind w.before e.kind w.wanted) w.before w.text w.wanted))
+        (not_item _ c.trails.many) c.trails.accepted c.trails.member c.trails.text c.trails.blank))
+    | inr (inr (x, inl w)) ↦ inr (inr (wanted_at _ _ h x (wanted_kind _ _ _ _ w.wanted) _ w.text w.wanted))
     | inr (inr (x, inr o)) ↦
         let whole : length t - length e.rest ≡ length t = omega (arith, ap (length {A = ℕ}) o.rest) in
         inr (inl (rw (o.kind_of, whole) (faults.open_inner_list o.closes o.no_space)))

@@ -1,20 +1,12 @@
 -- A bare item that stands first in the text of an item is read, whatever follows where it ends.
-use Rattle.std.proofs.Common.{◌≡◌, List, [], ◌++◌, length, take, drop, Result, Ok, ℕ, ◌<◌, ◌+◌, refl, sym, ap, subst, ◌∙◌, arith}
-use Rattle.std.proofs.Common.{append_assoc}
-use Rattle.std.proofs.lemmas.List.{append-nil, take_at, take-append-drop, length-append, length-take-le}
-use Rattle.sfv_spec.proofs.Marks.{space, is_space}
-use Rattle.sfv_spec.specs.Values.{BareValue}
-use Rattle.sfv_spec.specs.declared.version.Version.{Version}
-use Rattle.sfv_spec.specs.Texts.{IsLongestBeginning, ◌⨾◌}
-use Rattle.sfv_spec.specs.Grammar.{Spaces, IsBareText, IsEnded, BeginsWithLongest}
-use Rattle.sfv_model.specs.Reader.{Fault, span}
-use Rattle.sfv_model.specs.Bare.{bare_at}
-use Rattle.sfv_model.specs.Items.{item_of}
-use Rattle.sfv_model.specs.Claims.{BeginsWithBare}
+use Rattle.std.proofs.Common.{◌≡◌, List, [], ◌++◌, length, take, drop, Result, Ok, ℕ, ◌<◌, ◌+◌, refl, sym, ap, subst}
+use Rattle.std.proofs.Common.{◌∙◌, arith, append_assoc, append-nil, take_at, take-append-drop, length-append}
+use Rattle.std.proofs.Common.{length-take-le}
+use Rattle.sfv_spec.specs.{Grammar.{Spaces, IsBareText, IsEnded, BeginsWithLongest}, Texts.{IsLongestBeginning, ◌⨾◌}}
+use Rattle.sfv_spec.{specs.Values.BareValue, specs.declared.version.Version.Version, proofs.Marks.is_space}
+use Rattle.sfv_model.specs.{Bare.bare_at, Claims.BeginsWithBare, Items.item_of, Reader.{Fault, span}}
 use Rattle.sfv_model.proofs.LongestBareItem.{ended_apart, bare_is_exact}
-use Rattle.sfv_model.proofs.complete.Combinators.{span_complete}
-use Rattle.sfv_model.proofs.complete.Bare.{bare_complete}
-use Rattle.sfv_model.proofs.complete.Items.{item_no}
+use Rattle.sfv_model.proofs.complete.{Bare.bare_complete, Combinators.span_complete, Items.item_no}
 
 -- after spaces, a text of this bare value, and a bare item may end there
 abbrev pub BeginsWithComplete : Version → BareValue → List ℕ → Type 0
@@ -23,10 +15,9 @@ BeginsWithComplete version value = Spaces ⨾ IsBareText version value ⨾ IsEnd
 -- the spaces before a bare item
 spaces_read : (version : Version) (value : BareValue) (t spaces front rest : List ℕ) → t ≡ spaces ++ front ++ rest
     → Spaces spaces → IsBareText version value front → span is_space t ≡ Ok (spaces, front ++ rest)
-spaces_read version value t spaces front rest text blank means =
-    ap (span is_space) (text ∙ append_assoc spaces front rest)
-    ∙ span_complete is_space spaces (front ++ rest) blank
-    (item_no space version (item_of value []) front rest refl (record {
+spaces_read version value t spaces front rest text blank means = ap (span is_space)
+    (text ∙ append_assoc spaces front rest) ∙ span_complete _ _ _ blank
+    (item_no _ _ (item_of value []) _ _ refl (record {
       front = front;
       back = [];
       text = sym (append-nil front);
@@ -62,8 +53,7 @@ pub complete_is_longest : (version : Version) (value other : BareValue) (t : Lis
 complete_is_longest version value other t h l =
     let read = first_bare version value t h in
     let spaced = spaces_read version other t l.spaces l.front l.rest l.text l.blank l.means in
-    let here : h.back ≡ l.front ++ l.rest =
-    (let both : Result (List ℕ × List ℕ) Fault = Ok (h.front, h.back) in
+    let here : h.back ≡ l.front ++ l.rest = (let both : Result (List ℕ × List ℕ) Fault = Ok (h.front, h.back) in
     let same : both ≡ Ok (l.spaces, l.front ++ l.rest) = sym read.0 ∙ spaced in
     let parts : ◌≡◌ {A = List ℕ × List ℕ} (h.front, h.back) (l.spaces, l.front ++ l.rest) = cc in
     ap (λ (p : List ℕ × List ℕ). p.1) parts) in

@@ -1,3 +1,5 @@
+-- short names of types and their variants
+pub mod Types
 -- two lines of a field, joined by a comma and a space
 pub mod Lines
 -- the content of byte sequences

@@ -1,13 +1,8 @@
 -- Two lines of a field, joined by a comma and a space.
-use Rattle.std.proofs.Common.{◌≡◌, ℕ, ◌<◌, List, [], ◌∷◌, ◌++◌, length, refl, arith, append_assoc}
-use Rattle.std.specs.Prelude.{◌==◌, ◌||◌, codes}
-use Rattle.std.specs.List.{list_all}
-use Rattle.std.proofs.lemmas.Bool.{and_parts, and_from}
-use Rattle.sfv_spec.specs.Ascii.{byte}
-use Rattle.sfv_spec.specs.Texts.{◌⨾◌}
-use Rattle.sfv_spec.specs.Grammar.{Spaces, OptionalWhitespace, Comma, AreMembersText, IsMemberText}
-use Rattle.sfv_spec.specs.Grammar.{IsDictionaryMemberText}
-use Rattle.sfv_spec.specs.Statements.{JoinedLines}
+use Rattle.std.proofs.Common.{◌≡◌, ℕ, ◌<◌, List, [], ◌∷◌, ◌++◌, length, refl, arith, append_assoc, ◌==◌, ◌||◌, codes}
+use Rattle.std.{specs.List.list_all, proofs.lemmas.Bool.{and_parts, and_from}}
+use Rattle.sfv_spec.specs.{Ascii.byte, Grammar.{Spaces, OptionalWhitespace, Comma, AreMembersText, IsMemberText}}
+use Rattle.sfv_spec.specs.{Grammar.IsDictionaryMemberText, Statements.JoinedLines, Texts.◌⨾◌}
 use Rattle.sfv_model.proofs.texts.Joining.{joining_append, joining_into, in_turn}
 
 spaces_are_whitespace : (t : List ℕ) → Spaces t → OptionalWhitespace t
@@ -18,8 +13,7 @@ spaces_are_whitespace (c ∷ cs) h =
     (rw a.0 refl) (spaces_are_whitespace cs a.1)
 
 regroup : (s sb sp x xs so t tb tp y ys to m sf tf : List ℕ) → s ≡ sf ++ sb → sb ≡ sp ++ so → sp ≡ x ++ xs
-    → t ≡ tf ++ tb → tb ≡ tp ++ to → tp ≡ y ++ ys
-    → s ++ m ++ t ≡ sf ++ (x ++ (xs ++ (so ++ m ++ tf ++ y ++ ys)) ++ to)
+    → t ≡ tf ++ tb → tb ≡ tp ++ to → tp ≡ y ++ ys → s ++ m ++ t ≡ sf ++ (x ++ (xs ++ (so ++ m ++ tf ++ y ++ ys)) ++ to)
 regroup s sb sp x xs so t tb tp y ys to m sf tf a b c d e f = rw (a, b, c, d, e, f) (simp append_assoc refl)
 
 members_join : {A : Type 0} (P : A → List ℕ → Type 0) (xs ys : List A) (s t : List ℕ) → 0 < length xs → 0 < length ys
@@ -34,22 +28,16 @@ members_join P (x ∷ xs) (y ∷ ys) s t m n h k =
       back = codes ", " ++ k.front;
       text = append_assoc h.second.back (codes ", ") k.front;
       first = h.second.second;
-      second = in_turn (codes ",") (codes " " ++ k.front) refl (spaces_are_whitespace (codes " " ++ k.front) k.first);
+      second = in_turn _ _ refl (spaces_are_whitespace (codes " " ++ k.front) k.first);
     } in
-    let next : (Comma ⨾ P y) ((h.second.back ++ codes ", " ++ k.front) ++ q.front) = in_turn
-    (h.second.back ++ codes ", " ++ k.front) q.front comma q.first in
-    let rest = joining_append (λ z. Comma ⨾ P z) xs (y ∷ ys) p.back
-    (((h.second.back ++ codes ", " ++ k.front) ++ q.front) ++ q.back) p.second
-    (joining_into (λ z. Comma ⨾ P z) y ys ((h.second.back ++ codes ", " ++ k.front) ++ q.front) q.back next q.second) in
+    let next : (Comma ⨾ P y) ((h.second.back ++ codes ", " ++ k.front) ++ q.front) = in_turn _ _ comma q.first in
+    let rest = joining_append _ _ _ _ _ p.second (joining_into _ _ _ _ _ next q.second) in
     record {
       front = h.front;
       back = (p.front ++ (p.back ++ (((h.second.back ++ codes ", " ++ k.front) ++ q.front) ++ q.back))) ++ k.second.back;
-      text = regroup s h.back h.second.front p.front p.back h.second.back t k.back k.second.front q.front q.back
-          k.second.back (codes ", ") h.front k.front h.text h.second.text p.text k.text k.second.text q.text;
+      text = regroup _ _ _ _ _ _ _ _ _ _ _ _ _ _ _ h.text h.second.text p.text k.text k.second.text q.text;
       first = h.first;
-      second = in_turn (p.front ++ (p.back ++ (((h.second.back ++ codes ", " ++ k.front) ++ q.front) ++ q.back)))
-          k.second.back (in_turn p.front (p.back ++ (((h.second.back ++ codes ", " ++ k.front) ++ q.front) ++ q.back))
-          p.first rest) k.second.second;
+      second = in_turn _ _ (in_turn _ _ p.first rest) k.second.second;
     }
 
 pub joined_lines_lem : JoinedLines

@@ -1,22 +1,12 @@
 -- A bare item is read as the longest text of one.
-use Rattle.sfv_model.proofs.sound.Combinators.{sound_at}
-use Rattle.sfv_model.proofs.base64.Lone.{found_in}
 use Rattle.std.proofs.Common.{◌≡◌, ℕ, ◌≤◌, List, [], ◌∷◌, ◌++◌, length, Ok, refl, sym, ap, subst, ◌∙◌, arith, inl, inr}
-use Rattle.std.specs.Prelude.{not, ◌⊎◌, codes}
-use Rattle.std.proofs.lemmas.Bool.{not-true}
-use Rattle.std.proofs.lemmas.List.{append-nil, append_cancel_right, length-append}
-use Rattle.sfv_spec.specs.Classes.{is_token_inner}
-use Rattle.sfv_spec.specs.Values.{BareValue}
-use Rattle.sfv_spec.specs.declared.version.Version.{Version}
-use Rattle.sfv_spec.specs.Grammar.{IsBareText, IsEnded}
-use Rattle.sfv_model.specs.Judgements.{Lasts}
-use Rattle.sfv_model.specs.Reader.{Apart, first}
-use Rattle.sfv_model.specs.Bare.{bare_at}
-use Rattle.sfv_model.specs.Claims.{BeginsWithBare, BareIsExact}
-use Rattle.sfv_model.proofs.complete.Combinators.{Apart-nil, Apart-cons}
-use Rattle.sfv_model.proofs.sound.Bare.{Sound-bare}
-use Rattle.sfv_model.proofs.local.Bare.{Local-bare}
-use Rattle.sfv_model.proofs.complete.Bare.{bare_complete}
+use Rattle.std.proofs.Common.{not, ◌⊎◌, codes, append-nil, length-append}
+use Rattle.std.proofs.lemmas.{Bool.not-true, List.append_cancel_right}
+use Rattle.sfv_spec.specs.{Classes.is_token_inner, Grammar.{IsBareText, IsEnded}, Values.BareValue}
+use Rattle.sfv_model.specs.{Bare.bare_at, Claims.{BeginsWithBare, BareIsExact}, Judgements.Lasts, Reader.{Apart, first}}
+use Rattle.sfv_model.proofs.{Types.Version, base64.Lone.found_in}
+use Rattle.sfv_model.proofs.complete.{Bare.bare_complete, Combinators.{Apart-nil, Apart-cons}}
+use Rattle.sfv_model.proofs.{local.Bare.Local-bare, sound.Bare.Sound-bare, sound.Combinators.sound_at}
 
 -- ---- the front
 

@@ -1,23 +1,14 @@
 -- The reader of fields and the grammar agree; where a fault is exact no field goes on.
 use Rattle.std.proofs.Common.{◌≡◌, ℕ, ◌+◌, ◌<◌, true, false, List, [], ◌∷◌, ◌++◌, length, take, drop, Some, Ok, Err}
-use Rattle.std.proofs.Common.{refl, sym, ap, ◌∙◌, append_assoc, arith, inl, inr}
-use Rattle.std.proofs.lemmas.List.{append-nil, append_cancel_right, length-append, take_at, drop_at}
-use Rattle.std.proofs.lemmas.Bool.{cases_Bool}
-use Rattle.sfv_spec.specs.declared.field_kind.FieldKind.{FieldKind}
-use Rattle.sfv_spec.specs.declared.version.Version.{Version}
-use Rattle.sfv_spec.specs.Events.{TreeEvent}
-use Rattle.sfv_spec.specs.Reach.{IsReach}
-use Rattle.sfv_spec.specs.declared.error_kind.ErrorKind.TheVariants.{TrailingCharactersAfterParsedValue}
-use Rattle.sfv_spec.proofs.Reached.{reach_before, reach_end}
-use Rattle.sfv_spec.proofs.Valid.{accepted_is_value_lem}
-use Rattle.sfv_model.specs.Judgements.{Reached, Lasts, Local}
-use Rattle.sfv_model.specs.Reader.{has_rule, first, Fault, Answer, Reader}
-use Rattle.sfv_model.specs.Fields.{ending, read_field}
-use Rattle.sfv_model.specs.Claims.{ReadIsAccepted, FaultIsPlaced}
-use Rattle.sfv_model.proofs.sound.Combinators.{Somewhere, Goes, Reads}
-use Rattle.sfv_model.proofs.sound.Fields.{Sound-field}
-use Rattle.sfv_model.proofs.local.Fields.{Local-field}
-use Rattle.sfv_model.proofs.complete.Fields.{field_complete}
+use Rattle.std.proofs.Common.{refl, sym, ap, ◌∙◌, append_assoc, arith, inl, inr, append-nil, length-append, take_at}
+use Rattle.std.proofs.{Common.drop_at, lemmas.Bool.cases_Bool, lemmas.List.append_cancel_right}
+use Rattle.sfv_spec.specs.{Events.TreeEvent, Reach.IsReach}
+use Rattle.sfv_spec.proofs.{Reached.{reach_before, reach_end}, Valid.accepted_is_value_lem}
+use Rattle.sfv_model.specs.{Claims.{ReadIsAccepted, FaultIsPlaced}, Fields.{ending, read_field}}
+use Rattle.sfv_model.specs.{Judgements.{Reached, Lasts, Local}, Reader.{has_rule, first, Fault, Answer, Reader}}
+use Rattle.sfv_model.proofs.Types.{FieldKind, Version, TrailingCharactersAfterParsedValue}
+use Rattle.sfv_model.proofs.{complete.Fields.field_complete, local.Fields.Local-field}
+use Rattle.sfv_model.proofs.sound.{Combinators.{Somewhere, Goes, Reads}, Fields.Sound-field}
 
 -- a beginning of a text of the grammar
 abbrev pub Starts : {A : Type 0} → (A → List ℕ → Type 0) → List ℕ → Type 0
@@ -48,9 +39,8 @@ module _ {A : Type 0} {f : Reader A} {P : A → List ℕ → Type 0} {parts : A 
   none_so : (p : List ℕ) (c : ℕ) → ((d : List ℕ) (v : A) → f (p ++ c ∷ d) ≡ Ok (v, []) → ⊥) → Starts P (p ++ c ∷ []) → ⊥
   none_so p c never b = never b.0 b.1.0 (cc (append_assoc p (c ∷ []) b.0, again b.1.0 ((p ++ c ∷ []) ++ b.0) b.1.1))
 
-  at_trailing : (t : List ℕ) (v : A) (c : ℕ) (q : List ℕ)
-      → Reached P (Goes P parts) (Somewhere (Goes P parts)) t (Ok (v, c ∷ q)) → Lasts f t (Ok (v, c ∷ q))
-      → Reaches t (c ∷ q)
+  at_trailing : (t : List ℕ) (v : A) (c : ℕ) (q : List ℕ) → Reached P (Goes P parts)
+      (Somewhere (Goes P parts)) t (Ok (v, c ∷ q)) → Lasts f t (Ok (v, c ∷ q)) → Reaches t (c ∷ q)
   at_trailing t v c q h m = record {
     front = m.0;
     parted = m.1;
@@ -151,7 +141,7 @@ read_is_accepted version kind t raw = (
 pub fault_is_placed : FaultIsPlaced
 unfolding read_field
 fault_is_placed version kind t e i =
-    let w = emitted (Sound-field version kind) (Local-field version kind) (field_complete version kind) t e i in
+    let w = emitted (Sound-field _ _) (Local-field _ _) (field_complete _ _) t e i in
     let g = w.0.1 in
     record {
       emitted = record {
@@ -160,7 +150,6 @@ fault_is_placed version kind t e i =
         more = g.2.0;
         all = g.2.1;
       };
-      exact = λ x. reach_of version kind t e.rest
-          (reaches (Sound-field version kind) (Local-field version kind) (field_complete version kind) t e i x);
+      exact = λ x. reach_of _ _ _ _ (reaches _ _ _ _ _ i x);
       ruled = w.1;
     }

@@ -1,41 +1,27 @@
 -- The faults of bare items have kinds of their own, and that something stands after a whole field is the fault of
 -- no reader, but of the ending alone.
-use Rattle.std.proofs.lemmas.Bool.{cases_Bool}
 use Rattle.std.proofs.Common.{◌≡◌, ℕ, zero, suc, Bool, true, false, cond, List, [], ◌∷◌, ◌++◌, Option, Some, length}
 use Rattle.std.proofs.Common.{None, Ok, Err, refl, ap, subst, ◌∙◌, inl, inr}
-use Rattle.std.specs.Prelude.{⊤}
+use Rattle.std.{specs.Prelude.⊤, proofs.lemmas.Bool.cases_Bool}
 use Rattle.sfv_spec.specs.Classes.{is_key_start, is_key_inner}
-use Rattle.sfv_spec.specs.Values.{RawField}
-use Rattle.sfv_spec.specs.declared.field_kind.FieldKind.{FieldKind}
-use Rattle.sfv_spec.specs.declared.version.Version.{Version}
-use Rattle.sfv_spec.specs.declared.version.Version.TheVariants.{Rfc8941, Rfc9651}
-use Rattle.sfv_spec.specs.Grammar.{IsFieldText}
-use Rattle.sfv_spec.specs.Events.{TreeEvent, events}
-use Rattle.sfv_spec.specs.declared.error_kind.ErrorKind.{ErrorKind}
-use Rattle.sfv_spec.specs.declared.error_kind.ErrorKind.TheVariants.{TrailingCharactersAfterMember, TrailingComma}
-use Rattle.sfv_spec.specs.declared.error_kind.ErrorKind.TheVariants.{TrailingCharactersAfterParsedValue}
-use Rattle.sfv_spec.specs.declared.error_kind.ErrorKind.TheVariants.{ExpectedInnerListDelimiter, UnterminatedInnerList}
-use Rattle.sfv_spec.specs.declared.error_kind.ErrorKind.TheVariants.{ExpectedStartOfKey}
-use Rattle.sfv_model.specs.Claims.{IsBytesFault}
-use Rattle.sfv_model.specs.Judgements.{Reached}
-use Rattle.sfv_model.specs.Reader.{Fault, Answer, Reader, at_reach, by_rule, and_then, give, fail, ruled, ◌>>=◌, bind}
-use Rattle.sfv_model.specs.Reader.{branch, ahead, back, up_to, span, led, go_on, many_within, many}
-use Rattle.sfv_model.specs.Content.{bytes_at}
-use Rattle.sfv_model.specs.Quoted.{string_at, display_at, StringStops, IsDisplayFault}
+use Rattle.sfv_spec.specs.{Events.{TreeEvent, events}, Grammar.IsFieldText, Values.RawField}
 use Rattle.sfv_model.specs.Bare.{sign_at, long_at, decimal_at, fraction_at, point_at, whole_at, number_at, boolean_at}
 use Rattle.sfv_model.specs.Bare.{token_at, date_at, quoted_at, bare_at}
+use Rattle.sfv_model.specs.{Claims.IsBytesFault, Content.bytes_at, Fields.{whole_field_at, ending, read_field}}
 use Rattle.sfv_model.specs.Items.{key_at, value_at, parameter_at, parameters_at, item_at}
-use Rattle.sfv_model.specs.Fields.{whole_field_at, ending, read_field}
-use Rattle.sfv_model.proofs.sound.Combinators.{Somewhere, Steady-span}
-use Rattle.sfv_model.proofs.sound.Fields.{FieldGoes, Sound-field}
-use Rattle.sfv_model.proofs.complete.Combinators.{bind_complete}
+use Rattle.sfv_model.specs.{Judgements.Reached, Quoted.{string_at, display_at, StringStops, IsDisplayFault}}
+use Rattle.sfv_model.specs.Reader.{Fault, Answer, Reader, at_reach, and_then, give, fail, ruled, ◌>>=◌, bind, branch}
+use Rattle.sfv_model.specs.Reader.{ahead, back, up_to, span, led, go_on, many_within, many}
+use Rattle.sfv_model.proofs.Types.{FieldKind, Version, Rfc8941, Rfc9651, ErrorKind, TrailingCharactersAfterMember}
+use Rattle.sfv_model.proofs.Types.{TrailingComma, TrailingCharactersAfterParsedValue, ExpectedInnerListDelimiter}
+use Rattle.sfv_model.proofs.Types.{UnterminatedInnerList, ExpectedStartOfKey}
+use Rattle.sfv_model.proofs.{complete.Combinators.bind_complete, faults.ByteSequences.bytes_fault}
 use Rattle.sfv_model.proofs.faults.Combinators.{Rules, Rules-give, Rules-steady, Rules-led, Rules-branch, Rules-ahead}
-use Rattle.sfv_model.proofs.faults.Combinators.{Rules-back, fault_at, fail_at}
-use Rattle.sfv_model.proofs.faults.ByteSequences.{bytes_fault}
-use Rattle.sfv_model.proofs.faults.Quoted.{string_fault, display_fault}
+use Rattle.sfv_model.proofs.faults.{Combinators.{Rules-back, fault_at, fail_at}, Quoted.{string_fault, display_fault}}
 use Rattle.sfv_model.proofs.places.Calls.{Value, Leaf, bare, key, leaf_at, like_self}
-use Rattle.sfv_model.proofs.places.FaultsOfCalls.{faulty, Met, Elsewhere, Found, called, elsewhere}
 use Rattle.sfv_model.proofs.places.CallsOfReaders.{Ever, walk-field}
+use Rattle.sfv_model.proofs.places.FaultsOfCalls.{faulty, Met, Elsewhere, Found, called, elsewhere}
+use Rattle.sfv_model.proofs.sound.{Combinators.{Somewhere, Steady-span}, Fields.{FieldGoes, Sound-field}}
 
 -- any kind but these
 abbrev pub IsOther : ErrorKind → Type 0
@@ -60,9 +46,7 @@ Shuns-fail {A} k h = record { rules = λ t e i. fail_at A k (λ _ e. IsOther e.k
 
 pub Shuns-ruled : {A : Type 0} (k : ErrorKind) → IsOther k → Shuns {A = A} (ruled k)
 unfolding ruled
-Shuns-ruled {A} k h = record {
-  rules = λ t e i. fault_at {A = A} (λ _ e. IsOther e.kind) t (by_rule k t) e (Err (by_rule k t)) refl h i;
-}
+Shuns-ruled {A} k h = record { rules = λ t e i. fault_at {A = A} (λ _ e. IsOther e.kind) t _ _ _ refl h i }
 
 pub Shuns-led : {A : Type 0} (es : List TreeEvent) (f : Reader A) → Shuns f → Shuns (led es f)
 Shuns-led es f h = Rules-led es f _ h
@@ -242,8 +226,7 @@ pub record ReadBefore (version : Version) (kind : FieldKind) (t rest : List ℕ)
 pub read_before : (version : Version) (kind : FieldKind) (t : List ℕ) (f : Fault) → read_field version kind t ≡ Err f
     → f.kind ≡ TrailingCharactersAfterParsedValue → ReadBefore version kind t f.rest
 unfolding read_field
-read_before version kind t f e k =
-    on (whole_field_at version kind t) refl ((Sound-field version kind).sound t) e
+read_before version kind t f e k = on (whole_field_at version _ t) refl ((Sound-field _ _).sound t) e
   where
     on : (a : Answer (RawField kind)) → whole_field_at version kind t ≡ a
         → Reached (IsFieldText version kind) (FieldGoes version kind) (Somewhere (FieldGoes version kind)) t a

@@ -1,16 +1,10 @@
 -- From the visitor's result to the reader's state after the value.
 use Rattle.std.proofs.Common.{◌≡◌, ℕ, List, [], None, sym, subst}
-use Rattle.sfv_spec.specs.Values.{RawParameters, RawItem, RawMember}
-use Rattle.sfv_spec.specs.declared.field_kind.FieldKind.TheVariants.{List as list_field, Dictionary as dictionary_field}
-use Rattle.sfv_spec.specs.declared.version.Version.{Version}
-use Rattle.sfv_spec.specs.Ordered.{ordered}
+use Rattle.sfv.specs.Field.{RawParameters, RawItem, RawMember, list_field, dictionary_field, Version, ordered}
 use Rattle.sfv.proofs.Callers.{Answers, parsed_as}
-use Rattle.sfv_readers.specs.declared.list.ListVisitor.{ListVisitor}
-use Rattle.sfv_readers.specs.declared.dictionary.DictionaryVisitor.{DictionaryVisitor}
-use Rattle.sfv_readers.specs.Words.{Head, IsReadBy}
-use Rattle.sfv_readers.specs.Steps.{ListTakes, DictionaryTakes}
-use Rattle.sfv_readers.proofs.ListSteps.{list_read}
-use Rattle.sfv_readers.proofs.DictionarySteps.{dictionary_read}
+use Rattle.sfv_readers.specs.{Steps.{ListTakes, DictionaryTakes}, Words.{Head, IsReadBy}}
+use Rattle.sfv_readers.specs.declared.{dictionary.DictionaryVisitor.DictionaryVisitor, list.ListVisitor.ListVisitor}
+use Rattle.sfv_readers.proofs.{DictionarySteps.dictionary_read, ListSteps.list_read}
 
 pub list_found : {R M I : Type 0} (inner : I → List RawItem → Type 0) (keeps : R → M → Head → RawParameters → Type 0) (reads : R → R → List RawMember → Type 0)
     (first : R) {version : Version} {t : List ℕ} {from : ListVisitor R M I} {out : R} → from.items ≡ None

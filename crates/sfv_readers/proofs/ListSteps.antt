@@ -1,15 +1,12 @@
 -- After the events of the members, the reader's state is the state after the ordered list.
-use Rattle.std.proofs.Common.{◌≡◌, ℕ, List, [], ◌∷◌, ◌++◌, None, sym, ap, subst, ◌∙◌, append_assoc, append-nil}
-use Rattle.std.specs.Prelude.{map, flat_map}
-use Rattle.sfv_spec.specs.Values.{BareValue, RawParameters, RawItem, RawMember, item, inner_list}
-use Rattle.sfv_spec.specs.declared.field_kind.FieldKind.TheVariants.{List as list_field}
-use Rattle.sfv_spec.specs.Events.{TreeEvent, begins_item, bare_item, parameter, parameters_end, inner_list_end}
-use Rattle.sfv_spec.specs.Events.{parameters_events, inner_item_events, member_events, events}
-use Rattle.sfv_spec.specs.Ordered.{ordered, ordered_item, ordered_member}
-use Rattle.std.specs.List.{FoldsTo}
-use Rattle.sfv_readers.specs.declared.list.ListVisitor.{ListVisitor}
-use Rattle.sfv_readers.specs.Words.{Head, of_item, of_inner_list, member_of, head_of, parameters_of, raw_item, put}
-use Rattle.sfv_readers.specs.Steps.{Keeps, Within, ListTakes}
+use Rattle.std.proofs.Common.{◌≡◌, ℕ, List, [], ◌∷◌, ◌++◌, None, sym, ap, subst, ◌∙◌, append_assoc, append-nil, map}
+use Rattle.std.{proofs.Common.flat_map, specs.List.FoldsTo}
+use Rattle.sfv_spec.specs.{Events.inner_item_events, Ordered.ordered_item}
+use Rattle.sfv_readers.specs.Field.{BareValue, RawParameters, RawItem, RawMember, item, inner_list, list_field}
+use Rattle.sfv_readers.specs.Field.{TreeEvent, begins_item, bare_item, parameter, parameters_end, inner_list_end}
+use Rattle.sfv_readers.specs.Field.{parameters_events, member_events, events, ordered, ordered_member, Head, of_item}
+use Rattle.sfv_readers.specs.Field.{of_inner_list, member_of, head_of, parameters_of, raw_item, put}
+use Rattle.sfv_readers.specs.{Steps.{Keeps, Within, ListTakes}, declared.list.ListVisitor.ListVisitor}
 use Rattle.sfv_readers.proofs.Puts.{put_all, all_put}
 use Rattle.sfv_readers.proofs.Runs.{split_run, items_known, head_there, parameters_there, on_none, on_some}
 

@@ -1,15 +1,8 @@
 -- When a reading runs out of memory.
-use Rattle.std.proofs.Common.{◌≡◌, ℕ, List, Result, Ok, Err, subst, inl, inr}
-use Rattle.std.specs.Prelude.{⊤, ◌⊎◌, IfErr}
-use Rattle.sfv_spec.specs.Events.{TreeEvent, events}
-use Rattle.sfv_spec.specs.declared.field_kind.FieldKind.{FieldKind}
-use Rattle.sfv_spec.specs.declared.field_kind.FieldKind.TheVariants.{Item as item_field}
-use Rattle.sfv_spec.specs.declared.version.Version.{Version}
-use Rattle.sfv_base.specs.declared.error.Error.{Error}
-use Rattle.sfv_base.specs.declared.error.ParseError.{ParseError}
-use Rattle.sfv_base.specs.declared.error.ParseError.TheVariants.{Visitor}
+use Rattle.std.{proofs.Common.{◌≡◌, ℕ, List, Result, Ok, Err, subst, inl, inr, ◌⊎◌, IfErr}, specs.Prelude.⊤}
+use Rattle.sfv_base.specs.declared.error.{Error.Error, ParseError.ParseError, ParseError.TheVariants.Visitor}
 use Rattle.sfv.proofs.Callers.{FailsIn, HasVisitorError, accepted_or_not}
-use Rattle.sfv_readers.specs.Words.{ErrorNeedsMark, NeedsMarkUnless}
+use Rattle.sfv_readers.specs.Field.{TreeEvent, events, FieldKind, item_field, Version, ErrorNeedsMark, NeedsMarkUnless}
 
 module _ {S E : Type 0} (may_fail : Type 0) (takes : S → TreeEvent → S → Type 0) (from : S) where
   -- an error at some event, and none at the end
@@ -36,13 +29,6 @@ module _ {S E : Type 0} (may_fail : Type 0) (takes : S → TreeEvent → S → T
       (error : E) → r ≡ Err (Visitor error) → IfErr r (HasVisitorError takes MayFail Never version kind t from) → may_fail
   reader_fails {O} version kind t r error is h = somewhere version kind t error
       (subst (λ (r : Result O (ParseError E)). IfErr r (HasVisitorError takes MayFail Never version kind t from)) is h)
-
--- out of memory in the parser, and in the reader
-pub of_syntax : (may_fail : Type 0) (t : List ℕ) (e : Error) → ErrorNeedsMark t e → NeedsMarkUnless may_fail t e
-of_syntax may_fail t e h = λ same. inl (h same)
-
-pub of_reader : (may_fail : Type 0) (t : List ℕ) (e : Error) → may_fail → NeedsMarkUnless may_fail t e
-of_reader may_fail t e h = λ same. inr h
 
 -- a reader that never runs out of memory
 pub mark_needed : (t : List ℕ) (e : Error) → NeedsMarkUnless ⊥ t e → ErrorNeedsMark t e

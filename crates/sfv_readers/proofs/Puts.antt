@@ -1,15 +1,11 @@
 -- Pairs that are put one after another are the ordered pairs.
 use Rattle.std.proofs.Common.{◌≡◌, ℕ, List, [], ◌∷◌, ◌++◌, Bool, true, false, cond, Option, Some, None, refl, sym, ap}
-use Rattle.std.proofs.Common.{◌∙◌, append_assoc, append-nil, inl, inr}
-use Rattle.std.specs.Prelude.{bytes_eq, unwrap_or, option_map, fold}
-use Rattle.std.proofs.lemmas.List.Sums.{fold-append}
-use Rattle.std.proofs.lemmas.Bool.{cases_Bool, both_ways}
-use Rattle.std.proofs.lemmas.Slice.Eq.{bytes_eq-Decides}
-use Rattle.sfv_spec.specs.Ordered.{last_of, collapse, without}
+use Rattle.std.proofs.Common.{◌∙◌, append_assoc, append-nil, inl, inr, bytes_eq, unwrap_or, option_map, fold}
+use Rattle.std.proofs.lemmas.{Bool.{cases_Bool, both_ways}, List.Sums.fold-append, Slice.Eq.bytes_eq-Decides}
+use Rattle.sfv_spec.specs.Ordered.{collapse, without}
 use Rattle.sfv_spec.proofs.Collapse.{entered, collapse-push, collapse-distinct, no_repeats-collapse, last_of-collapse}
-use Rattle.sfv_spec.proofs.Collapse.{last_of-push}
-use Rattle.sfv_spec.proofs.Last.{over, last_of-over}
-use Rattle.sfv_readers.specs.Words.{put}
+use Rattle.sfv_spec.proofs.{Collapse.last_of-push, Last.{over, last_of-over}}
+use Rattle.sfv_readers.specs.{Field.last_of, Words.put}
 
 put-collapse : {A : Type 0} (ps : List (List ℕ × A)) (k : List ℕ) (v : A)
     → put (collapse ps) k v ≡ collapse (ps ++ (k, v) ∷ [])

@@ -1,12 +1,8 @@
 -- Runs of a visitor, part by part.
 use Rattle.std.proofs.Common.{◌≡◌, ℕ, Option, Some, None, List, [], ◌∷◌, ◌++◌, refl, subst, append_assoc, append-nil}
-use Rattle.std.specs.Prelude.{map, flat_map, MatchOption}
-use Rattle.std.proofs.lemmas.Option.{same_Some}
-use Rattle.sfv_spec.specs.Values.{BareValue, RawParameters, RawItem}
+use Rattle.std.{proofs.Common.{map, flat_map, MatchOption}, specs.List.FoldsTo, proofs.lemmas.Option.same_Some}
 use Rattle.sfv_spec.specs.Events.{TreeEvent, begins_item, bare_item, parameter, parameters_end, parameters_events}
-use Rattle.sfv_spec.specs.Events.{inner_item_events}
-use Rattle.sfv_spec.specs.Ordered.{ordered_item}
-use Rattle.std.specs.List.{FoldsTo}
+use Rattle.sfv_spec.specs.{Events.inner_item_events, Ordered.ordered_item, Values.{BareValue, RawParameters, RawItem}}
 use Rattle.sfv_readers.specs.Words.{Head, of_item, of_inner_list, member_of, head_of, parameters_of, raw_item, put}
 use Rattle.sfv_readers.proofs.Puts.{put_all, all_put}
 

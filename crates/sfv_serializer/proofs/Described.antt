@@ -1,32 +1,23 @@
 -- What the calls of a script describe, by their members and by their steps.
 use Rattle.std.proofs.Common.{◌≡◌, ℕ, ◌-◌, Bool, true, false, List, [], ◌∷◌, ◌++◌, length, map, take, drop, codes, refl}
-use Rattle.std.proofs.Common.{sym, ap, ◌∙◌, subst, arith}
-use Rattle.std.specs.Prelude.{filter, if◌then◌else◌, flat_map, Result, Ok, Err, OnErr}
-use Rattle.std.specs.declared.string.String.{String}
-use Rattle.std.proofs.Math.Seq.{take-append_seam}
-use Rattle.std.proofs.lemmas.Simd.{map-map}
-use Rattle.std.proofs.lemmas.List.{length-append, append-nil}
-use Rattle.sfv_spec.specs.Texts.{joined}
-use Rattle.sfv_spec.specs.Values.{RawItem, RawMember, item, inner_list, Fits, member_values}
-use Rattle.sfv_spec.specs.declared.field_kind.FieldKind.TheVariants.{List as list_field, Dictionary as dictionary_field}
-use Rattle.sfv_spec.specs.declared.version.Version.{Version}
+use Rattle.std.proofs.Common.{sym, ap, ◌∙◌, subst, arith, filter, if◌then◌else◌, flat_map, Result, Ok, Err, OnErr}
+use Rattle.std.proofs.Common.{length-append, append-nil}
+use Rattle.std.specs.declared.{alloc.Global.Global, string.String.String, vec.Vec.Vec}
+use Rattle.std.proofs.{Math.Seq.take-append_seam, lemmas.Simd.map-map}
 use Rattle.sfv_spec.specs.Canonical.{item_text, member_text, dictionary_member_text}
-use Rattle.sfv_spec.proofs.Fields.{fit_split, fit_append}
-use Rattle.sfv_values.specs.KeyText.{KeyRef}
-use Rattle.sfv_values.specs.CheckedTexts.{text_of}
+use Rattle.sfv_spec.specs.{Texts.joined, Values.{RawItem, RawMember, item, inner_list, Fits, member_values}}
+use Rattle.sfv_spec.specs.declared.field_kind.FieldKind.TheVariants.{List as list_field, Dictionary as dictionary_field}
+use Rattle.sfv_spec.{specs.declared.version.Version.Version, proofs.Fields.{fit_split, fit_append}}
+use Rattle.sfv_values.specs.{CheckedTexts.text_of, KeyText.KeyRef}
 use Rattle.sfv_writer.specs.Written.{LacksRoom}
-use Rattle.std.specs.declared.alloc.Global.{Global}
-use Rattle.std.specs.declared.vec.Vec.{Vec}
-use Rattle.sfv_serializer.specs.declared.script.ItemCalls.{ItemCalls}
-use Rattle.sfv_serializer.specs.declared.script.ParamCall.{ParamCall}
-use Rattle.sfv_serializer.specs.declared.script.MemberCalls.{MemberCalls}
-use Rattle.sfv_serializer.specs.declared.script.MemberCalls.TheVariants as calls
-use Rattle.sfv_serializer.specs.Scripts.{item_of_calls, member_of_calls, entry_of_calls, is_written, described_list}
-use Rattle.sfv_serializer.specs.Scripts.{described_dictionary, LacksForListCall, LacksForEntryCall}
 use Rattle.sfv_serializer.specs.ScriptSteps.{supplied_member, member_calls, list_calls, dictionary_calls}
 use Rattle.sfv_serializer.specs.ScriptSteps.{list_described, dictionary_described, supplied_list, supplied_dictionary}
 use Rattle.sfv_serializer.specs.ScriptSteps.{added_text, added_text_of_pair, tried_list, tried_dictionary, LacksForTry}
+use Rattle.sfv_serializer.specs.Scripts.{item_of_calls, member_of_calls, entry_of_calls, is_written, described_list}
+use Rattle.sfv_serializer.specs.Scripts.{described_dictionary, LacksForListCall, LacksForEntryCall}
+use Rattle.sfv_serializer.specs.declared.script.{ItemCalls.ItemCalls, MemberCalls.MemberCalls, ParamCall.ParamCall}
 use Rattle.sfv_serializer.proofs.Scripts.{named_inner}
+use Rattle.sfv_serializer.specs.declared.script.MemberCalls.TheVariants as calls
 
 -- ---- examples: an item, an inner list that is abandoned or finished, and an item
 
@@ -54,8 +45,7 @@ supplied_list_is (m ∷ ms) = ap (λ (x : RawMember). x ∷ supplied_list ms) (s
 
 pub supplied_dictionary_is : (ms : List (KeyRef × MemberCalls)) → supplied_dictionary ms ≡ map entry_of_calls ms
 supplied_dictionary_is [] = refl
-supplied_dictionary_is (m ∷ ms) =
-    ap (λ (x : RawMember). (text_of m.0, x) ∷ supplied_dictionary ms) (supplied_is m.1)
+supplied_dictionary_is (m ∷ ms) = ap (λ (x : RawMember). (text_of m.0, x) ∷ supplied_dictionary ms) (supplied_is m.1)
     ∙ ap (λ (l : List (List ℕ × RawMember)). entry_of_calls m ∷ l) (supplied_dictionary_is ms)
 
 pub list_described_is : (ms : List MemberCalls) → list_described ms ≡ described_list ms
@@ -71,9 +61,8 @@ dictionary_described_is [] = refl
 dictionary_described_is ((key, calls.Item i) ∷ ms) =
     ap (λ (l : List (List ℕ × RawMember)). entry_of_calls (key, calls.Item i) ∷ l) (dictionary_described_is ms)
 dictionary_described_is ((key, calls.InnerList items params true) ∷ ms) = dictionary_described_is ms
-dictionary_described_is ((key, calls.InnerList items params false) ∷ ms) =
-    ap (λ (l : List (List ℕ × RawMember)). entry_of_calls (key, calls.InnerList items params false) ∷ l)
-    (dictionary_described_is ms)
+dictionary_described_is ((key, calls.InnerList items params false) ∷ ms) = ap (λ (l : List
+    (List ℕ × RawMember)). entry_of_calls (key, calls.InnerList items params false) ∷ l) (dictionary_described_is ms)
 
 -- ---- the text that a call appends
 
@@ -109,8 +98,7 @@ added_pair_is (key, calls.Item i) = refl
 added_pair_is (key, calls.InnerList items params true) =
     let raw : List RawItem = map item_of_calls items.items in
     let begun : List ℕ = (text_of key ++ codes "=(") ++ joined (codes " ") (map item_text raw) in
-    sym (last_of (dictionary_member_text (text_of key, inner_list (record { items = raw; parameters = [] }))) begun _
-    (sym (named_inner (text_of key) raw []) ∙ append-nil (begun ++ codes ")")))
+    sym (last_of _ _ _ (sym (named_inner _ raw []) ∙ append-nil (begun ++ codes ")")))
 added_pair_is (key, calls.InnerList items params false) = refl
 
 -- ---- the texts so far
@@ -126,12 +114,10 @@ list_lacks old ms (Ok x) h = tt
 list_lacks old ms (Err e) h =
     let text : MemberCalls → List ℕ = λ c. member_text (member_of_calls c) in
     let same : tried_list ms h.0 ≡ map text (filter is_written (take h.0 ms))
-    ++ map (added is_written text) (take 1 (drop h.0 ms)) =
-    ap (λ (raw : List RawMember). map member_text raw ++ map added_text (list_calls (take 1 (drop h.0 ms))))
-    (list_described_is (take h.0 ms))
-    ∙ ap (λ (l : List (List ℕ)). l ++ map added_text (list_calls (take 1 (drop h.0 ms))))
-    (map-map member_text member_of_calls (filter is_written (take h.0 ms)))
-    ∙ ap (λ (l : List (List ℕ)). map text (filter is_written (take h.0 ms)) ++ l)
+    ++ map (added is_written text) (take 1 (drop h.0 ms)) = ap (λ (raw : List RawMember). map member_text raw
+    ++ map added_text (list_calls (take 1 (drop h.0 ms)))) (list_described_is (take h.0 ms)) ∙ ap (λ (l : List
+    (List ℕ)). l ++ map added_text (list_calls (take 1 (drop h.0 ms)))) (map-map member_text member_of_calls
+    (filter is_written (take h.0 ms))) ∙ ap (λ (l : List (List ℕ)). map text (filter is_written (take h.0 ms)) ++ l)
     (each_is member_calls added_text (added is_written text) added_is (take 1 (drop h.0 ms))) in
     (h.0, subst (λ (l : List (List ℕ)). LacksRoom old (joined (codes ", ") l)) same h.1)
 
@@ -141,13 +127,12 @@ dictionary_lacks old ms (Ok x) h = tt
 dictionary_lacks old ms (Err e) h =
     let text : KeyRef × MemberCalls → List ℕ = λ m. dictionary_member_text (entry_of_calls m) in
     let test : KeyRef × MemberCalls → Bool = λ m. is_written m.1 in
-    let same : tried_dictionary ms h.0 ≡ map text (filter test (take h.0 ms)) ++ map (added test text) (take 1 (drop h.0 ms)) =
-    ap (λ (raw : List (List ℕ × RawMember)). map dictionary_member_text raw
-    ++ map added_text_of_pair (dictionary_calls (take 1 (drop h.0 ms)))) (dictionary_described_is (take h.0 ms))
-    ∙ ap (λ (l : List (List ℕ)). l ++ map added_text_of_pair (dictionary_calls (take 1 (drop h.0 ms))))
-    (map-map dictionary_member_text entry_of_calls (filter test (take h.0 ms)))
-    ∙ ap (λ (l : List (List ℕ)). map text (filter test (take h.0 ms)) ++ l)
-    (each_is (λ m. (text_of m.0, member_calls m.1)) added_text_of_pair (added test text) added_pair_is (take 1 (drop h.0 ms))) in
+    let same : tried_dictionary ms h.0 ≡ map text (filter test (take h.0 ms)) ++ map (added test text) (take 1
+    (drop h.0 ms)) = ap (λ (raw : List (List ℕ × RawMember)). map dictionary_member_text raw ++ map added_text_of_pair
+    (dictionary_calls (take 1 (drop h.0 ms)))) (dictionary_described_is (take h.0 ms)) ∙ ap (λ (l : List (List ℕ)). l
+    ++ map added_text_of_pair (dictionary_calls (take 1 (drop h.0 ms)))) (map-map dictionary_member_text entry_of_calls
+    (filter test (take h.0 ms))) ∙ ap (λ (l : List (List ℕ)). map text (filter test (take h.0 ms)) ++ l) (each_is
+    (λ m. (text_of m.0, member_calls m.1)) added_text_of_pair (added test text) added_pair_is (take 1 (drop h.0 ms))) in
     (h.0, subst (λ (l : List (List ℕ)). LacksRoom old (joined (codes ", ") l)) same h.1)
 
 -- ---- a version that has all values of the calls has the values of the described field
@@ -161,9 +146,8 @@ module _ (version : Version) where
       (flat_map member_values (map member_of_calls ms)) h in
       fit_append version (member_values (member_of_calls (calls.Item i)))
       (flat_map member_values (described_list ms)) p.0 (list_fits ms p.1)
-  list_fits (calls.InnerList items params true ∷ ms) h = list_fits ms
-      (fit_split version (member_values (member_of_calls (calls.InnerList items params true)))
-      (flat_map member_values (map member_of_calls ms)) h).1
+  list_fits (calls.InnerList items params true ∷ ms) h = list_fits ms (fit_split version (member_values
+      (member_of_calls (calls.InnerList items params true))) (flat_map member_values (map member_of_calls ms)) h).1
   list_fits (calls.InnerList items params false ∷ ms) h =
       let p = fit_split version (member_values (member_of_calls (calls.InnerList items params false)))
       (flat_map member_values (map member_of_calls ms)) h in

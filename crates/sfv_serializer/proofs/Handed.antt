@@ -1,22 +1,17 @@
 -- The values that calls hand over.
 use Rattle.std.proofs.Common.{Bool, true, false, ◌≡◌, ℕ, ◌<◌, List, [], ◌∷◌, length, map, sym, ap, ◌∙◌, Result, arith}
-use Rattle.std.specs.Prelude.{flat_map}
-use Rattle.std.proofs.lemmas.List.Folds.{flat_map-map}
+use Rattle.std.proofs.{Common.flat_map, lemmas.List.Folds.flat_map-map}
 use Rattle.sfv_spec.specs.Values.{BareValue, RawParameters, bare_values, AllFit, item_values, member_values}
 use Rattle.sfv_spec.specs.declared.field_kind.FieldKind.TheVariants.{List as list_field, Dictionary as dictionary_field}
-use Rattle.sfv_spec.specs.declared.version.Version.{Version}
-use Rattle.sfv_serializer.specs.Scripts.{param_of_call, item_of_calls, member_of_calls, entry_of_calls}
-use Rattle.sfv_serializer.specs.ScriptSteps.{supplied_member, inner_list_calls, list_calls, dictionary_calls}
-use Rattle.sfv_serializer.proofs.Described.{supplied_list_is, supplied_dictionary_is}
+use Rattle.sfv_spec.{specs.declared.version.Version.Version, proofs.Fields.fit_append, proofs.Marks.parameter_values}
 use Rattle.sfv_values.specs.KeyText.{KeyRef}
 use Rattle.sfv_writer.specs.Versions.{NamesFirstUnfit, ChecksVersion}
-use Rattle.sfv_spec.proofs.Marks.{parameter_values}
-use Rattle.sfv_spec.proofs.Fields.{fit_append}
 use Rattle.sfv_writer.specs.declared.serialize_error.SerializeError.{SerializeError}
 use Rattle.sfv_writer.proofs.Checks.{names_front, looks_after, not_of_none, singles}
-use Rattle.sfv_serializer.specs.declared.script.ParamCall.{ParamCall}
-use Rattle.sfv_serializer.specs.declared.script.ItemCalls.{ItemCalls}
-use Rattle.sfv_serializer.specs.declared.script.MemberCalls.{MemberCalls}
+use Rattle.sfv_serializer.specs.ScriptSteps.{supplied_member, inner_list_calls, list_calls, dictionary_calls}
+use Rattle.sfv_serializer.specs.Scripts.{param_of_call, item_of_calls, member_of_calls, entry_of_calls}
+use Rattle.sfv_serializer.specs.declared.script.{ItemCalls.ItemCalls, MemberCalls.MemberCalls, ParamCall.ParamCall}
+use Rattle.sfv_serializer.proofs.Described.{supplied_list_is, supplied_dictionary_is}
 
 -- calls of which a value doesn't fit are not none
 pub named_list : (version : Version) (calls : List MemberCalls) (e : SerializeError)
@@ -55,19 +50,15 @@ module _ (version : Version) (items : List ItemCalls) (params : List ParamCall) 
       → AllFit version (flat_map item_values (map item_of_calls items))
       → ChecksVersion version (parameter_values (map param_of_call params)) r
       → ChecksVersion version (member_values (supplied_member (inner_list_calls items params false))) r
-  ended_looks r h k = looks_after version (flat_map item_values (map item_of_calls items))
-      (parameter_values (map param_of_call params)) r h k
+  ended_looks r h k = looks_after _ _ _ _ h k
 
 -- the values of the members that are handed over, one after another
-pub list_supplied : (members : List MemberCalls)
-    → flat_map (λ m. member_values (supplied_member m)) (list_calls members)
-    ≡ bare_values list_field (map member_of_calls members)
+pub list_supplied : (members : List MemberCalls) → flat_map (λ m. member_values (supplied_member m))
+    (list_calls members) ≡ bare_values list_field (map member_of_calls members)
 list_supplied members = sym (flat_map-map member_values supplied_member (list_calls members))
     ∙ ap (bare_values list_field) (supplied_list_is members)
 
-pub dictionary_supplied : (members : List (KeyRef × MemberCalls))
-    → flat_map (λ m. member_values (supplied_member m.1)) (dictionary_calls members)
-    ≡ bare_values dictionary_field (map entry_of_calls members)
-dictionary_supplied members =
-    sym (flat_map-map (λ m. member_values m.1) (λ c. (c.0, supplied_member c.1)) (dictionary_calls members))
-    ∙ ap (bare_values dictionary_field) (supplied_dictionary_is members)
+pub dictionary_supplied : (members : List (KeyRef × MemberCalls)) → flat_map (λ m. member_values (supplied_member m.1))
+    (dictionary_calls members) ≡ bare_values dictionary_field (map entry_of_calls members)
+dictionary_supplied members = sym (flat_map-map (λ m. member_values m.1) (λ c. (c.0, supplied_member c.1))
+    (dictionary_calls members)) ∙ ap (bare_values dictionary_field) (supplied_dictionary_is members)

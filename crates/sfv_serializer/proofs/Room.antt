@@ -1,33 +1,23 @@
 -- Room for the texts of calls, one after another.
 use Rattle.std.proofs.Common.{◌≡◌, ◌≤◌, ◌<◌, ◌+◌, ℕ, Bool, true, false, List, [], ◌∷◌, ◌++◌, length, get_or, map, take}
 use Rattle.std.proofs.Common.{drop, codes, refl, sym, ap, subst, ◌∙◌, arith, inl, inr, string_bytes, string_capacity}
-use Rattle.std.proofs.Common.{Result, Ok, Err}
-use Rattle.std.specs.Prelude.{Option, OnErr, filter_map, if◌then◌else◌}
+use Rattle.std.proofs.Common.{Result, Ok, Err, Option, OnErr, filter_map, if◌then◌else◌, drop-cons, length-append}
 use Rattle.std.specs.declared.string.String.{String}
-use Rattle.std.proofs.Math.Seq.{drop-cons}
-use Rattle.std.proofs.lemmas.List.{length-append, map-append}
-use Rattle.std.proofs.lemmas.List.Concat.{flat_map-append}
-use Rattle.sfv_spec.specs.Texts.{joined}
-use Rattle.sfv_spec.specs.Values.{BareValue, RawItem, RawParameters, IsItem}
-use Rattle.sfv_spec.specs.declared.version.Version.{Version}
-use Rattle.sfv_spec.specs.declared.version.Version.TheVariants.{Rfc9651}
-use Rattle.sfv_spec.specs.Canonical.{item_text, parameters_text}
-use Rattle.sfv_spec.proofs.Given.{newer_has_all}
-use Rattle.sfv_values.specs.CheckedTexts.{text_of as key_text}
-use Rattle.sfv_values.specs.BareItems.{ref_value}
-use Rattle.sfv_writer.specs.Written.{LacksRoom, separator_before, with_separators, is_first_after, param_text}
+use Rattle.std.proofs.lemmas.List.{map-append, Concat.flat_map-append}
+use Rattle.sfv_spec.specs.{Canonical.{item_text, parameters_text}, Texts.joined}
+use Rattle.sfv_spec.specs.{Values.{BareValue, RawItem, RawParameters, IsItem}, declared.version.Version.Version}
+use Rattle.sfv_spec.{specs.declared.version.Version.TheVariants.Rfc9651, proofs.Given.newer_has_all}
+use Rattle.sfv_values.specs.{BareItems.ref_value, CheckedTexts.text_of as key_text}
 use Rattle.sfv_writer.specs.Versions.{NamesFirstUnfit, IsSerializeError}
+use Rattle.sfv_writer.specs.Written.{LacksRoom, separator_before, with_separators, is_first_after, param_text}
 use Rattle.sfv_writer.specs.declared.serialize_error.SerializeError.{SerializeError}
-use Rattle.sfv_writer.specs.declared.serialize_error.SerializeError.TheVariants as errors
-use Rattle.sfv_writer.proofs.RoomOfIterators.{row_len}
-use Rattle.sfv_writer.proofs.Checks.{split_at}
-use Rattle.sfv_writer.proofs.Room.{len_of, room_after, room_before}
+use Rattle.sfv_writer.proofs.{Checks.split_at, Room.{len_of, room_after, room_before}, RoomOfIterators.row_len}
 use Rattle.sfv_writer.proofs.Separated.{IsLed, in_a_row_first}
-use Rattle.sfv_serializer.specs.declared.script.ParamCall.{ParamCall}
-use Rattle.sfv_serializer.specs.declared.script.ItemCalls.{ItemCalls}
-use Rattle.sfv_serializer.specs.Scripts.{param_of_call, item_of_calls}
 use Rattle.sfv_serializer.specs.ScriptSteps.{ended_text, inner_list_calls, added_text, added_text_of_pair}
+use Rattle.sfv_serializer.specs.Scripts.{param_of_call, item_of_calls}
+use Rattle.sfv_serializer.specs.declared.script.{ItemCalls.ItemCalls, ParamCall.ParamCall}
 use Rattle.sfv_serializer.proofs.Scripts.{in_a_row_append, is_first_after-map, named_inner}
+use Rattle.sfv_writer.specs.declared.serialize_error.SerializeError.TheVariants as errors
 
 -- no room for a part of a text means no room for the text
 pub lacks_more : {Z : Type 0} (old output : String Z) (so_far one whole : List ℕ)
@@ -58,9 +48,8 @@ module _ (calls : List ParamCall) (n : ℕ) (x : ParamCall) (lt : n < length cal
       let after : RawParameters = map param_of_call p.0 in
       let one : List ℕ = param_text (key_text x.key) (ref_value x.value) in
       let whole : parameters_text (map param_of_call calls) ≡ parameters_text front ++ (one ++ parameters_text after) =
-      ap (λ cs. parameters_text (map param_of_call cs)) p.1
-      ∙ ap parameters_text (map-append param_of_call (take n calls) (x ∷ p.0))
-      ∙ flat_map-append (λ p. param_text p.0 p.1) front (param_of_call x ∷ after) in
+      ap (λ cs. parameters_text (map param_of_call cs)) p.1 ∙ ap parameters_text (map-append param_of_call
+      (take n calls) (x ∷ p.0)) ∙ flat_map-append (λ p. param_text p.0 p.1) front (param_of_call x ∷ after) in
       omega (arith, ap (length {A = ℕ}) whole, three_len (parameters_text front) one (parameters_text after))
 
   -- there is no room for one more
@@ -73,8 +62,7 @@ module _ (calls : List ParamCall) (n : ℕ) (x : ParamCall) (lt : n < length cal
       let so_far : List ℕ = parameters_text (map param_of_call (take n calls)) in
       let all : List ℕ = parameters_text (map param_of_call calls) in
       lacks_more old output (front ++ (head ++ so_far)) (param_text (key_text x.key) (ref_value x.value))
-      (front ++ (head ++ all)) e c
-      (omega (arith, params_len, three_len front head so_far, three_len front head all)) h
+      (front ++ (head ++ all)) e c (omega (arith, params_len, three_len front head so_far, three_len front head all)) h
 
 -- ---- an inner list
 
@@ -183,9 +171,8 @@ pub dictionary_inner_lacks : {Z : Type 0} (old : String Z) (b : Bool) (key : Lis
     else ended_text (key ++ codes "=(") (map item_of_calls items) (map param_of_call params)))
     → LacksRoom old (with_separators b (codes ", ") (added_text_of_pair (key, inner_list_calls items params abandon) ∷ []))
 dictionary_inner_lacks old b key items params true h = room_before old _ [] h
-dictionary_inner_lacks old b key items params false h =
-    room_before old _ [] (subst (λ (l : List ℕ). LacksRoom old (separator_before b (codes ", ") ++ l))
-    (named_inner key (map item_of_calls items) (map param_of_call params)) h)
+dictionary_inner_lacks old b key items params false h = room_before old _ [] (subst (λ (l : List ℕ). LacksRoom old
+    (separator_before b (codes ", ") ++ l)) (named_inner key (map item_of_calls items) (map param_of_call params)) h)
 
 -- a consequence for an error
 pub on_err : {T E P Q : Type 0} (r : Result T E) → (P → Q) → OnErr r P → OnErr r Q
@@ -205,14 +192,12 @@ calls_lack {C} {M = M} given added f text_of IsGood s calls n x was_first is_fir
     let before : List M = filter_map given (map f (take n calls)) in
     let so_far : List ℕ = with_separators was_first s (map text_of before) in
     let own : List (List ℕ) = added (f x) ∷ [] in
-    let one : take 1 (drop n calls) ≡ x ∷ [] =
-    ap (take 1) (drop-cons calls n x lt) ∙ ap (λ (y : C). y ∷ []) (sym is) in
+    let one : take 1 (drop n calls) ≡ x ∷ [] = ap (take 1) (drop-cons calls n x lt) ∙ ap (λ (y : C). y ∷ []) (sym is) in
     let flag : is_first_after was_first (map text_of before) ≡ is_first =
     is_first_after-map text_of was_first before ∙ sym row.first in
     let whole : with_separators was_first s (map text_of before ++ map added (map f (take 1 (drop n calls))))
-    ≡ so_far ++ with_separators is_first s own =
-    ap (λ (cs : List C). with_separators was_first s (map text_of before ++ map added (map f cs))) one
-    ∙ in_a_row_append s was_first (map text_of before) own
+    ≡ so_far ++ with_separators is_first s own = ap (λ (cs : List C). with_separators was_first s
+    (map text_of before ++ map added (map f cs))) one ∙ in_a_row_append s was_first (map text_of before) own
     ∙ ap (λ (b : Bool). so_far ++ with_separators b s own) flag in (
       n,
       subst (λ (l : List ℕ). LacksRoom old l) (sym whole)
@@ -230,11 +215,10 @@ memory_lacks version values old text e newer (inr k) h =
 
 -- ---- items of an inner list
 
-pub next_item_lacks : {Z : Type 0} (items : List ItemCalls) (n : ℕ) (x : ItemCalls) (was_first is_first : Bool)
-    (old output : String Z) → n < length items → x ≡ get_or items n x
+pub next_item_lacks : {Z : Type 0} (items : List ItemCalls) (n : ℕ) (x : ItemCalls)
+    (was_first is_first : Bool) (old output : String Z) → n < length items → x ≡ get_or items n x
     → IsLed item_text IsItem (codes " ") (map item_of_calls (take n items)) was_first is_first (string_bytes old)
-    (string_bytes output)
-    → string_capacity old ≤ string_capacity output
+    (string_bytes output) → string_capacity old ≤ string_capacity output
     → LacksRoom output (separator_before is_first (codes " ") ++ item_text (item_of_calls x))
     → LacksRoom old (with_separators was_first (codes " ") (map item_text (map item_of_calls items)))
 next_item_lacks items n x was_first is_first old output lt is row c h =

@@ -1,30 +1,22 @@
 -- Members are written call by call.
 use Rattle.std.proofs.Common.{◌≡◌, ◌≤◌, ℕ, ◌+◌, ◌<◌, Bool, true, false, List, [], ◌∷◌, ◌++◌, length, get_or, map, take}
-use Rattle.std.proofs.Common.{refl, sym, ap, subst, ◌∙◌, codes, append_assoc, arith, string_capacity}
-use Rattle.std.specs.Prelude.{Option, filter_map, Result, Ok, Err, OnOk, OnErr, string_bytes, string_len}
-use Rattle.std.specs.Borrow.{MutBor}
+use Rattle.std.proofs.Common.{refl, sym, ap, subst, ◌∙◌, codes, append_assoc, arith, string_capacity, Option}
+use Rattle.std.proofs.Common.{filter_map, Result, Ok, Err, OnOk, OnErr, string_bytes, string_len, MutBor, append-nil}
 use Rattle.std.specs.List.{AllByRecursion}
-use Rattle.std.proofs.lemmas.List.{map-append, append-nil}
-use Rattle.std.proofs.lemmas.List.Elements.{filter_map-append}
-use Rattle.std.proofs.lemmas.Str.{IsUtf8-string_bytes}
-use Rattle.sfv_spec.specs.Texts.{joined}
-use Rattle.sfv_spec.specs.Values.{RawItem, RawParameters, IsItem, inner_list}
-use Rattle.sfv_spec.specs.Canonical.{item_text, parameters_text, dictionary_member_text}
+use Rattle.std.proofs.lemmas.{List.map-append, List.Elements.filter_map-append, Str.IsUtf8-string_bytes}
+use Rattle.sfv_spec.specs.{Canonical.{item_text, parameters_text, dictionary_member_text}, Texts.joined}
+use Rattle.sfv_spec.specs.{Values.{RawItem, RawParameters, IsItem, inner_list}, declared.version.Version.Version}
+use Rattle.sfv_spec.proofs.Each.{each_append}
 use Rattle.sfv_values.specs.BareItems.{ref_value}
-use Rattle.sfv_spec.specs.declared.version.Version.{Version}
 use Rattle.sfv_writer.specs.Written.{Extends, separator_before, with_separators, is_first_after}
 use Rattle.sfv_writer.proofs.Separated.{IsLed, mapped_more, is_first_after-false, in_a_row_first}
-use Rattle.sfv_serializer.specs.declared.script.ItemCalls.{ItemCalls}
-use Rattle.sfv_serializer.specs.declared.script.ParamCall.{ParamCall}
-use Rattle.sfv_serializer.specs.declared.script.MemberCalls.{MemberCalls}
-use Rattle.sfv_serializer.specs.Scripts.{param_of_call, item_of_calls}
 use Rattle.sfv_serializer.specs.ScriptSteps.{inner_list_calls, member_calls, ended_text, WritesInner, WritesList}
-use Rattle.sfv_serializer.specs.ScriptSteps.{WritesDictionary}
-use Rattle.sfv_serializer.specs.declared.sequence_kind.InnerListItems.{InnerListItems}
-use Rattle.sfv_serializer.specs.declared.sequence.SequenceSerializer.{SequenceSerializer}
-use Rattle.sfv_serializer.specs.declared.sink.Sink.{Ghosts as Sink}
+use Rattle.sfv_serializer.specs.{ScriptSteps.WritesDictionary, Scripts.{param_of_call, item_of_calls}}
 use Rattle.sfv_serializer.specs.Serializers.{HasAppended, KeepsSequence, GrowsSequence, Removes, lent_sequence}
 use Rattle.sfv_serializer.specs.Serializers.{sequence_sink, is_empty_so_far}
+use Rattle.sfv_serializer.specs.declared.script.{ItemCalls.ItemCalls, MemberCalls.MemberCalls, ParamCall.ParamCall}
+use Rattle.sfv_serializer.specs.declared.sequence.SequenceSerializer.{SequenceSerializer}
+use Rattle.sfv_serializer.specs.declared.{sequence_kind.InnerListItems.InnerListItems, sink.Sink.Ghosts as Sink}
 
 is_first_after-append : {A : Type 0} (b : Bool) (xs ys : List A)
     → is_first_after b (xs ++ ys) ≡ is_first_after (is_first_after b xs) ys
@@ -47,11 +39,6 @@ in_a_row_append s b (x ∷ xs) ys =
     ∙ ap (λ (c : Bool). rest ++ with_separators c s ys) (is_first_after-false xs) in
     ap (λ (t : List ℕ). front ++ t) next ∙ sym (append_assoc front rest after)
 
-all_append : {A : Type 0} (P : A → Type 0) (xs ys : List A) → AllByRecursion P xs → AllByRecursion P ys
-    → AllByRecursion P (xs ++ ys)
-all_append P [] ys h k = k
-all_append P (x ∷ xs) ys h k = (h.0, all_append P xs ys h.1 k)
-
 -- more parts are written
 pub in_a_row_parts : {A : Type 0} (text_of : A → List ℕ) (IsGood : A → Type 0) (s : List ℕ) (xs ys : List A)
     (was_first is_first is_next : Bool) (before output new : List ℕ)
@@ -65,27 +52,24 @@ in_a_row_parts text_of IsGood s xs ys was_first is_first is_next before output n
     row.first ∙ sym (is_first_after-map text_of was_first xs) in
     record {
       first = f ∙ ap (λ (b : Bool). is_first_after b ys) row.first ∙ sym (is_first_after-append was_first xs ys);
-      text = n ∙ ap (λ (t : List ℕ). t ++ after is_first) row.text ∙ append_assoc before so_far (after is_first)
-          ∙ ap (λ (t : List ℕ). before ++ t) (ap (λ (b : Bool). so_far ++ after b) flag
-          ∙ sym (in_a_row_append s was_first (map text_of xs) (map text_of ys))
-          ∙ ap (with_separators was_first s) (sym (map-append text_of xs ys)));
-      good = all_append IsGood xs ys row.good g;
+      text = n ∙ ap (λ (t : List ℕ). t ++ after is_first) row.text ∙ append_assoc before so_far (after is_first) ∙ ap
+          (λ (t : List ℕ). before ++ t) (ap (λ (b : Bool). so_far ++ after b) flag ∙ sym (in_a_row_append s was_first
+          (map text_of xs) (map text_of ys)) ∙ ap (with_separators was_first s) (sym (map-append text_of xs ys)));
+      good = each_append IsGood xs ys row.good g;
     }
 
 -- one more item of an inner list
 pub item_more : (items : List ItemCalls) (n : ℕ) (x : ItemCalls) (was_first is_first is_next : Bool)
-    (before output new : List ℕ) → n < length items → x ≡ get_or items n x
-    → IsLed item_text IsItem (codes " ") (map item_of_calls (take n items)) was_first is_first before output
-    → is_next ≡ false → new ≡ output ++ (separator_before is_first (codes " ") ++ item_text (item_of_calls x))
-    → IsItem (item_of_calls x)
+    (before output new : List ℕ) → n < length items → x ≡ get_or items n x → IsLed item_text IsItem (codes " ")
+    (map item_of_calls (take n items)) was_first is_first before output → is_next ≡ false
+    → new ≡ output ++ (separator_before is_first (codes " ") ++ item_text (item_of_calls x)) → IsItem (item_of_calls x)
     → IsLed item_text IsItem (codes " ") (map item_of_calls (take (n + 1) items)) was_first is_next before new
 item_more items n x was_first is_first is_next before output new lt is row f e good =
     let space : List ℕ = separator_before is_first (codes " ") in
     let text : List ℕ = item_text (item_of_calls x) in
     subst (λ (is : List RawItem). IsLed item_text IsItem (codes " ") is was_first is_next before new)
-    (sym (mapped_more item_of_calls items n x lt is))
-    (in_a_row_parts item_text IsItem (codes " ") (map item_of_calls (take n items)) (item_of_calls x ∷ []) was_first is_first is_next
-    before output new row f (e ∙ ap (λ (t : List ℕ). output ++ t) (sym (append-nil (space ++ text)))) (good, tt))
+    (sym (mapped_more _ _ _ _ lt is)) (in_a_row_parts _ _ _ _ _ _ _ _ _ _ _ row f
+    (e ∙ ap (λ (t : List ℕ). output ++ t) (sym (append-nil (space ++ text)))) (good, tt))
 
 -- the calls so far, and one more
 pub calls_more : {C D M : Type 0} (given : D → Option M) (f : C → D) (text_of : M → List ℕ) (IsGood : M → Type 0)
@@ -99,9 +83,8 @@ pub calls_more : {C D M : Type 0} (given : D → Option M) (f : C → D) (text_o
 calls_more {D = D} {M} given f text_of IsGood s calls n x was_first is_first is_next before output new lt is row e
     t good =
     let more : filter_map given (map f (take (n + 1) calls))
-    ≡ filter_map given (map f (take n calls)) ++ filter_map given (f x ∷ []) =
-    ap (λ (ds : List D). filter_map given ds) (mapped_more f calls n x lt is)
-    ∙ filter_map-append given (map f (take n calls)) (f x ∷ []) in
+    ≡ filter_map given (map f (take n calls)) ++ filter_map given (f x ∷ []) = ap (λ (ds : List D). filter_map given ds)
+    (mapped_more f calls n x lt is) ∙ filter_map-append given (map f (take n calls)) (f x ∷ []) in
     subst (λ (ms : List M). IsLed text_of IsGood s ms was_first is_next before new) (sym more)
     (in_a_row_parts text_of IsGood s _ _ was_first is_first is_next before output new row e t good)
 
@@ -160,9 +143,8 @@ module _ {W K : Type 0} (w : Sink W) (again : (r s t : W) → w.same r s → w.s
   taken_away s v t u more begun long grown cut =
       let whole : List ℕ = string_bytes (w.text (sequence_sink s)) in (
         again _ _ _ begun.0 (again _ _ _ grown.0.1 cut.0),
-        cut.1.back whole (IsUtf8-string_bytes (w.text (sequence_sink s)))
-            (ap (λ k. k.len_before) grown.2 ∙ long ∙ (w.text (sequence_sink s)).bytes.ok.0)
-            (extends_again whole _ _ (more, begun.1) grown.1),
+        cut.1.back whole (IsUtf8-string_bytes (w.text (sequence_sink s))) (ap (λ k. k.len_before) grown.2
+            ∙ long ∙ (w.text (sequence_sink s)).bytes.ok.0) (extends_again whole _ _ (more, begun.1) grown.1),
         cut.2 ∙ grown.0.2 ∙ begun.2,
         cut.3 ∙ grown.0.3 ∙ begun.3,
         cut.4 ∙ grown.0.4 ∙ begun.4,
@@ -183,15 +165,13 @@ module _ {W K : Type 0} (w : Sink W) (again : (r s t : W) → w.same r s → w.s
 pub written_after : (before now new front piece more : List ℕ) → now ≡ before ++ (front ++ piece) → new ≡ now ++ more
     → new ≡ before ++ (front ++ (piece ++ more))
 written_after before now new front piece more e n = n ∙ ap (λ (t : List ℕ). t ++ more) e
-    ∙ append_assoc before (front ++ piece) more
-    ∙ ap (λ (t : List ℕ). before ++ t) (append_assoc front piece more)
+    ∙ append_assoc before (front ++ piece) more ∙ ap (λ (t : List ℕ). before ++ t) (append_assoc front piece more)
 
 -- an inner list that was begun, written and ended
-pub inner_list_ended : (before t1 t2 t3 t4 front opening : List ℕ) (none : Bool) (items : List RawItem)
-    (params : RawParameters)
-    → t1 ≡ before ++ (front ++ opening) → t2 ≡ t1 ++ with_separators none (codes " ") (map item_text items) → none ≡ true
-    → t3 ≡ t2 ++ codes ")" → t4 ≡ t3 ++ parameters_text params
-    → t4 ≡ before ++ (front ++ ended_text opening items params)
+pub inner_list_ended : (before t1 t2 t3 t4 front opening : List ℕ) (none : Bool)
+    (items : List RawItem) (params : RawParameters) → t1 ≡ before ++ (front ++ opening)
+    → t2 ≡ t1 ++ with_separators none (codes " ") (map item_text items) → none ≡ true → t3 ≡ t2 ++ codes ")"
+    → t4 ≡ t3 ++ parameters_text params → t4 ≡ before ++ (front ++ ended_text opening items params)
 inner_list_ended before t1 t2 t3 t4 front opening none items params e1 e2 n e3 e4 =
     let inside : List ℕ = joined (codes " ") (map item_text items) in
     let row : with_separators none (codes " ") (map item_text items) ≡ inside =
@@ -230,9 +210,8 @@ pub named_list_ended : (before t1 t2 t3 t4 front key : List ℕ) (none : Bool) (
     → t1 ≡ before ++ (front ++ (key ++ codes "=(")) → t2 ≡ t1 ++ with_separators none (codes " ") (map item_text items) → none ≡ true
     → t3 ≡ t2 ++ codes ")" → t4 ≡ t3 ++ parameters_text params
     → t4 ≡ before ++ (front ++ dictionary_member_text (key, inner_list (record { items = items; parameters = params })))
-named_list_ended before t1 t2 t3 t4 front key none items params e1 e2 n e3 e4 =
-    inner_list_ended before t1 t2 t3 t4 front (key ++ codes "=(") none items params e1 e2 n e3 e4
-    ∙ ap (λ (t : List ℕ). before ++ (front ++ t)) (named_inner key items params)
+named_list_ended before t1 t2 t3 t4 front key none items params e1 e2 n e3 e4 = inner_list_ended before _ _ _ _ front
+    (key ++ codes "=(") _ _ _ e1 e2 n e3 e4 ∙ ap (λ (t : List ℕ). before ++ (front ++ t)) (named_inner _ items params)
 
 -- what follows from what holds if all went well
 on_ok : {T E P Q : Type 0} (r : Result T E) → (P → Q) → OnOk r P → OnOk r Q
@@ -276,8 +255,7 @@ module _ {W K : Type 0} (w : Sink W) (s t : SequenceSerializer W K) where
       → OnOk r (WritesInner w s t (codes ", ") (key ++ codes "=(") (map item_of_calls items) (map param_of_call params)
       abandon)
       → OnOk r (WritesDictionary w s t ((key, member_calls m) ∷ []))
-  dictionary_inner_written r key m items params abandon is h =
-      rw is (on_ok r (dictionary_inner key items params abandon) h)
+  dictionary_inner_written r key m items params abandon is h = rw is (on_ok _ (dictionary_inner _ _ _ _) h)
 
 -- the item when this many of its parameters are written
 abbrev pub item_so_far : ItemCalls → ℕ → RawItem

@@ -1,22 +1,15 @@
 -- What is known after one more call: of the parameters that were written, and of a serializer.
 use Rattle.std.proofs.Common.{◌≡◌, ℕ, ◌+◌, ◌<◌, Bool, List, [], ◌++◌, length, get_or, map, take, sym, ap, subst, ◌∙◌}
-use Rattle.std.proofs.Common.{append_assoc}
-use Rattle.std.specs.Prelude.{IsTrue, string_bytes}
-use Rattle.std.proofs.lemmas.List.{append-nil}
-use Rattle.sfv_spec.specs.Classes.{is_key}
+use Rattle.std.proofs.Common.{append_assoc, IsTrue, string_bytes, append-nil}
+use Rattle.sfv_spec.specs.{Canonical.parameters_text, Classes.is_key}
 use Rattle.sfv_spec.specs.Values.{RawParameters, IsBareValue, AreParameters}
-use Rattle.sfv_spec.specs.Canonical.{parameters_text}
-use Rattle.sfv_values.specs.CheckedTexts.{text_of as key_text}
-use Rattle.sfv_values.specs.BareItems.{ref_value}
+use Rattle.sfv_values.specs.{BareItems.ref_value, CheckedTexts.text_of as key_text}
 use Rattle.sfv_writer.specs.Written.{param_text}
-use Rattle.sfv_writer.proofs.Parameters.{parameters_push, valid_push}
-use Rattle.sfv_writer.proofs.Separated.{mapped_more}
-use Rattle.sfv_serializer.specs.declared.script.ParamCall.{ParamCall}
+use Rattle.sfv_writer.proofs.{Parameters.{parameters_push, valid_push}, Separated.mapped_more}
 use Rattle.sfv_serializer.specs.Scripts.{param_of_call}
-use Rattle.sfv_serializer.specs.declared.sequence.SequenceSerializer.{SequenceSerializer}
-use Rattle.sfv_serializer.specs.declared.sink.Sink.{Ghosts as Sink}
 use Rattle.sfv_serializer.specs.Serializers.{HasAppended, KeepsSequence, GrowsSequence, is_empty_so_far}
-use Rattle.sfv_serializer.proofs.Scripts.{extends_again, no_less}
+use Rattle.sfv_serializer.specs.declared.{script.ParamCall.ParamCall, sequence.SequenceSerializer.SequenceSerializer}
+use Rattle.sfv_serializer.{specs.declared.sink.Sink.Ghosts as Sink, proofs.Scripts.{extends_again, no_less}}
 
 -- one more piece, after what stands in front
 pub put_before : (front so_far new one : List ℕ) → new ≡ so_far ++ one → front ++ new ≡ (front ++ so_far) ++ one
@@ -29,15 +22,12 @@ module _ (calls : List ParamCall) (n : ℕ) (x : ParamCall) (lt : n < length cal
   params_text_more front =
       let so_far : RawParameters = map param_of_call (take n calls) in
       let one : List ℕ = param_text (key_text x.key) (ref_value x.value) in
-      put_before front (parameters_text so_far) _ one
-      (ap parameters_text (mapped_more param_of_call calls n x lt is) ∙ parameters_push so_far (param_of_call x))
+      put_before _ _ _ _ (ap parameters_text (mapped_more _ _ _ _ lt is) ∙ parameters_push _ _)
 
   -- and each is one
   pub are_params_more : AreParameters (map param_of_call (take n calls)) → IsTrue (is_key (key_text x.key))
       → IsBareValue (ref_value x.value) → AreParameters (map param_of_call (take (n + 1) calls))
-  are_params_more h k v =
-      subst AreParameters (sym (mapped_more param_of_call calls n x lt is))
-      (valid_push (map param_of_call (take n calls)) (param_of_call x) h k v)
+  are_params_more h k v = subst AreParameters (sym (mapped_more _ _ _ _ lt is)) (valid_push _ _ h k v)
 
 module _ {W K : Type 0} (w : Sink W) where
   -- more is written

@@ -1,7 +1,6 @@
 -- The text of a script parses back under each version that has its values.
-use Rattle.std.specs.Prelude.{Result, Ok, Err, OnOk}
-use Rattle.sfv_spec.specs.Values.{RawField, IsFieldValue}
-use Rattle.sfv_spec.specs.declared.field_kind.FieldKind.{FieldKind}
+use Rattle.std.proofs.Common.{Result, Ok, Err, OnOk}
+use Rattle.sfv_spec.specs.{Values.{RawField, IsFieldValue}, declared.field_kind.FieldKind.FieldKind}
 use Rattle.sfv_writer.proofs.ReadBack.{read_back}
 use Rattle.sfv_serializer.specs.Scripts.{IsReadBackWhereFit}
 

@@ -1,12 +1,8 @@
 -- ASCII, by the clauses of std and by a test of each byte.
-use Rattle.std.proofs.Common.{◌≡◌, ℕ, zero, suc, List, [], ◌∷◌, true, false, refl, arith}
-use Rattle.std.specs.Prelude.{Ok, Err, nat_lt, Bool, ◌&&◌, ◌<◌}
-use Rattle.std.specs.List.{list_all, list_any}
-use Rattle.std.specs.Str.{IsAscii, IsNotAscii}
-use Rattle.std.proofs.lemmas.Bool.Decides.{nat_tests}
-use Rattle.std.proofs.lemmas.List.Elements.{All-weaker}
-use Rattle.std.proofs.lemmas.Bool.{ltb-true}
-use Rattle.std.proofs.lemmas.List.Sums.{list_all-from_AllPass, AllPass-from_list_all}
+use Rattle.std.proofs.Common.{◌≡◌, ℕ, zero, suc, List, [], ◌∷◌, true, false, refl, arith, Ok, Err, nat_lt, Bool, ◌&&◌}
+use Rattle.std.proofs.Common.{◌<◌, IsAscii, ltb-true}
+use Rattle.std.{specs.List.{list_all, list_any}, specs.Str.IsNotAscii, proofs.lemmas.Bool.Decides.nat_tests}
+use Rattle.std.proofs.lemmas.List.{Elements.All-weaker, Sums.{list_all-from_AllPass, AllPass-from_list_all}}
 use Rattle.std.proofs.lemmas.Str.Ascii.{All-from_ascii, IsAscii-from_all}
 use Rattle.sfv_signatures.specs.SignatureBase.{is_line_break, checked}
 use Rattle.sfv_signatures.specs.declared.base_error.BaseErrorKind.TheVariants as kinds

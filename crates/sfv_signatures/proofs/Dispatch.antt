@@ -1,30 +1,17 @@
 -- The value of a field by its parameters and its lines, and of a component of a message.
-use Rattle.std.proofs.Common.{◌≡◌, ℕ, List, [], ◌∷◌, refl, sym, subst, inr, map}
-use Rattle.std.specs.Prelude.{Option, Some, None, MatchOption, Bool, true, false, Result, Ok, Err, slice_get}
-use Rattle.std.specs.Prelude.{if◌then◌else◌, option_and_then, codes}
-use Rattle.sfv.specs.Canonical.{canonical}
-use Rattle.sfv.specs.Types.{FieldKind, dictionary_field}
-use Rattle.sfv.specs.Values.{RawParameters}
-use Rattle.std.specs.Borrow.{Bor}
-use Rattle.std.specs.declared.alloc.Global.{Global}
-use Rattle.std.specs.declared.string.String.{String}
-use Rattle.std.specs.Char.{is_ascii_uppercase}
-use Rattle.std.specs.List.{list_any}
-use Rattle.http_header.specs.HeaderMap.{Entries}
-use Rattle.http_header.specs.Token.{lowercase}
-use Rattle.http_header.specs.FieldValue.{FieldValue}
+use Rattle.std.proofs.Common.{◌≡◌, ℕ, List, [], ◌∷◌, refl, sym, subst, inr, map, Option, Some, None, MatchOption, Bool}
+use Rattle.std.proofs.Common.{true, false, Result, Ok, Err, slice_get, if◌then◌else◌, option_and_then, codes, Bor}
+use Rattle.std.specs.{Char.is_ascii_uppercase, List.list_any}
+use Rattle.std.specs.declared.{alloc.Global.Global, string.String.String}
+use Rattle.http_header.specs.{FieldValue.FieldValue, HeaderMap.Entries, Token.lowercase}
+use Rattle.sfv.specs.{Canonical.canonical, Types.{FieldKind, dictionary_field}, Values.RawParameters}
 use Rattle.sfv_headers.specs.Lines.{lines_in}
-use Rattle.sfv_signatures.specs.declared.base_error.BaseErrorKind.{BaseErrorKind}
-use Rattle.sfv_signatures.specs.declared.base_error.BaseErrorKind.TheVariants as kinds
-use Rattle.sfv_signatures.specs.declared.http_message.HttpMessage.{HttpMessage}
-use Rattle.sfv_signatures.specs.SignatureBase.{IsChecked}
 use Rattle.sfv_signatures.specs.Components.{UnlessMemory, AppendsValue, lines_from}
 use Rattle.sfv_signatures.specs.HttpMessages.{HttpGives, ValueGives, is_derived, fault_of, type_in, section_of, part_of}
-use Rattle.sfv_signatures.specs.HttpMessages.{ParsedGives, FieldGives, LinesGive, member_of, plain_text, byte_text}
-use Rattle.sfv_signatures.specs.HttpMessages.{has, string_param}
-
-Gives : Type 1
-Gives = Result (List ℕ) BaseErrorKind → Type 0
+use Rattle.sfv_signatures.specs.HttpMessages.{ParsedGives, FieldGives, LinesGive, member_of, plain_text, has}
+use Rattle.sfv_signatures.specs.{HttpMessages.string_param, SignatureBase.IsChecked}
+use Rattle.sfv_signatures.specs.declared.{base_error.BaseErrorKind.BaseErrorKind, http_message.HttpMessage.HttpMessage}
+use Rattle.sfv_signatures.specs.declared.base_error.BaseErrorKind.TheVariants as kinds
 
 -- a field of one type
 pub of_kind : {T : Type 0} (kind k : FieldKind) (t : List ℕ) (old new : String Global) (r : Result T BaseErrorKind)
@@ -37,12 +24,6 @@ of_kind kind k t old new r h x =
 -- ---- the value by its form
 
 module _ {T : Type 0} (old new : String Global) (r : Result T BaseErrorKind) where
-  pub with_bs : (bs : Bool) (key : Option (List ℕ)) (sf : Bool) (type : Option FieldKind) (lines : List (List ℕ))
-      → bs ≡ true → AppendsValue (λ r. r ≡ Ok (byte_text lines)) old new r
-      → AppendsValue (FieldGives bs key sf type lines) old new r
-  with_bs bs key sf type lines h x =
-      subst (λ b. AppendsValue (FieldGives b key sf type lines) old new r) (sym h) x
-
   pub with_key : (bs : Bool) (key : Option (List ℕ)) (sf : Bool) (type : Option FieldKind) (lines : List (List ℕ))
       (k t : List ℕ) → bs ≡ false → key ≡ Some k → t ≡ plain_text lines
       → AppendsValue (ParsedGives dictionary_field (member_of k) t) old new r
@@ -51,14 +32,6 @@ module _ {T : Type 0} (old new : String Global) (r : Result T BaseErrorKind) whe
       subst (λ b. AppendsValue (FieldGives b key sf type lines) old new r) (sym h)
       (subst (λ (o : Option (List ℕ)). AppendsValue (FieldGives false o sf type lines) old new r) (sym some)
       (subst (λ t. AppendsValue (ParsedGives dictionary_field (member_of k) t) old new r) e x))
-
-  pub as_it_is : (bs : Bool) (key : Option (List ℕ)) (sf : Bool) (type : Option FieldKind) (lines : List (List ℕ))
-      → bs ≡ false → key ≡ None → sf ≡ false → AppendsValue (λ r. r ≡ Ok (plain_text lines)) old new r
-      → AppendsValue (FieldGives bs key sf type lines) old new r
-  as_it_is bs key sf type lines h none k x =
-      subst (λ b. AppendsValue (FieldGives b key sf type lines) old new r) (sym h)
-      (subst (λ (o : Option (List ℕ)). AppendsValue (FieldGives false o sf type lines) old new r) (sym none)
-      (subst (λ b. AppendsValue (FieldGives false None b type lines) old new r) (sym k) x))
 
   pub with_sf : (bs : Bool) (key : Option (List ℕ)) (sf : Bool) (type : Option FieldKind) (lines : List (List ℕ))
       (kind : FieldKind) (t : List ℕ) → bs ≡ false → key ≡ None → sf ≡ true → type ≡ Some kind → t ≡ plain_text lines

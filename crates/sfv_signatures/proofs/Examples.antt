@@ -1,8 +1,6 @@
 -- What the definitions say of one message.
-use Rattle.std.proofs.Common.{◌≡◌, ℕ, List, [], ◌∷◌, ◌++◌, refl, pos, codes, lit<}
-use Rattle.std.specs.Fmt.{digits}
-use Rattle.sfv.specs.Values.{RawItem, RawInnerList, integer, string}
-use Rattle.sfv.specs.Ordered.{last_of, collapse}
+use Rattle.std.{proofs.Common.{◌≡◌, ℕ, List, [], ◌∷◌, ◌++◌, refl, pos, codes, lit<}, specs.Fmt.digits}
+use Rattle.sfv.specs.{Ordered.{last_of, collapse}, Values.{RawItem, RawInnerList, integer, string}}
 use Rattle.sfv_signatures.specs.SignatureBase.{base_text, AreComponents}
 
 -- a name without parameters

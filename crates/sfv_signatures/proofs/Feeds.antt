@@ -1,10 +1,8 @@
 -- Lines, each with a line feed after it, and a last line without one.
-use Rattle.std.proofs.Common.{◌≡◌, ℕ, List, [], ◌∷◌, ◌++◌, map, refl, sym, ap, ◌∙◌, append_assoc}
-use Rattle.std.specs.Prelude.{flat_map, codes, Bool, not, ◌==◌}
-use Rattle.std.specs.List.{list_all, AllByRecursion}
-use Rattle.std.proofs.lemmas.Bool.{true≢false, and_parts}
-use Rattle.sfv.specs.Ascii.{byte}
-use Rattle.sfv.specs.Texts.{RunOf}
+use Rattle.std.proofs.Common.{◌≡◌, ℕ, List, [], ◌∷◌, ◌++◌, map, refl, sym, ap, ◌∙◌, append_assoc, flat_map, codes, Bool}
+use Rattle.std.proofs.Common.{not, ◌==◌, true≢false}
+use Rattle.std.{specs.List.{list_all, AllByRecursion}, proofs.lemmas.Bool.and_parts}
+use Rattle.sfv.specs.{Ascii.byte, Texts.RunOf}
 
 -- c is not a line feed
 abbrev pub is_line_byte : ℕ → Bool

@@ -1,25 +1,16 @@
 -- The values of fields that parse, or do not.
-use Rattle.std.proofs.Common.{◌≡◌, ℕ, List, [], ◌∷◌, ◌++◌, Bool, true, false, refl, sym, ◌∙◌, ap, subst, inl, inr, arith, length}
-use Rattle.std.specs.Prelude.{nat_lt, not, position, Option, Some, None, Result, Ok, Err, IsTrue, option_map, ok_or}
-use Rattle.std.specs.List.{list_all, position_or_len, AllByRecursion}
-use Rattle.std.proofs.lemmas.Bool.Decides.{nat_tests}
-use Rattle.std.proofs.lemmas.Bool.{and_parts, false≢true}
-use Rattle.sfv.specs.Classes.{is_key, is_key_start, is_key_inner, first_outside}
-use Rattle.sfv.specs.InvalidTexts.{IsInvalidKey}
-use Rattle.sfv.specs.Canonical.{member_text}
-use Rattle.sfv.specs.Errors.{index_of}
-use Rattle.sfv.specs.Ordered.{last_of}
-use Rattle.sfv.specs.Parsers.{IsParseError}
-use Rattle.sfv.specs.Statements.{IsParsedAs}
-use Rattle.sfv.specs.Types.{FieldKind, dictionary_field, Rfc9651, Error}
-use Rattle.sfv.specs.Values.{RawField, RawMember, IsMember}
-use Rattle.sfv.proofs.Callers.{last_of-split, read_is_value}
-use Rattle.sfv_signatures.specs.declared.base_error.BaseErrorKind.{BaseErrorKind}
-use Rattle.sfv_signatures.specs.declared.base_error.BaseErrorKind.TheVariants as kinds
-use Rattle.sfv_signatures.specs.SignatureBase.{IsChecked}
+use Rattle.std.proofs.Common.{◌≡◌, ℕ, List, [], ◌∷◌, ◌++◌, Bool, true, false, refl, sym, ◌∙◌, ap, subst, inl, inr}
+use Rattle.std.proofs.Common.{arith, length, nat_lt, not, position, Option, Some, None, Result, Err, IsTrue, option_map}
+use Rattle.std.{proofs.Common.ok_or, specs.List.{list_all, position_or_len, AllByRecursion}}
+use Rattle.std.proofs.lemmas.Bool.{and_parts, false≢true, Decides.nat_tests}
+use Rattle.sfv.specs.{Canonical.member_text, Classes.{is_key, is_key_start, is_key_inner, first_outside}}
+use Rattle.sfv.specs.{Errors.index_of, InvalidTexts.IsInvalidKey, Ordered.last_of}
+use Rattle.sfv.specs.{Parsers.IsParseError, Statements.IsParsedAs, Types.{FieldKind, dictionary_field, Rfc9651, Error}}
+use Rattle.sfv.{specs.Values.{RawField, RawMember, IsMember}, proofs.Callers.{last_of-split, read_is_value}}
 use Rattle.sfv_signatures.specs.Components.{UnlessMemory}
-use Rattle.sfv_signatures.specs.HttpMessages.{ParsedGives, member_of}
-use Rattle.sfv_signatures.specs.ParseFaults.{parse_fault}
+use Rattle.sfv_signatures.specs.{HttpMessages.{ParsedGives, member_of}, ParseFaults.parse_fault}
+use Rattle.sfv_signatures.specs.{SignatureBase.IsChecked, declared.base_error.BaseErrorKind.BaseErrorKind}
+use Rattle.sfv_signatures.specs.declared.base_error.BaseErrorKind.TheVariants as kinds
 
 -- ---- fields that do not parse
 
@@ -62,12 +53,6 @@ pub not_a_key : (key t : List ℕ) (members : List (List ℕ × RawMember)) → 
     → (IsTrue (is_key key) → ⊥) → IsChecked (ParsedGives dictionary_field (member_of key) t) (Err kinds.NoMember)
 not_a_key key t members h other = no_member key t members h
     (absent_key key members (read_is_value Rfc9651 dictionary_field t members h).parts other)
-
-pub found_member_gives : (key t : List ℕ) (members : List (List ℕ × RawMember)) (m : RawMember)
-    → IsParsedAs Rfc9651 dictionary_field t members → last_of key members ≡ Some m
-    → ParsedGives dictionary_field (member_of key) t (Ok (member_text m))
-found_member_gives key t members m h some =
-    inl (members, h, sym (ap (λ (o : Option RawMember). ok_or (option_map member_text o) kinds.NoMember) some))
 
 -- ---- texts that are not keys
 

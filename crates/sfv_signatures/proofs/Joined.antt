@@ -1,17 +1,11 @@
 -- Lines that are joined.
 use Rattle.std.proofs.Common.{◌≡◌, ℕ, Bool, true, false, List, [], ◌∷◌, ◌++◌, refl, sym, ◌∙◌, ap, inl, inr}
-use Rattle.std.proofs.Common.{append_assoc, append-nil}
-use Rattle.std.specs.Prelude.{codes, nat_lt, Ok, Err, IsUtf8}
-use Rattle.std.specs.List.{list_all}
-use Rattle.std.proofs.lemmas.Bool.{and_parts, and_from}
-use Rattle.std.proofs.lemmas.Str.{IsUtf8-from_ascii}
-use Rattle.sfv.specs.Texts.{joined}
-use Rattle.sfv.specs.Written.{with_separators, separator_before}
-use Rattle.sfv_signatures.specs.declared.base_error.BaseErrorKind.{BaseErrorKind}
+use Rattle.std.{proofs.Common.{append_assoc, append-nil, codes, nat_lt, Ok, Err, IsUtf8}, specs.List.list_all}
+use Rattle.std.proofs.lemmas.{Bool.{and_parts, and_from}, Str.IsUtf8-from_ascii}
+use Rattle.sfv.specs.{Texts.joined, Written.{with_separators, separator_before}}
+use Rattle.sfv_signatures.specs.{Components.UnlessMemory, SignatureBase.{checked, IsChecked}}
+use Rattle.sfv_signatures.{specs.declared.base_error.BaseErrorKind.BaseErrorKind, proofs.Ascii.ascii_from}
 use Rattle.sfv_signatures.specs.declared.base_error.BaseErrorKind.TheVariants as kinds
-use Rattle.sfv_signatures.specs.SignatureBase.{checked, IsChecked}
-use Rattle.sfv_signatures.specs.Components.{UnlessMemory}
-use Rattle.sfv_signatures.proofs.Ascii.{ascii_from}
 
 -- ---- parts with a separator between neighbours
 
@@ -36,20 +30,6 @@ pub record IsSoFar (old new : List ℕ) (is_first : Bool) (left all : List (List
   pub done : List ℕ
   pub text : new ≡ old ++ done
   pub whole : done ++ with_separators is_first (codes ", ") left ≡ with_separators true (codes ", ") all
-
-pub none_yet : (old : List ℕ) (all : List (List ℕ)) → IsSoFar old old true all all
-none_yet old all = record { done = []; text = sym (append-nil old); whole = refl }
-
-pub one_more : (old new next : List ℕ) (is_first : Bool) (x : List ℕ) (left all : List (List ℕ))
-    → IsSoFar old new is_first (x ∷ left) all → next ≡ new ++ (separator_before is_first (codes ", ") ++ x)
-    → IsSoFar old next false left all
-one_more old new next is_first x left all so_far e = record {
-  done = so_far.done ++ (separator_before is_first (codes ", ") ++ x);
-  text = e ∙ ap (λ (t : List ℕ). t ++ (separator_before is_first (codes ", ") ++ x)) so_far.text
-      ∙ append_assoc old so_far.done (separator_before is_first (codes ", ") ++ x);
-  whole = append_assoc so_far.done (separator_before is_first (codes ", ") ++ x) (with_separators false (codes ", ") left)
-      ∙ so_far.whole;
-}
 
 pub all_joined : (old new : List ℕ) (is_first : Bool) (all : List (List ℕ)) → IsSoFar old new is_first [] all
     → new ≡ old ++ joined (codes ", ") all

@@ -1,18 +1,12 @@
 -- The lines of the first identifiers.
-use Rattle.std.proofs.Common.{◌≡◌, ℕ, ◌+◌, ◌<◌, ◌≤◌, zero, suc, List, [], ◌∷◌, ◌++◌, length, map, take, refl, sym, ◌∙◌, ap}
-use Rattle.std.proofs.Common.{append_assoc, inl, inr, subst, arith}
-use Rattle.std.specs.Prelude.{flat_map, codes, slice_get, option_map, Some, Ok, Err}
-use Rattle.std.specs.List.{zip, slice_index_or}
-use Rattle.std.proofs.lemmas.List.{append-nil, take_all, take-map}
-use Rattle.std.proofs.lemmas.Option.{slice_get-map, slice_get_read}
-use Rattle.sfv.specs.Types.{list_field}
-use Rattle.sfv.specs.Values.{RawItem, RawInnerList, inner_list}
-use Rattle.sfv.specs.Statements.{IsValue}
-use Rattle.sfv_signatures.specs.declared.base_error.BaseErrorKind.{BaseErrorKind}
-use Rattle.sfv_signatures.specs.SignatureBase.{Message, component_line, params_line, Gives, HaveValues}
-use Rattle.sfv_signatures.specs.SignatureBase.{IsBaseOf, BreaksFirst}
+use Rattle.std.proofs.Common.{◌≡◌, ℕ, ◌+◌, ◌<◌, zero, suc, List, [], ◌∷◌, ◌++◌, length, map, take, refl, sym, ◌∙◌, ap}
+use Rattle.std.proofs.Common.{append_assoc, inl, inr, subst, arith, flat_map, codes, slice_get, option_map, Some, Ok}
+use Rattle.std.proofs.Common.{Err, zip, slice_index_or, append-nil}
+use Rattle.std.proofs.lemmas.{List.take-map, Option.{slice_get-map, slice_get_read}}
+use Rattle.sfv.specs.Values.{RawItem, RawInnerList}
 use Rattle.sfv_signatures.specs.Components.{UnlessMemory, HasAppended, IsBaseError}
-use Rattle.sfv_signatures.specs.declared.base_error.BaseError.{BaseError}
+use Rattle.sfv_signatures.specs.SignatureBase.{Message, component_line, Gives, HaveValues, BreaksFirst}
+use Rattle.sfv_signatures.specs.declared.base_error.{BaseError.BaseError, BaseErrorKind.BaseErrorKind}
 use Rattle.sfv_signatures.proofs.Rules.{values_snoc, values_counted}
 
 -- a line with its line feed
@@ -24,9 +18,6 @@ pub record HasLines (message : Message) (is : List RawItem) (t : List ℕ) : Typ
   pub values : List (List ℕ)
   pub found : HaveValues message [] is values
   pub text : t ≡ flat_map fed_line (zip is values)
-
-pub no_lines : (message : Message) (t : List ℕ) → t ≡ [] → HasLines message [] t
-no_lines message t h = record { values = []; found = tt; text = h }
 
 zip_snoc : (is : List RawItem) (vs : List (List ℕ)) (i : RawItem) (v : List ℕ) → length vs ≡ length is
     → flat_map fed_line (zip (is ++ i ∷ []) (vs ++ v ∷ [])) ≡ flat_map fed_line (zip is vs) ++ fed_line (i, v)
@@ -44,15 +35,6 @@ one_more message is i v t u h k e = record {
   found = values_snoc message [] is h.values i v h.found k;
   text = e ∙ ap (λ s. s ++ fed_line (i, v)) h.text
       ∙ sym (zip_snoc is h.values i v (values_counted message [] is h.values h.found));
-}
-
-pub lined_base : (message : Message) (l : RawInnerList) (t u : List ℕ) → HasLines message l.items t
-    → IsValue list_field (inner_list l ∷ []) → u ≡ t ++ params_line l → IsBaseOf message l u
-lined_base message l t u h k e = record {
-  list = k;
-  values = h.values;
-  found = h.found;
-  text = e ∙ ap (λ s. s ++ params_line l) h.text;
 }
 
 -- ---- the identifier at an index
@@ -79,11 +61,6 @@ pub step_fault : (message : Message) (l : RawInnerList) (n : ℕ) (t : List ℕ)
     kind → UnlessMemory (λ kind. BreaksFirst message l kind n) kind
 step_fault message l n t kind lines (inl memory) = inl memory
 step_fault message l n t kind lines (inr (i, at, rule)) = inr (i, at, rule, (lines.values, lines.found))
-
--- all lines
-pub all_lines : (message : Message) (l : RawInnerList) (n : ℕ) (t : List ℕ) → length l.items ≤ n
-    → HasLines message (take n l.items) t → HasLines message l.items t
-all_lines message l n t h lines = subst (λ (is : List RawItem). HasLines message is t) (take_all n l.items h) lines
 
 -- the error at an index, after the lines before it
 pub error_at : (message : Message) (l : RawInnerList) (n : ℕ) (t : List ℕ) (e : BaseError)

@@ -1,12 +1,9 @@
 -- The line of one identifier, and the last line.
-use Rattle.std.proofs.Common.{◌≡◌, ℕ, List, ◌++◌, sym, subst, append_assoc, inl, inr}
-use Rattle.std.specs.Prelude.{◌≢◌, Any, Result, Ok, Err}
+use Rattle.std.proofs.Common.{◌≡◌, ℕ, List, ◌++◌, sym, subst, append_assoc, inl, inr, ◌≢◌, Any, Result, Ok, Err, codes}
+use Rattle.std.proofs.Common.{MatchResult, IsErrAnd}
 use Rattle.sfv.specs.Values.{BareValue, string, RawParameters, RawItem}
+use Rattle.sfv_signatures.specs.{Components.UnlessMemory, SignatureBase.{Message, IsChecked, GivesFor, AreSame, Gives}}
 use Rattle.sfv_signatures.specs.declared.base_error.BaseErrorKind.{BaseErrorKind}
-use Rattle.sfv_signatures.specs.SignatureBase.{Message, IsChecked, GivesFor, AreSame, Gives}
-use Rattle.sfv_signatures.specs.Components.{UnlessMemory}
-use Rattle.std.specs.Prelude.{codes, MatchResult}
-use Rattle.std.specs.Result.{IsErrAnd}
 
 pub two_parts : (a b c s t : List ℕ) → b ≡ a ++ s → c ≡ b ++ t → c ≡ a ++ (s ++ t)
 two_parts a b c s t h k = rw (k, h) (append_assoc a s t)

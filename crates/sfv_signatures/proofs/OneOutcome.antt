@@ -1,16 +1,13 @@
 -- An HTTP message has one outcome for each component.
-use Rattle.std.proofs.Common.{◌≡◌, ℕ, List, Bool, true, false, sym, ◌∙◌, ap, inl, inr}
-use Rattle.std.specs.Prelude.{Option, Some, None, MatchOption, Result, Ok, Err, codes, slice_get}
-use Rattle.sfv.specs.Canonical.{canonical}
-use Rattle.sfv.specs.Types.{FieldKind, dictionary_field, Rfc9651}
-use Rattle.sfv.specs.Values.{RawParameters, RawField}
-use Rattle.sfv.proofs.Callers.{one_value}
-use Rattle.sfv_signatures.specs.declared.base_error.BaseErrorKind.{BaseErrorKind}
+use Rattle.std.proofs.Common.{◌≡◌, ℕ, List, Bool, true, false, sym, ◌∙◌, ap, inl, inr, Option, Some, None, MatchOption}
+use Rattle.std.proofs.Common.{Result, Ok, Err, codes, slice_get}
+use Rattle.sfv.specs.{Canonical.canonical, Types.{FieldKind, dictionary_field, Rfc9651}}
+use Rattle.sfv.{specs.Values.{RawParameters, RawField}, proofs.Callers.one_value}
+use Rattle.sfv_signatures.specs.HttpMessages.{has, string_param, is_derived, fault_of, member_of, plain_text}
+use Rattle.sfv_signatures.specs.HttpMessages.{ParsedGives, FieldGives, LinesGive, lines_of, type_in, ValueGives}
+use Rattle.sfv_signatures.specs.{HttpMessages.HttpGives, SignatureBase.HasOneOutcome}
+use Rattle.sfv_signatures.specs.declared.{base_error.BaseErrorKind.BaseErrorKind, http_message.HttpMessage.HttpMessage}
 use Rattle.sfv_signatures.specs.declared.base_error.BaseErrorKind.TheVariants as kinds
-use Rattle.sfv_signatures.specs.declared.http_message.HttpMessage.{HttpMessage}
-use Rattle.sfv_signatures.specs.SignatureBase.{HasOneOutcome}
-use Rattle.sfv_signatures.specs.HttpMessages.{has, string_param, is_derived, fault_of, member_of, plain_text, ParsedGives}
-use Rattle.sfv_signatures.specs.HttpMessages.{FieldGives, LinesGive, lines_of, type_in, ValueGives, HttpGives}
 
 parsed_one : (kind : FieldKind) (write : RawField kind → Result (List ℕ) BaseErrorKind) (t : List ℕ)
     (r s : Result (List ℕ) BaseErrorKind) → ParsedGives kind write t r → ParsedGives kind write t s → r ≡ s

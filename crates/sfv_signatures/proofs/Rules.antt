@@ -1,18 +1,14 @@
 -- The rules of identifiers, over lists.
-use Rattle.std.proofs.Common.{◌≡◌, ℕ, zero, suc, List, [], ◌∷◌, ◌++◌, length, refl, sym, ◌∙◌, ap, subst, true, false, arith}
-use Rattle.std.proofs.Common.{inl, inr, append_assoc}
-use Rattle.std.specs.Prelude.{Bool, not, Some, Result, Ok, Err, if◌then◌else◌, nat_lt, slice_get, take}
-use Rattle.std.specs.List.{list_any, list_all, AllByRecursion}
-use Rattle.std.proofs.lemmas.List.{append-nil}
-use Rattle.std.proofs.lemmas.Bool.{and_from, or_parts}
-use Rattle.sfv.specs.Texts.{RunOf}
-use Rattle.sfv.specs.Values.{BareValue, integer, decimal, string, token, byte_sequence, boolean, date}
-use Rattle.sfv.specs.Values.{display_string, RawParameters, RawItem, RawInnerList}
-use Rattle.sfv_signatures.specs.declared.base_error.BaseErrorKind.{BaseErrorKind}
-use Rattle.sfv_signatures.specs.declared.base_error.BaseErrorKind.TheVariants as kinds
+use Rattle.std.proofs.Common.{◌≡◌, ℕ, zero, suc, List, [], ◌∷◌, ◌++◌, length, refl, sym, ◌∙◌, ap, subst, true, false}
+use Rattle.std.proofs.Common.{arith, inl, inr, append_assoc, Bool, not, Some, Result, Ok, Err, if◌then◌else◌, nat_lt}
+use Rattle.std.proofs.Common.{slice_get, take, append-nil}
+use Rattle.std.{specs.List.{list_any, list_all, AllByRecursion}, proofs.lemmas.Bool.{and_from, or_parts}}
+use Rattle.sfv.specs.Field.{BareValue, integer, decimal, string, token, byte_sequence, boolean, date, display_string}
+use Rattle.sfv.specs.{Field.{RawParameters, RawItem, RawInnerList}, Texts.RunOf}
 use Rattle.sfv_signatures.specs.SignatureBase.{Message, is_line_break, checked, GivesFor, Gives, HaveValues, IsBaseOf}
 use Rattle.sfv_signatures.specs.SignatureBase.{BreaksFirst, AreComponents, HasOneOutcome, BaseOrRule}
-use Rattle.sfv_signatures.proofs.Feeds.{is_line_byte}
+use Rattle.sfv_signatures.{specs.declared.base_error.BaseErrorKind.BaseErrorKind, proofs.Feeds.is_line_byte}
+use Rattle.sfv_signatures.specs.declared.base_error.BaseErrorKind.TheVariants as kinds
 
 -- ---- one identifier
 

@@ -1,21 +1,13 @@
 -- The signature base is unambiguous.
-use Rattle.std.proofs.Common.{◌≡◌, ℕ, List, [], ◌∷◌, ◌++◌, length, map, refl, sym, ◌∙◌, subst, true, arith}
-use Rattle.std.specs.Prelude.{codes, bytes_eq}
-use Rattle.std.specs.List.{zip, AllByRecursion}
-use Rattle.std.proofs.lemmas.List.{append_cancel_left}
-use Rattle.std.proofs.lemmas.Bool.Decides.{nat_tests}
-use Rattle.std.proofs.lemmas.Slice.Eq.{bytes_eq-Decides}
+use Rattle.std.proofs.Common.{◌≡◌, ℕ, List, [], ◌∷◌, ◌++◌, length, map, refl, sym, ◌∙◌, subst, true, arith, codes}
+use Rattle.std.{proofs.Common.{bytes_eq, zip}, specs.List.AllByRecursion}
+use Rattle.std.proofs.lemmas.{Bool.Decides.nat_tests, List.append_cancel_left, Slice.Eq.bytes_eq-Decides}
+use Rattle.sfv.specs.{Canonical.{item_text, inner_list_text}, Classes.is_string_byte, Texts.RunOf, Types.list_field}
 use Rattle.sfv.specs.Values.{RawItem, RawInnerList, inner_list, IsItem}
-use Rattle.sfv.specs.Classes.{is_string_byte}
-use Rattle.sfv.specs.Types.{list_field}
-use Rattle.sfv.specs.Canonical.{item_text, inner_list_text}
-use Rattle.sfv.proofs.Callers.{equal_texts_lem}
-use Rattle.sfv_signatures.specs.SignatureBase.{component_line, params_line, AreComponents, OneBase}
-use Rattle.sfv_signatures.specs.SignatureBase.{Message, IsBaseOf, AgreeOn, OneMessage, HaveValues}
-use Rattle.sfv_signatures.proofs.Rules.{base_components}
-use Rattle.sfv.proofs.Callers.{run_append, run_weaker, item_printable, inner_list_printable}
-use Rattle.sfv.specs.Texts.{RunOf}
-use Rattle.sfv_signatures.proofs.Feeds.{is_line_byte, Line, same_lines}
+use Rattle.sfv.proofs.Callers.{equal_texts_lem, run_append, run_weaker, item_printable, inner_list_printable}
+use Rattle.sfv_signatures.specs.SignatureBase.{component_line, params_line, AreComponents, OneBase, Message, IsBaseOf}
+use Rattle.sfv_signatures.specs.SignatureBase.{AgreeOn, OneMessage, HaveValues}
+use Rattle.sfv_signatures.proofs.{Feeds.{is_line_byte, Line, same_lines}, Rules.base_components}
 
 printable_line : (c : ℕ) → is_string_byte c ≡ true → is_line_byte c ≡ true
 printable_line c h = grind (arith, nat_tests)

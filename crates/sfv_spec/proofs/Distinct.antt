@@ -1,17 +1,14 @@
 -- A field is its own ordered value if and only if no key occurs twice in it.
-use Rattle.std.proofs.Common.{◌≡◌, ℕ, List, map, sym, ◌∙◌, ap, subst}
-use Rattle.std.specs.Prelude.{IsTrue}
-use Rattle.std.specs.List.{AllByRecursion}
-use Rattle.std.proofs.lemmas.Map.Made.{keys_of-map_values}
+use Rattle.std.proofs.Common.{◌≡◌, ℕ, List, map, sym, ◌∙◌, ap, subst, IsTrue}
+use Rattle.std.{specs.List.AllByRecursion, proofs.lemmas.Map.Made.keys_of-map_values}
+use Rattle.sfv_spec.specs.Ordered.{collapse, ordered_item, ordered_member, ordered}
 use Rattle.sfv_spec.specs.Values.{RawItem, RawInnerList, RawMember, item, inner_list, RawField}
 use Rattle.sfv_spec.specs.declared.field_kind.FieldKind.{FieldKind}
 use Rattle.sfv_spec.specs.declared.field_kind.FieldKind.TheVariants.{Item as item_field, List as list_field}
 use Rattle.sfv_spec.specs.declared.field_kind.FieldKind.TheVariants.{Dictionary as dictionary_field}
-use Rattle.sfv_spec.specs.Ordered.{collapse, ordered_item, ordered_member, ordered}
-use Rattle.sfv_spec.proofs.Repeats.{no_repeats, IsOrderedItem, IsOrderedMember, IsOrdered}
-use Rattle.sfv_spec.proofs.Marks.{keys}
-use Rattle.sfv_spec.proofs.Each.{each, each_within, each_map, map_own}
 use Rattle.sfv_spec.proofs.Collapse.{collapse-distinct, no_repeats-collapse}
+use Rattle.sfv_spec.proofs.Each.{each, each_within, each_map, map_own}
+use Rattle.sfv_spec.proofs.{Marks.keys, Repeats.{no_repeats, IsOrderedMember, IsOrdered}}
 
 -- ---- parts that are their own ordered values
 
@@ -49,10 +46,7 @@ ordered_same dictionary_field ms h = dictionary_own ms h.0 (each_within (λ m k.
 -- no key stands twice in what is ordered
 is_ordered_member : (m : RawMember) → IsOrderedMember (ordered_member m)
 is_ordered_member (item i) = no_repeats-collapse i.parameters
-is_ordered_member (inner_list l) = (
-  each_map IsOrderedItem ordered_item l.items (each (λ i. no_repeats-collapse i.parameters) l.items),
-  no_repeats-collapse l.parameters,
-)
+is_ordered_member (inner_list l) = (each_map _ _ _ (each (λ i. no_repeats-collapse _) _), no_repeats-collapse _)
 
 pub is_ordered : (kind : FieldKind) (raw : RawField kind) → IsOrdered kind (ordered kind raw)
 is_ordered item_field i = no_repeats-collapse i.parameters
@@ -60,8 +54,7 @@ is_ordered list_field ms = each_map IsOrderedMember ordered_member ms (each is_o
 is_ordered dictionary_field ms = (
   subst (λ (ks : List (List ℕ)). IsTrue (no_repeats ks)) (sym (keys_of-map_values ordered_member (collapse ms)))
       (no_repeats-collapse ms),
-  each_map (λ m. IsOrderedMember m.1) (λ (m : List ℕ × RawMember). (m.0, ordered_member m.1)) (collapse ms)
-      (each (λ m. is_ordered_member m.1) (collapse ms)),
+  each_map _ _ _ (each (λ m. is_ordered_member _) _),
 )
 
 -- both directions

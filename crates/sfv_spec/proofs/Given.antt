@@ -1,11 +1,7 @@
 -- A first value that doesn't fit a version.
-use Rattle.std.proofs.Common.{◌≡◌, not, List, [], ◌∷◌, ◌++◌, refl}
-use Rattle.std.specs.Prelude.{Some}
-use Rattle.std.specs.List.{find}
-use Rattle.std.proofs.lemmas.List.Folds.{find-append}
+use Rattle.std.proofs.{Common.{◌≡◌, not, List, [], ◌∷◌, ◌++◌, refl, Some, find}, lemmas.List.Folds.find-append}
 use Rattle.sfv_spec.specs.Values.{BareValue, AllFit, fits_bare}
-use Rattle.sfv_spec.specs.declared.version.Version.{Version}
-use Rattle.sfv_spec.specs.declared.version.Version.TheVariants.{Rfc9651}
+use Rattle.sfv_spec.specs.declared.version.Version.{Version, TheVariants.Rfc9651}
 
 -- a value that is found is found in front of others too, and after values that fit
 pub found_front : (version : Version) (bs cs : List BareValue) (b : BareValue)

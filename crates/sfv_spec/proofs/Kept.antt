@@ -1,19 +1,12 @@
 -- A state that keeps of each key only what its last pair gives, for callers: what is kept over the events of a field hangs
 -- on the last pairs alone, as the ordered value does.
-use Rattle.std.proofs.Common.{◌≡◌, ℕ, List, [], ◌∷◌, false, refl, ap, subst, ◌∙◌, inl, inr}
-use Rattle.std.specs.Prelude.{bytes_eq, fold, map, Option, Some, None, option_map, unwrap_or}
-use Rattle.std.specs.Option.{option_or}
-use Rattle.std.specs.List.{AllByRecursion}
-use Rattle.std.proofs.lemmas.Bool.{cases_Bool}
-use Rattle.std.proofs.lemmas.List.Sums.{fold-append}
-use Rattle.std.proofs.lemmas.List.Folds.{fold-map}
-use Rattle.std.proofs.lemmas.Slice.Eq.{bytes_eq-Decides}
-use Rattle.sfv_spec.specs.Values.{RawParameters, RawMember}
-use Rattle.sfv_spec.specs.declared.field_kind.FieldKind.TheVariants.{Dictionary as dictionary_field}
+use Rattle.std.proofs.Common.{◌≡◌, ℕ, List, [], ◌∷◌, false, refl, ap, subst, ◌∙◌, inl, inr, bytes_eq, fold, map, Option}
+use Rattle.std.{proofs.Common.{Some, None, option_map, unwrap_or}, specs.List.AllByRecursion, specs.Option.option_or}
+use Rattle.std.proofs.lemmas.{Bool.cases_Bool, List.Folds.fold-map, List.Sums.fold-append, Slice.Eq.bytes_eq-Decides}
 use Rattle.sfv_spec.specs.Events.{TreeEvent, parameter, parameters_end, parameters_events, keyed_events, events}
-use Rattle.sfv_spec.specs.Ordered.{last_of}
-use Rattle.sfv_spec.proofs.Collapse.{or_none}
-use Rattle.sfv_spec.proofs.Runs.{IsInside}
+use Rattle.sfv_spec.specs.{Ordered.last_of, Values.{RawParameters, RawMember}}
+use Rattle.sfv_spec.specs.declared.field_kind.FieldKind.TheVariants.{Dictionary as dictionary_field}
+use Rattle.sfv_spec.proofs.{Collapse.or_none, Runs.IsInside}
 
 -- What is looked at is left alone by the pairs of other keys, and set by each pair of the key, wherever `holds` is true of
 -- the state, and so it stays. Then it is what the last pair of the key sets.

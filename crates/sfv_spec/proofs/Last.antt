@@ -1,18 +1,11 @@
 -- The last pair of a key, for callers: in a text, in what was read of it, and split off.
 use Rattle.std.proofs.Common.{◌≡◌, ℕ, List, [], ◌∷◌, ◌++◌, map, refl, ap, ◌∙◌, Bool, true, false, cond, ◌||◌, inl, inr}
-use Rattle.std.specs.Prelude.{bytes_eq, not, Option, Some, None, option_map}
-use Rattle.std.specs.Option.{option_or}
-use Rattle.std.specs.List.{list_any}
-use Rattle.std.specs.Map.{lookup}
-use Rattle.std.proofs.lemmas.Slice.Eq.{bytes_eq-Decides}
-use Rattle.std.proofs.lemmas.Bool.{and_parts, not-true, cases_Bool}
-use Rattle.std.proofs.lemmas.Option.{same_Some}
-use Rattle.sfv_spec.specs.Values.{RawMember}
-use Rattle.sfv_spec.specs.declared.field_kind.FieldKind.TheVariants.{Dictionary as dictionary_field}
-use Rattle.sfv_spec.specs.Ordered.{last_of, collapse, ordered, ordered_member}
-use Rattle.sfv_spec.proofs.Repeats.{no_repeats}
-use Rattle.sfv_spec.proofs.Marks.{keys}
-use Rattle.sfv_spec.proofs.Collapse.{last_of-absent, last_of-collapse, or_none}
+use Rattle.std.proofs.Common.{bytes_eq, not, Option, Some, None, option_map}
+use Rattle.std.specs.{List.list_any, Map.lookup, Option.option_or}
+use Rattle.std.proofs.lemmas.{Bool.{and_parts, not-true, cases_Bool}, Option.same_Some, Slice.Eq.bytes_eq-Decides}
+use Rattle.sfv_spec.specs.Ordered.{last_of, ordered, ordered_member}
+use Rattle.sfv_spec.specs.{Values.RawMember, declared.field_kind.FieldKind.TheVariants.Dictionary as dictionary_field}
+use Rattle.sfv_spec.proofs.{Collapse.{last_of-absent, last_of-collapse, or_none}, Marks.keys, Repeats.no_repeats}
 
 -- the value of each pair by a function
 abbrev pub over : {A B : Type 0} → (A → B) → List (List ℕ × A) → List (List ℕ × B)
@@ -33,8 +26,7 @@ last_of-over {A} f key ((k, v) ∷ ps) = rw (last_of-over f key ps) (go (last_of
 -- a dictionary that was read has under each key the last member of the text, its parameters ordered
 pub last_of-ordered : (key : List ℕ) (raw : List (List ℕ × RawMember))
     → last_of key (ordered dictionary_field raw) ≡ option_map ordered_member (last_of key raw)
-last_of-ordered key raw = last_of-over ordered_member key (collapse raw)
-    ∙ ap (option_map ordered_member) (last_of-collapse key raw)
+last_of-ordered key raw = last_of-over _ _ _ ∙ ap (option_map ordered_member) (last_of-collapse _ _)
 
 -- a key has no pair
 pub none-last_of : {A : Type 0} (key : List ℕ) (ps : List (List ℕ × A)) → last_of key ps ≡ None

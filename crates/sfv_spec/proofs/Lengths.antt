@@ -1,39 +1,29 @@
 -- The canonical text of a field is at most 8/5 as long as any text of it.
 use Rattle.std.proofs.Common.{◌≡◌, ℕ, zero, suc, ◌<◌, ◌≤◌, ◌+◌, ◌-◌, ◌*◌, ◌/◌, ◌%◌, ◌^◌, List, [], ◌∷◌, ◌++◌, length}
-use Rattle.std.proofs.Common.{map, refl, sym, ◌∙◌, ap, Bool, true, false, inl, inr, arith, ℤ, pos}
-use Rattle.std.specs.Prelude.{not, codes, flat_map, bytes_eq, filter, Option, Some, None, unwrap_or}
-use Rattle.std.specs.Prelude.{decimal as decimal_digits}
-use Rattle.std.specs.Fmt.{signed_decimal}
-use Rattle.std.proofs.lemmas.Bool.{true≢false}
-use Rattle.std.proofs.lemmas.Bool.Decides.{nat_tests}
-use Rattle.std.proofs.lemmas.Fmt.{length-decimal-le}
-use Rattle.std.proofs.lemmas.List.{length-append, length-map, length-replicate}
-use Rattle.std.proofs.lemmas.Slice.Eq.{bytes_eq-Decides}
-use Rattle.std.proofs.lemmas.Str.Parse.{digits_value_short}
-use Rattle.sfv_spec.specs.Numbers.{AreDigits, place_value, signed, text_if, IsIntegerText, IsDecimalText}
-use Rattle.sfv_spec.specs.Canonical.{fraction_digits, decimal_text, string_piece, display_piece, bare_text, value_text, parameters_text, item_text, inner_list_text, member_text, dictionary_member_text, canonical}
+use Rattle.std.proofs.Common.{map, refl, sym, ◌∙◌, ap, Bool, true, false, inl, inr, arith, ℤ, pos, not, codes, flat_map}
+use Rattle.std.proofs.Common.{bytes_eq, filter, Option, Some, None, unwrap_or, decimal as decimal_digits, true≢false}
+use Rattle.std.{proofs.Common.length-append, specs.Fmt.signed_decimal, proofs.lemmas.Bool.cond_both}
+use Rattle.std.proofs.lemmas.{Bool.Decides.nat_tests, Fmt.length-decimal-le, List.{length-map, length-replicate}}
+use Rattle.std.proofs.lemmas.{List.Elements.filter-append, Slice.Eq.bytes_eq-Decides, Str.Parse.digits_value_short}
 use Rattle.sfv_spec.specs.Base64.{IsBase64Text, base64_text, bits}
-use Rattle.sfv_spec.specs.Strings.{IsStringPiece, IsDisplayPiece}
+use Rattle.sfv_spec.specs.Canonical.{fraction_digits, decimal_text, string_piece, display_piece, bare_text, value_text}
+use Rattle.sfv_spec.specs.Canonical.{parameters_text, item_text, inner_list_text, member_text, dictionary_member_text}
+use Rattle.sfv_spec.specs.Canonical.{canonical}
+use Rattle.sfv_spec.specs.Grammar.{IsBareText, IsValueText, IsKeyText, IsParametersText, IsItemText, Comma}
+use Rattle.sfv_spec.specs.Grammar.{AreInnerItemsText, IsInnerListText, IsMemberText, IsMemberValueText}
+use Rattle.sfv_spec.specs.Grammar.{IsDictionaryMemberText, AreMembersText, IsFieldText}
+use Rattle.sfv_spec.specs.Numbers.{AreDigits, place_value, signed, text_if, IsIntegerText, IsDecimalText}
+use Rattle.sfv_spec.specs.Ordered.{last_of, without, collapse, ordered_item, ordered_member, ordered}
+use Rattle.sfv_spec.specs.{Statements.LengthBound, Strings.{IsStringPiece, IsDisplayPiece}}
 use Rattle.sfv_spec.specs.Texts.{Exactly, ◌⨾◌, IsJoining, IsSeparated, joined}
 use Rattle.sfv_spec.specs.Values.{BareValue, integer, decimal, string, token, byte_sequence, boolean, date}
 use Rattle.sfv_spec.specs.Values.{display_string, RawParameters, RawItem, RawInnerList, RawMember, RawField, item}
-use Rattle.sfv_spec.specs.Values.{inner_list}
-use Rattle.sfv_spec.specs.declared.version.Version.{Version}
-use Rattle.sfv_spec.specs.declared.field_kind.FieldKind.{FieldKind}
+use Rattle.sfv_spec.specs.{Values.inner_list, declared.field_kind.FieldKind.FieldKind}
 use Rattle.sfv_spec.specs.declared.field_kind.FieldKind.TheVariants.{Item as item_field, List as list_field}
 use Rattle.sfv_spec.specs.declared.field_kind.FieldKind.TheVariants.{Dictionary as dictionary_field}
-use Rattle.sfv_spec.specs.Grammar.{IsBareText, IsValueText, IsKeyText, IsParametersText, IsItemText, Comma, AreInnerItemsText, IsInnerListText, IsMemberText, IsMemberValueText, IsDictionaryMemberText, AreMembersText, IsFieldText}
-use Rattle.sfv_spec.proofs.Marks.{IsParameterText}
-use Rattle.sfv_spec.proofs.Marks.{SomeSpaces}
-use Rattle.sfv_spec.specs.Ordered.{last_of, without, collapse, ordered_item, ordered_member, ordered}
-use Rattle.sfv_spec.proofs.Collapse.{last_of-collapse}
-use Rattle.sfv_spec.proofs.Last.{last_of-split}
-use Rattle.std.proofs.lemmas.Bool.{cond_both}
-use Rattle.std.proofs.lemmas.List.Elements.{filter-append}
-use Rattle.sfv_spec.proofs.Settled.{joining-cons}
-use Rattle.sfv_spec.proofs.Written.{numerals, not_negative}
-use Rattle.sfv_spec.proofs.Valid.{fraction_below}
-use Rattle.sfv_spec.specs.Statements.{LengthBound}
+use Rattle.sfv_spec.specs.declared.version.Version.{Version}
+use Rattle.sfv_spec.proofs.{Collapse.last_of-collapse, Last.last_of-split, Marks.{IsParameterText, SomeSpaces}}
+use Rattle.sfv_spec.proofs.{Settled.joining-cons, Valid.fraction_below, Written.{numerals, not_negative}}
 
 -- ---- numbers
 

@@ -1,15 +1,11 @@
 -- Names of bytes and of classes of them, and other short words, for readers and proofs.
-use Rattle.std.specs.Prelude.{◌≡◌, ℕ, List, ◌++◌, map, Bool, true, false, not, ◌&&◌, ◌||◌, ◌==◌, IsUtf8, [], codes, if◌then◌else◌}
-use Rattle.std.specs.Int.{is_in_range}
-use Rattle.sfv_spec.specs.Texts.{IsJoining, Exactly, ◌⨾◌}
-use Rattle.sfv_spec.specs.Classes.{is_string_byte}
-use Rattle.sfv_spec.specs.Values.{BareValue, boolean, RawParameters, RawMember, item}
-use Rattle.sfv_spec.specs.declared.version.Version.{Version}
-use Rattle.sfv_spec.specs.declared.field_kind.FieldKind.{FieldKind}
-use Rattle.sfv_spec.specs.Reach.{WantsBareItem}
+use Rattle.std.proofs.Common.{◌≡◌, ℕ, List, ◌++◌, map, Bool, true, false, not, ◌&&◌, ◌||◌, ◌==◌, IsUtf8, [], codes}
+use Rattle.std.{proofs.Common.if◌then◌else◌, specs.Int.is_in_range}
 use Rattle.sfv_spec.specs.Base64.{IsBase64Text}
-use Rattle.sfv_spec.specs.Grammar.{Spaces, IsKeyText, IsValueText}
+use Rattle.sfv_spec.specs.{Classes.is_string_byte, Grammar.{Spaces, IsKeyText, IsValueText}, Reach.WantsBareItem}
 use Rattle.sfv_spec.specs.Strings.{is_escaped_in_string, IsStringPiece, is_plain_in_display, IsDisplayPiece}
+use Rattle.sfv_spec.specs.{Texts.{IsJoining, Exactly, ◌⨾◌}, Values.{BareValue, boolean, RawParameters, RawMember, item}}
+use Rattle.sfv_spec.specs.declared.{field_kind.FieldKind.FieldKind, version.Version.Version}
 
 -- b'\t'
 abbrev pub tab : ℕ

@@ -1,31 +1,22 @@
 -- Canonical texts are printable ASCII.
-use Rattle.std.proofs.Common.{◌≡◌, ℕ, zero, suc, Bool, true, false, List, [], ◌∷◌, ◌++◌, map, refl, replicate}
-use Rattle.std.proofs.Common.{inl, inr, arith}
-use Rattle.std.specs.Prelude.{IsTrue, flat_map, codes, nat_lt, not}
-use Rattle.std.specs.List.{list_all, AllByRecursion}
-use Rattle.std.proofs.lemmas.Bool.{and_parts, and_from, ltb-true, agree_below_at}
-use Rattle.std.proofs.lemmas.Bool.Decides.{nat_tests}
-use Rattle.std.proofs.lemmas.List.Folds.{list_all-append}
-use Rattle.std.specs.Char.{is_ascii_digit}
-use Rattle.sfv_spec.specs.Texts.{RunOf, IsJoining, joined}
+use Rattle.std.proofs.Common.{◌≡◌, ℕ, zero, suc, Bool, true, false, List, [], ◌∷◌, ◌++◌, map, refl, replicate, inl, inr}
+use Rattle.std.{proofs.Common.{arith, IsTrue, flat_map, codes, nat_lt, ltb-true}, specs.Char.is_ascii_digit}
+use Rattle.std.{specs.List.{list_all, AllByRecursion}, proofs.lemmas.Bool.{and_parts, and_from, agree_below_at}}
+use Rattle.std.proofs.lemmas.{Bool.Decides.nat_tests, List.Folds.list_all-append}
+use Rattle.sfv_spec.specs.Base64.{symbol, IsBase64Text}
+use Rattle.sfv_spec.specs.Canonical.{bare_text, value_text, parameters_text, item_text, inner_list_text, member_text}
+use Rattle.sfv_spec.specs.Canonical.{dictionary_member_text}
 use Rattle.sfv_spec.specs.Classes.{is_string_byte, is_key, is_key_start, is_key_inner, is_token, is_token_start}
-use Rattle.sfv_spec.specs.Classes.{is_token_inner, is_lower_hexadecimal}
+use Rattle.sfv_spec.specs.{Classes.{is_token_inner, is_lower_hexadecimal}, Grammar.IsBareText, Numbers.text_if}
+use Rattle.sfv_spec.specs.{Statements.PrintableTexts, Strings.{is_escaped_in_string, IsStringPiece, IsDisplayPiece}}
+use Rattle.sfv_spec.specs.Texts.{RunOf, IsJoining, joined}
 use Rattle.sfv_spec.specs.Values.{BareValue, integer, decimal, string, token, byte_sequence, boolean, date}
 use Rattle.sfv_spec.specs.Values.{display_string, IsBareValue, RawParameters, RawItem, RawInnerList, AreParameters}
 use Rattle.sfv_spec.specs.Values.{IsItem, RawMember, item, inner_list, IsMember}
 use Rattle.sfv_spec.specs.declared.field_kind.FieldKind.TheVariants.{Item as item_field, List as list_field}
 use Rattle.sfv_spec.specs.declared.field_kind.FieldKind.TheVariants.{Dictionary as dictionary_field}
 use Rattle.sfv_spec.specs.declared.version.Version.TheVariants.{Rfc9651}
-use Rattle.sfv_spec.specs.Numbers.{text_if}
-use Rattle.sfv_spec.specs.Base64.{symbol, IsBase64Text}
-use Rattle.sfv_spec.specs.Strings.{is_escaped_in_string, IsStringPiece, IsDisplayPiece}
-use Rattle.sfv_spec.specs.Grammar.{IsBareText}
-use Rattle.sfv_spec.specs.Canonical.{bare_text, value_text, parameters_text, item_text, inner_list_text}
-use Rattle.sfv_spec.specs.Canonical.{member_text, dictionary_member_text}
-use Rattle.sfv_spec.proofs.Marks.{equals_sign}
-use Rattle.sfv_spec.proofs.Settled.{joining-nil, joining-cons}
-use Rattle.sfv_spec.proofs.Written.{bare_written}
-use Rattle.sfv_spec.specs.Statements.{PrintableTexts}
+use Rattle.sfv_spec.proofs.{Marks.equals_sign, Settled.{joining-nil, joining-cons}, Written.bare_written}
 
 abbrev pub Printable : List ℕ → Type 0
 Printable = RunOf is_string_byte
@@ -90,15 +81,13 @@ escaped_printable c h = grind (arith, nat_tests)
 
 key_printable : (key : List ℕ) → IsTrue (is_key key) → Printable key
 key_printable [] h = refl
-key_printable (c ∷ cs) h = let a = and_parts (is_key_start c) (list_all is_key_inner cs) h in
-    and_from (is_string_byte c) (list_all is_string_byte cs) (key_start_printable c a.0)
-    (run_weaker is_key_inner is_string_byte key_inner_printable cs a.1)
+key_printable (c ∷ cs) h = let a = and_parts _ _ h in
+    and_from _ _ (key_start_printable c a.0) (run_weaker _ _ key_inner_printable cs a.1)
 
 token_printable : (t : List ℕ) → IsTrue (is_token t) → Printable t
 token_printable [] h = refl
-token_printable (c ∷ cs) h = let a = and_parts (is_token_start c) (list_all is_token_inner cs) h in
-    and_from (is_string_byte c) (list_all is_string_byte cs) (token_start_printable c a.0)
-    (run_weaker is_token_inner is_string_byte token_inner_printable cs a.1)
+token_printable (c ∷ cs) h = let a = and_parts _ _ h in
+    and_from _ _ (token_start_printable c a.0) (run_weaker _ _ token_inner_printable cs a.1)
 
 -- ---- bare items
 
@@ -115,13 +104,11 @@ integer_printable t b ds h e =
     rw e (run_append is_string_byte (text_if b (codes "-")) ds (sign_printable b) (digits_printable ds h))
 
 piece_printable : (c : ℕ) (t : List ℕ) → IsStringPiece c t → Printable t
-piece_printable c t (inl h) =
-    rw h.1 (and_from (is_string_byte c) true (and_parts (is_string_byte c) (not (is_escaped_in_string c)) h.0).0 refl)
+piece_printable c t (inl h) = rw h.1 (and_from _ _ (and_parts _ _ h.0).0 refl)
 piece_printable c t (inr h) = rw h.1 (and_from (is_string_byte c) true (escaped_printable c h.0) refl)
 
 display_printable : (c : ℕ) (t : List ℕ) → IsDisplayPiece c t → Printable t
-display_printable c t (inl h) =
-    rw h.1 (and_from (is_string_byte c) true (and_parts (is_string_byte c) _ h.0).0 refl)
+display_printable c t (inl h) = rw h.1 (and_from _ _ (and_parts _ _ h.0).0 refl)
 display_printable c t (inr h) =
     let a = and_parts (is_lower_hexadecimal h.0) (is_lower_hexadecimal h.1) h.2 in
     rw (h.4, hexadecimal_printable h.0 a.0, hexadecimal_printable h.1 a.1) refl
@@ -143,24 +130,20 @@ base64_printable bytes t h = rw h.text (run_append is_string_byte (map symbol h.
 
 pub bare_printable : (b : BareValue) (t : List ℕ) → IsBareText Rfc9651 b t → Printable t
 bare_printable (integer z) t h = integer_printable t h.negative h.digits h.counted.2 h.text
-bare_printable (decimal z) t h = rw h.text (run_append is_string_byte
-    (text_if h.negative (codes "-") ++ h.whole ++ codes ".") h.fraction
-    (between (text_if h.negative (codes "-")) h.whole (codes ".") (sign_printable h.negative)
+bare_printable (decimal z) t h = rw h.text (run_append is_string_byte (text_if h.negative (codes "-") ++ h.whole ++
+    codes ".") h.fraction (between (text_if h.negative (codes "-")) h.whole (codes ".") (sign_printable h.negative)
     (digits_printable h.whole h.counted.0.2) refl) (digits_printable h.fraction h.counted.1.2))
-bare_printable (string s) t h = rw (h.text, h.first, h.second.text, h.second.second)
-    (between (codes "\"") h.second.front (codes "\"") refl
-    (joining_printable piece_printable s h.second.front h.second.first) refl)
+bare_printable (string s) t h = rw (h.text, h.first, h.second.text, h.second.second) (between
+    (codes "\"") h.second.front (codes "\"") refl (joining_printable piece_printable _ _ h.second.first) refl)
 bare_printable (token s) t h = rw h.1 (token_printable s h.0)
-bare_printable (byte_sequence s) t h = rw (h.text, h.first, h.second.text, h.second.second)
-    (between (codes ":") h.second.front (codes ":") refl
-    (base64_printable s h.second.front h.second.first) refl)
+bare_printable (byte_sequence s) t h = rw (h.text, h.first, h.second.text, h.second.second) (between (codes ":")
+    h.second.front (codes ":") refl (base64_printable _ _ h.second.first) refl)
 bare_printable (boolean true) t h = rw h refl
 bare_printable (boolean false) t h = rw h refl
 bare_printable (date z) t h = let k = h.1 in let n = k.second in rw (k.text, k.first) (run_append is_string_byte
     (codes "@") k.back refl (integer_printable k.back n.negative n.digits n.counted.2 n.text))
-bare_printable (display_string s) t h = let k = h.1 in rw (k.text, k.first, k.second.text, k.second.second)
-    (between (codes "%\"") k.second.front (codes "\"") refl
-    (joining_printable display_printable s k.second.front k.second.first.0) refl)
+bare_printable (display_string s) t h = let k = h.1 in rw (k.text, k.first, k.second.text, k.second.second) (between
+    (codes "%\"") k.second.front (codes "\"") refl (joining_printable display_printable _ _ k.second.first.0) refl)
 
 -- ---- canonical texts
 
@@ -185,8 +168,7 @@ inner_list_printable l h =
     let inside = joined (codes " ") (map item_text l.items) in
     let end = parameters_text l.parameters in
     run_append is_string_byte (codes "(" ++ inside ++ codes ")") end (between (codes "(") inside (codes ")") refl
-    (joined_printable (codes " ") refl item_text item_printable l.items h.0) refl)
-    (parameters_printable l.parameters h.1)
+    (joined_printable (codes " ") refl item_text item_printable _ h.0) refl) (parameters_printable _ h.1)
 
 member_printable : (m : RawMember) → IsMember m → Printable (member_text m)
 member_printable (item i) h = item_printable i h
@@ -201,5 +183,4 @@ entry_printable (key, inner_list l) h = between key (codes "=") (inner_list_text
 pub printable_texts_lem : PrintableTexts
 printable_texts_lem item_field i h = item_printable i h
 printable_texts_lem list_field ms h = joined_printable (codes ", ") refl member_text member_printable ms h
-printable_texts_lem dictionary_field ms h =
-    joined_printable (codes ", ") refl dictionary_member_text entry_printable ms h
+printable_texts_lem dictionary_field ms h = joined_printable _ refl _ entry_printable _ h

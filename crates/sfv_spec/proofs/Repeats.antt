@@ -1,7 +1,6 @@
 -- Fields without repeated keys. Only proofs use these definitions.
-use Rattle.std.specs.Prelude.{ℕ, List, [], ◌∷◌, Bool, true, not, ◌&&◌, IsTrue, bytes_eq}
-use Rattle.std.specs.List.{list_any, AllByRecursion}
-use Rattle.std.specs.Map.{keys_of}
+use Rattle.std.proofs.Common.{ℕ, List, [], ◌∷◌, Bool, true, not, ◌&&◌, IsTrue, bytes_eq}
+use Rattle.std.specs.{List.{list_any, AllByRecursion}, Map.keys_of}
 use Rattle.sfv_spec.specs.Values.{RawItem, RawMember, item, inner_list, RawField}
 use Rattle.sfv_spec.specs.declared.field_kind.FieldKind.{FieldKind}
 use Rattle.sfv_spec.specs.declared.field_kind.FieldKind.TheVariants.{Item as item_field, List as list_field}

@@ -1,14 +1,11 @@
 -- What a visitor has done with the events of a field, for callers.
-use Rattle.std.proofs.Common.{◌≡◌, suc, List, [], ◌∷◌, ◌++◌, length, refl, sym, ap, ◌∙◌}
-use Rattle.std.specs.Prelude.{⊤, ℕ, Option, Some, None, fold, filter_map, flat_map}
-use Rattle.std.specs.List.{FoldsTo, AllByRecursion}
-use Rattle.std.proofs.lemmas.List.Elements.{filter_map-append}
-use Rattle.sfv_spec.specs.Values.{RawParameters, RawMember, item, inner_list}
-use Rattle.sfv_spec.specs.declared.field_kind.FieldKind.TheVariants.{List as list_field, Dictionary as dictionary_field}
+use Rattle.std.proofs.Common.{◌≡◌, suc, List, [], ◌∷◌, ◌++◌, length, refl, sym, ap, ◌∙◌, ℕ, Option, Some, None, fold}
+use Rattle.std.proofs.Common.{filter_map, flat_map}
+use Rattle.std.{specs.List.{FoldsTo, AllByRecursion}, specs.Prelude.⊤, proofs.lemmas.List.Elements.filter_map-append}
 use Rattle.sfv_spec.specs.Events.{TreeEvent, entry, keyed_entry, inner_list_end, parameters_events, inner_item_events}
-use Rattle.sfv_spec.specs.Events.{member_events, events}
-use Rattle.sfv_spec.proofs.Marks.{keys}
-use Rattle.sfv_spec.proofs.Each.{each, each_append, each_flat_map}
+use Rattle.sfv_spec.specs.{Events.{member_events, events}, Values.{RawParameters, RawMember, item, inner_list}}
+use Rattle.sfv_spec.specs.declared.field_kind.FieldKind.TheVariants.{List as list_field, Dictionary as dictionary_field}
+use Rattle.sfv_spec.proofs.{Each.{each, each_append, each_flat_map}, Marks.keys}
 
 -- where each event is a step of the place, a run is all steps
 pub runs_fold : {S P : Type 0} (place : S → P) (step : P → TreeEvent → P) (es : List TreeEvent) (s last : S)

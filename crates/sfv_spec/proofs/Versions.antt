@@ -1,19 +1,14 @@
 -- What RFC 8941 accepts, RFC 9651 accepts as the same field.
 use Rattle.std.proofs.Common.{◌≡◌, ℕ, List, [], ◌∷◌, inl, inr, arith, ◌≤◌}
-use Rattle.std.proofs.lemmas.Bool.{cases_lt}
-use Rattle.std.specs.List.{AllZip}
-use Rattle.sfv_spec.specs.Texts.{◌⨾◌, IsJoining, IsSeparated, IsLongestBeginning}
+use Rattle.std.{specs.List.AllZip, proofs.lemmas.Bool.cases_lt}
+use Rattle.sfv_spec.specs.Grammar.{Comma, IsBareText, IsValueText, IsParametersText, IsItemText, AreInnerItemsText}
+use Rattle.sfv_spec.specs.Grammar.{IsMemberText, IsMemberValueText, IsDictionaryMemberText, AreMembersText}
+use Rattle.sfv_spec.specs.{Statements.{NewerAccepts, OneReach}, Texts.{◌⨾◌, IsJoining, IsSeparated, IsLongestBeginning}}
 use Rattle.sfv_spec.specs.Values.{BareValue, date, display_string, RawParameters, RawItem, RawMember, item, inner_list}
 use Rattle.sfv_spec.specs.declared.field_kind.FieldKind.TheVariants.{Item as item_field, List as list_field}
 use Rattle.sfv_spec.specs.declared.field_kind.FieldKind.TheVariants.{Dictionary as dictionary_field}
 use Rattle.sfv_spec.specs.declared.version.Version.TheVariants.{Rfc8941, Rfc9651}
-use Rattle.sfv_spec.specs.Grammar.{Comma, IsBareText, IsValueText, IsParametersText}
-use Rattle.sfv_spec.proofs.Marks.{IsParameterText}
-use Rattle.sfv_spec.proofs.Marks.{SomeSpaces}
-use Rattle.sfv_spec.specs.Grammar.{IsItemText, AreInnerItemsText, IsMemberText, IsMemberValueText}
-use Rattle.sfv_spec.specs.Grammar.{IsDictionaryMemberText, AreMembersText}
-use Rattle.sfv_spec.specs.Statements.{NewerAccepts, OneReach}
-use Rattle.sfv_spec.proofs.Settled.{parts_within}
+use Rattle.sfv_spec.proofs.{Marks.{IsParameterText, SomeSpaces}, Settled.parts_within}
 
 second_within : {P Q Q' : List ℕ → Type 0} → ((t : List ℕ) → Q t → Q' t) → (t : List ℕ) → (P ⨾ Q) t → (P ⨾ Q') t
 second_within = parts_within (λ _ h. h)

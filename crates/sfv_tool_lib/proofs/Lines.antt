@@ -1,19 +1,15 @@
 -- What a field's text is, where nothing may have been written.
-use Rattle.std.proofs.Common.{◌≡◌, ℕ, List, [], ◌∷◌, ◌++◌, Option, Some, None, Result, refl, ap, ◌∙◌}
-use Rattle.std.specs.Prelude.{codes, string_bytes, option_map, IfErr, IsErrAnd}
-use Rattle.std.proofs.lemmas.Result.{err_from_is_err_and}
-use Rattle.std.specs.declared.alloc.Global.{Global}
-use Rattle.std.specs.declared.string.String.{String}
-use Rattle.sfv.specs.Values.{RawField, HasMember, Fits, bare_values}
+use Rattle.std.proofs.Common.{◌≡◌, ℕ, List, [], ◌∷◌, ◌++◌, Option, Some, None, Result, refl, ap, ◌∙◌, codes}
+use Rattle.std.{proofs.Common.{string_bytes, option_map, IfErr, IsErrAnd}, specs.declared.alloc.Global.Global}
+use Rattle.std.{specs.declared.string.String.String, proofs.lemmas.Result.err_from_is_err_and}
+use Rattle.sfv.specs.{Canonical.canonical, Statements.{IsParsedAs, IsSerializedAs}}
 use Rattle.sfv.specs.Types.{FieldKind, item_field, list_field, dictionary_field, Version, SerializeError}
-use Rattle.sfv.specs.Canonical.{canonical}
-use Rattle.sfv.specs.Statements.{IsParsedAs, IsSerializedAs}
-use Rattle.sfv.specs.Versions.{IsSerializeError}
+use Rattle.sfv.specs.{Values.{RawField, HasMember, Fits, bare_values}, Versions.IsSerializeError}
+use Rattle.sfv_http_fields.specs.Priority.{PriorityValue, IsPriorityOf}
+use Rattle.sfv_tool_lib.specs.Answers.{text_or_empty, without_newline, IsAnswer, IsToolFault, IsPriorityFault}
 use Rattle.sfv_tool_lib.specs.declared.answer.ToolFault.{ToolFault}
 use Rattle.sfv_tool_lib.specs.declared.answer.ToolFault.TheVariants as faults
-use Rattle.sfv_tool_lib.specs.Answers.{text_or_empty, without_newline, IsAnswer, IsToolFault, IsPriorityFault}
 use Rattle.sfv.specs.Types.serialize_errors as errors
-use Rattle.sfv_http_fields.specs.Priority.{PriorityValue, IsPriorityOf}
 
 -- nothing is written of a field without members
 empty_text : (kind : FieldKind) (value : RawField kind) → ¬ HasMember kind value → [] ≡ canonical kind value

@@ -1,6 +1,5 @@
 -- Copies of the elements of a list keep their values and seeds.
-use Rattle.std.proofs.Common.{◌≡◌, List, [], ◌∷◌, map, refl}
-use Rattle.std.specs.List.{AllZip}
+use Rattle.std.{proofs.Common.{◌≡◌, List, [], ◌∷◌, map, refl}, specs.List.AllZip}
 
 module _ {A : Type 0} where
   -- each copy has the value of its source

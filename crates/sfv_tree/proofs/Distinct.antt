@@ -1,14 +1,10 @@
 -- A map has no key twice, so a look-up finds the last pair of a key.
-use Rattle.std.proofs.Common.{◌≡◌, ℕ, Bool, true, false, List, [], ◌∷◌, refl, sym, subst, ◌∙◌}
+use Rattle.std.proofs.Common.{◌≡◌, ℕ, Bool, true, false, List, [], ◌∷◌, refl, sym, subst, ◌∙◌, IsTrue, bytes_eq}
+use Rattle.std.{proofs.Common.option_map, specs.List.{list_any, AllByRecursion, IsDistinct}}
+use Rattle.std.{specs.Map.{keys_of, lookup}, proofs.lemmas.Map.Made.{lookup-map_values, keys_of-map_values}}
 use Rattle.indexmap.specs.IndexMap.{insert_entry}
-use Rattle.std.specs.Prelude.{IsTrue, bytes_eq, option_map}
-use Rattle.std.specs.List.{list_any, AllByRecursion, IsDistinct}
-use Rattle.std.specs.Map.{keys_of, lookup}
-use Rattle.std.proofs.lemmas.Map.Made.{lookup-map_values, keys_of-map_values}
 use Rattle.sfv_spec.specs.Ordered.{last_of}
-use Rattle.sfv_spec.proofs.Repeats.{no_repeats}
-use Rattle.sfv_spec.proofs.Marks.{keys}
-use Rattle.sfv_spec.proofs.Last.{over, lookup-last_of}
+use Rattle.sfv_spec.proofs.{Last.{over, lookup-last_of}, Marks.keys, Repeats.no_repeats}
 use Rattle.sfv_values.specs.BareItems.{bare_value}
 use Rattle.sfv_tree.specs.Trees.{OwnedBareItem, pairs_tree, member_tree, dictionary_tree}
 use Rattle.sfv_tree.specs.declared.parsed.ListEntry.{ListEntry}

@@ -1,15 +1,12 @@
 -- Entering into a map is entering into its pairs.
-use Rattle.std.proofs.Common.{◌≡◌, ℕ, Bool, true, false, cond, List, [], ◌∷◌, map, refl, ap, ◌∙◌}
-use Rattle.std.specs.Prelude.{bytes_eq}
-use Rattle.std.specs.List.{IsDistinct}
-use Rattle.std.specs.Map.{keys_of}
+use Rattle.std.proofs.Common.{◌≡◌, ℕ, Bool, true, false, cond, List, [], ◌∷◌, map, refl, ap, ◌∙◌, bytes_eq}
+use Rattle.std.specs.{List.IsDistinct, Map.keys_of}
 use Rattle.indexmap.specs.IndexMap.{insert_entry}
 use Rattle.sfv_spec.specs.Ordered.{collapse}
 use Rattle.sfv_spec.proofs.Collapse.{entered, entered_all, entered_all-collapse, collapse-distinct}
 use Rattle.sfv_values.specs.BareItems.{bare_value}
 use Rattle.sfv_tree.specs.Trees.{OwnedBareItem, pairs_tree, member_tree, dictionary_tree}
-use Rattle.sfv_tree.specs.declared.parsed.ListEntry.{ListEntry}
-use Rattle.sfv_tree.proofs.Distinct.{pairs_distinct}
+use Rattle.sfv_tree.{specs.declared.parsed.ListEntry.ListEntry, proofs.Distinct.pairs_distinct}
 
 module _ {A B : Type 0} (f : A → B) where
   abbrev seen : List (List ℕ × A) → List (List ℕ × B)
@@ -22,8 +19,7 @@ module _ {A B : Type 0} (f : A → B) where
   seen-insert : (es : List (List ℕ × A)) (k : List ℕ) (v : A)
       → seen (insert_entry bytes_eq es k v) ≡ insert_entry bytes_eq (seen es) k (f v)
   seen-insert [] k v = refl
-  seen-insert (e ∷ es) k v =
-      cond_seen (bytes_eq k e.0) ((e.0, v) ∷ es) (e ∷ insert_entry bytes_eq es k v)
+  seen-insert (e ∷ es) k v = cond_seen (bytes_eq k e.0) ((e.0, v) ∷ es) (e ∷ insert_entry bytes_eq es k v)
       ∙ ap (λ (rest : List (List ℕ × B)). cond (bytes_eq k e.0) ((e.0, f v) ∷ seen es) ((e.0, f e.1) ∷ rest))
       (seen-insert es k v)
 

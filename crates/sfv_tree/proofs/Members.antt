@@ -1,22 +1,5 @@
 -- A member after an event is complete or not.
-use Rattle.std.proofs.Common.{◌≡◌, ℕ, true, false, List, rules, Result, Ok, Err}
-use Rattle.std.specs.Prelude.{Bool, Some, ◌||◌, IsTrue, OnOk}
-use native.Mathlib.Omega.{arith}
-use Rattle.sfv_spec.specs.Values.{RawMember}
-use Rattle.sfv_tree.specs.Builders.{member_state, member_step, settle_pair, ended}
-use Rattle.sfv_tree.specs.Events.{event_of, is_moved}
-use Rattle.sfv_tree.specs.declared.visitor.member.Member.{Member}
-use Rattle.sfv_tree.specs.declared.visitor.Event.{Event}
-
--- an incomplete member does not go in
-pub settles_pair : (ms : List (List ℕ × RawMember)) (key : List ℕ) (p : Member)
-    → settle_pair ms key (member_state p) ≡ (ms, Some (key, member_state p))
-settles_pair ms key p = grind arith
-
--- a member does not end at a bare item
-pub not_moved : (p : Member) (e : Event) (m : RawMember) → ended m ≡ member_step (member_state p) (event_of e)
-    → is_moved e ≡ false
-not_moved p e m h = grind arith
+use Rattle.std.proofs.Common.{true, false, rules, Result, Ok, Err, Bool, ◌||◌, IsTrue, OnOk}
 
 pub or_true : (b : Bool) → IsTrue (b || true)
 or_true true = search rules

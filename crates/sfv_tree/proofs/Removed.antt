@@ -1,14 +1,9 @@
 -- A key that is removed from a map has no pair, and the pairs of other keys stay.
-use Rattle.std.proofs.Common.{◌≡◌, ℕ, false, List, [], ◌∷◌, refl, sym, ap, subst, ◌∙◌, inl, inr}
-use Rattle.std.specs.Prelude.{bytes_eq, None}
-use Rattle.std.specs.List.{AllByRecursion, IsDistinct}
-use Rattle.std.specs.Map.{keys_of}
-use Rattle.std.proofs.lemmas.Bool.{cases_Bool}
-use Rattle.std.proofs.lemmas.Slice.Eq.{bytes_eq-Decides}
+use Rattle.std.proofs.Common.{◌≡◌, ℕ, false, List, [], ◌∷◌, refl, sym, ap, subst, inl, inr, bytes_eq}
+use Rattle.std.specs.{List.{AllByRecursion, IsDistinct}, Map.keys_of}
+use Rattle.std.proofs.lemmas.{Bool.cases_Bool, Slice.Eq.bytes_eq-Decides}
 use Rattle.indexmap.specs.IndexMap.{shift_remove_entry}
-use Rattle.sfv_spec.specs.Ordered.{last_of, without}
-use Rattle.sfv_spec.proofs.Last.{over}
-use Rattle.sfv_spec.proofs.Collapse.{or_none}
+use Rattle.sfv_spec.{specs.Ordered.without, proofs.Last.over}
 use Rattle.sfv_values.specs.BareItems.{bare_value}
 use Rattle.sfv_tree.specs.Trees.{OwnedBareItem, pairs_tree, member_tree, dictionary_tree}
 use Rattle.sfv_tree.specs.declared.parsed.ListEntry.{ListEntry}
@@ -29,28 +24,6 @@ module _ {A B : Type 0} (f : A → B) (key : List ℕ) where
         (subst (λ (k : List ℕ). AllByRecursion (λ j. bytes_eq k j ≡ false) (keys_of es)) (sym ((bytes_eq-Decides key e.0).0 q)) h.0))
     | inr q ↦ simp q (ap (λ (ps : List (List ℕ × B)). (e.0, f e.1) ∷ ps) (removed es h.1))
   ]
-
--- a removed key has no pair
-pub last_of-without_same : {A : Type 0} (key : List ℕ) (ps : List (List ℕ × A)) → last_of key (without key ps) ≡ None
-unfolding last_of
-last_of-without_same key [] = refl
-last_of-without_same key ((k, v) ∷ ps) = elim (cases_Bool (bytes_eq key k)) [
-  | inl q ↦ simp (q, last_of-without_same key ps)
-  | inr q ↦ simp (q, last_of-without_same key ps)
-]
-
--- another key keeps its last pair
-pub last_of-without_other : {A : Type 0} (j key : List ℕ) (ps : List (List ℕ × A)) → bytes_eq j key ≡ false
-    → last_of j (without key ps) ≡ last_of j ps
-unfolding last_of
-last_of-without_other j key [] h = refl
-last_of-without_other j key ((k, v) ∷ ps) h =
-    let rest = last_of-without_other j key ps h in
-    elim (cases_Bool (bytes_eq key k)) [
-      | inl q ↦ let here : bytes_eq j k ≡ false = ap (bytes_eq j) (sym ((bytes_eq-Decides key k).0 q)) ∙ h in
-          simp (q, here) (rest ∙ or_none (last_of j ps))
-      | inr q ↦ simp (q, rest)
-    ]
 
 -- the entries of a map without a key
 pub member_removed : (key : List ℕ) (es : List (List ℕ × ListEntry)) → IsDistinct bytes_eq (keys_of es)

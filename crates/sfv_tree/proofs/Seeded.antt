@@ -1,10 +1,8 @@
 -- What is under a seed stays under it.
-use Rattle.std.proofs.Common.{List, [], ◌∷◌, ◌++◌, ◌⊎◌, inl, inr}
-use Rattle.std.specs.Prelude.{All, Bool, true, false, cond}
-use Rattle.std.specs.List.{Contains}
-use Rattle.indexmap.specs.IndexMap.{insert_entry}
+use Rattle.std.proofs.Common.{List, [], ◌∷◌, ◌++◌, ◌⊎◌, inl, inr, All, Bool, true, false, cond, Contains}
 use Rattle.std.proofs.lemmas.List.Elements.{All-append, All-cons, All-nil, All-head, All-tail, All-weaker, All-contains}
 use Rattle.std.proofs.lemmas.List.Elements.{All-contains_itself}
+use Rattle.indexmap.specs.IndexMap.{insert_entry}
 
 -- one more stands last
 pub all_push : {X : Type 0} (P : X → Type 0) (xs : List X) (x : X) → P x → All P xs → All P (xs ++ x ∷ [])

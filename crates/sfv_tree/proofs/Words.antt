@@ -1,10 +1,9 @@
 -- Short words for the values of trees and their parts.
-use Rattle.std.specs.Prelude.{ℕ, List, map}
+use Rattle.std.proofs.Common.{ℕ, List, map}
 use Rattle.sfv_spec.specs.Values.{BareValue, RawItem, RawInnerList, RawMember}
 use Rattle.sfv_values.specs.BareItems.{bare_value}
-use Rattle.sfv_tree.specs.declared.parsed.Item.{Item}
-use Rattle.sfv_tree.specs.declared.parsed.ListEntry.{ListEntry}
 use Rattle.sfv_tree.specs.Trees.{OwnedBareItem, pairs_tree, item_tree, member_tree}
+use Rattle.sfv_tree.specs.declared.parsed.{Item.Item, ListEntry.ListEntry}
 
 -- the pair of a key and its value, and of a key and its member
 abbrev pub pair_tree : List ℕ × OwnedBareItem → List ℕ × BareValue

@@ -1,17 +1,11 @@
 -- Texts of each class are ASCII, so they are UTF-8.
-use Rattle.std.proofs.Common.{◌≡◌, ℕ, zero, suc, ◌<◌, Bool, true, List, [], ◌∷◌, arith, lit<}
-use Rattle.std.specs.Prelude.{IsTrue}
+use Rattle.std.proofs.Common.{◌≡◌, ℕ, zero, suc, ◌<◌, Bool, true, List, [], ◌∷◌, arith, lit<, IsTrue, IsUtf8, IsAscii}
 use Rattle.std.specs.List.{list_all}
-use Rattle.std.specs.Str.{IsUtf8, IsAscii}
-use Rattle.std.proofs.lemmas.Str.{IsUtf8-from_ascii}
-use Rattle.std.proofs.lemmas.Bool.{and_parts}
-use Rattle.std.proofs.lemmas.Bool.Decides.{nat_tests}
-use Rattle.sfv_spec.specs.Texts.{RunOf}
+use Rattle.std.proofs.lemmas.{Bool.and_parts, Bool.Decides.nat_tests, Str.IsUtf8-from_ascii}
 use Rattle.sfv_spec.specs.Classes.{is_key_start, is_key_inner, is_key, is_string_byte, is_token_start, is_token_inner}
-use Rattle.sfv_spec.specs.Classes.{is_token}
+use Rattle.sfv_spec.specs.{Classes.is_token, Texts.RunOf}
 
-run_ascii : (class : ℕ → Bool) → ((c : ℕ) → class c ≡ true → c < 128)
-    → (t : List ℕ) → RunOf class t → IsAscii t
+run_ascii : (class : ℕ → Bool) → ((c : ℕ) → class c ≡ true → c < 128) → (t : List ℕ) → RunOf class t → IsAscii t
 run_ascii class below [] h i = lit< tt
 run_ascii class below (c ∷ t) h zero = below c (and_parts _ _ h).0
 run_ascii class below (c ∷ t) h (suc i) = run_ascii class below t (and_parts _ _ h).1 i

@@ -1,9 +1,7 @@
 -- The first byte outside of a class is where the run of the class ends; where there is none, each byte is of it.
 use Rattle.std.proofs.Common.{◌≡◌, ℕ, ◌+◌, Bool, true, false, not, List, [], ◌∷◌, Some, None, length, cond, nat_lt}
-use Rattle.std.proofs.Common.{arith, refl, sym, ap₂, ◌∙◌}
-use Rattle.std.specs.List.{list_all, position, prefix_len}
-use Rattle.std.proofs.lemmas.Grind.{common_steps}
-use Rattle.std.proofs.lemmas.Bool.Decides.{nat_tests}
+use Rattle.std.{proofs.Common.{arith, refl, sym, ap₂, ◌∙◌, position}, specs.List.{list_all, prefix_len}}
+use Rattle.std.proofs.lemmas.{Bool.Decides.nat_tests, Grind.common_steps}
 
 pub all_from_position : (p : ℕ → Bool) (cs : List ℕ) → position (λ b. not (p b)) cs ≡ None → list_all p cs ≡ true
 all_from_position p [] h = refl

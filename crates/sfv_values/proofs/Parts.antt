@@ -1,13 +1,9 @@
 -- What an accessor says of the variant, it says of the value, whatever type owns the texts.
-use Rattle.std.proofs.Common.{◌≡◌, ℕ, List, Bool, Bor, refl, ap}
-use Rattle.std.specs.Prelude.{Option, Some, None}
-use Rattle.sfv_spec.specs.Values as values
+use Rattle.std.proofs.Common.{◌≡◌, ℕ, List, Bool, Bor, refl, ap, Option, Some, None}
 use Rattle.sfv_base.specs.Numbers.{integer_of, thousandths_of, seconds_of}
-use Rattle.sfv_base.specs.declared.decimal.Decimal.{Decimal}
-use Rattle.sfv_base.specs.declared.integer.Integer.{Integer}
-use Rattle.sfv_base.specs.declared.date.Date.{Date}
-use Rattle.sfv_values.specs.BareItems.{GivesPart, value_by}
-use Rattle.sfv_values.specs.declared.bare.GenericBareItem.{GenericBareItem}
+use Rattle.sfv_base.specs.declared.{date.Date.Date, decimal.Decimal.Decimal, integer.Integer.Integer}
+use Rattle.sfv_values.specs.{BareItems.{GivesPart, value_by}, declared.bare.GenericBareItem.GenericBareItem}
+use Rattle.sfv_spec.specs.Values as values
 use Rattle.sfv_values.specs.declared.bare.GenericBareItem.TheVariants as code
 
 module _ {S B T D : Type 0} (s : S → List ℕ) (b : B → List ℕ) (t : T → List ℕ) (d : D → List ℕ) where

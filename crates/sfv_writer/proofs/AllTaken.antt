@@ -1,17 +1,10 @@
 -- All parts that an iterator over a slice or a map gives are written.
 use Rattle.std.proofs.Common.{◌≤◌, ℕ, true, List, [], ◌∷◌, ◌++◌, map, string_bytes, string_capacity, sym, ap, subst}
-use Rattle.std.proofs.Common.{◌∙◌, Result, Ok, Err}
-use Rattle.std.specs.Prelude.{Option, OnOk, OnErr}
-use Rattle.std.specs.List.{AllByRecursion}
-use Rattle.std.specs.declared.string.String.{String}
-use Rattle.std.proofs.lemmas.Simd.{map-map}
-use Rattle.sfv_spec.specs.Texts.{joined}
-use Rattle.sfv_spec.specs.Values.{BareValue}
-use Rattle.sfv_writer.specs.Versions.{AppendsParts, LacksForParts, parts_by}
-use Rattle.sfv_writer.specs.Written.{Appends, AsksForRoom, Extends}
-use Rattle.sfv_writer.proofs.Lent.{GivesAll}
-use Rattle.sfv_writer.proofs.RoomOfIterators.{front_lacks}
-use Rattle.sfv_writer.proofs.Separated.{in_a_row_first}
+use Rattle.std.proofs.Common.{◌∙◌, Result, Ok, Err, Option, OnOk, OnErr}
+use Rattle.std.{specs.List.AllByRecursion, specs.declared.string.String.String, proofs.lemmas.Simd.map-map}
+use Rattle.sfv_spec.specs.{Texts.joined, Values.BareValue}
+use Rattle.sfv_writer.specs.{Versions.{AppendsParts, LacksForParts, parts_by}, Written.{Appends, AsksForRoom, Extends}}
+use Rattle.sfv_writer.proofs.{Lent.GivesAll, RoomOfIterators.front_lacks, Separated.in_a_row_first}
 
 -- what holds of what each lends holds of all that is lent
 lent_each : {A B : Type 0} (lent : A → B) (P : B → Type 0) (xs : List A) → AllByRecursion (λ x. P (lent x)) xs

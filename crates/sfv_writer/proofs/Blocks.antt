@@ -1,19 +1,14 @@
 -- Vectors of bytes, of values and of symbols, lane by lane.
 use Rattle.std.proofs.Common.{◌≡◌, ℕ, zero, suc, ◌+◌, ◌-◌, ◌*◌, ◌/◌, ◌%◌, ◌^◌, ◌<◌, Bool, true, cond, eqb, ltb, List}
-use Rattle.std.proofs.Common.{[], ◌∷◌, ◌++◌, map, take, length, get_or, replicate, bit_and, refl, sym, ap, ap₂, subst}
-use Rattle.std.proofs.Common.{◌∙◌, arith, inl, inr, w8, w16, Fits}
-use Rattle.std.specs.Prelude.{◌==◌, nat_lt}
+use Rattle.std.proofs.Common.{[], ◌∷◌, ◌++◌, map, take, length, get_or, replicate, bit_and, refl, ap, ap₂, subst, ◌∙◌}
+use Rattle.std.proofs.Common.{arith, inl, inr, w8, w16, Fits, ◌==◌, nat_lt, eqb-true, ltb-true, lt-ltb, length-take-le}
 use Rattle.std.specs.List.{list_all, range_with_len}
-use Rattle.std.proofs.lemmas.Bool.{agree_below_at, eqb-true, and_parts, and_from, both_ways, cases_Bool, ltb-true}
-use Rattle.std.proofs.lemmas.Bool.{lt-ltb}
-use Rattle.std.proofs.lemmas.Nat.{and_mask}
-use Rattle.std.proofs.lemmas.List.{get_or-map, length-map, length-take-le, ext_get_or}
-use Rattle.std.proofs.lemmas.List.Folds.{list_all_at}
-use Rattle.std.proofs.lemmas.List.FromFn.{get_or-range_with_len}
-use Rattle.std.proofs.lemmas.Simd.{swz_l, SwzOk, SwzOk-from_below, Each1-get_or, length-swz_l, get_or-swz_l_below}
-use Rattle.std.proofs.lemmas.Simd.{pick_l_whole}
+use Rattle.std.proofs.lemmas.Bool.{agree_below_at, and_parts, and_from, both_ways, cases_Bool}
+use Rattle.std.proofs.lemmas.List.{length-map, Folds.list_all_at, FromFn.get_or-range_with_len}
+use Rattle.std.proofs.lemmas.{Nat.and_mask, Simd.{swz_l, SwzOk, SwzOk-from_below, pick_l_whole}}
 use lib.Lanes.{zip2, sel_l, top, Each1, number_l, digits_l, pick_l}
 use Rattle.sfv_spec.specs.Base64.{symbol, base64_text}
+use Rattle.sfv_base.proofs.Masks.{half_looked_up}
 use Rattle.sfv_writer.specs.Base64.{six_bits, byte_pairs, value_pairs, offset_index, AreOffsets}
 
 -- two lists with the same first element
@@ -66,8 +61,7 @@ front_fits (suc n) (x ∷ v) fits = (fits.0, front_fits n v fits.1)
 
 pub pairs_are : (v : List ℕ) → length v ≡ 16 → Each1 (Fits w8) v
     → digits_l 65536 8 (number_l 256 (pick_l 0 (v ++ v) places)) ≡ byte_pairs (take 12 v)
-pairs_are v long fits =
-    ap (λ (bs : List ℕ). digits_l 65536 8 (number_l 256 bs)) (picks v long)
+pairs_are v long fits = ap (λ (bs : List ℕ). digits_l 65536 8 (number_l 256 bs)) (picks v long)
     ∙ paired 4 (take 12 v) (length-take-le 12 v (omega arith)) (front_fits 12 v fits)
 
 -- ---- values
@@ -165,9 +159,8 @@ abbrev row : ℕ → ℕ
 row x = add8 (sub8 (cond (top 7 (under x 51)) 51 x) 51) (cond (top 7 (under x 26)) 13 0)
 
 abbrev pub rows : ℕ → List ℕ → List ℕ
-rows n v = zip2 add8
-    (zip2 sub8 (sel_l (map (top 7) (zip2 under v (replicate n 51))) (replicate n 51) v) (replicate n 51))
-    (sel_l (map (top 7) (zip2 under v (replicate n 26))) (replicate n 13) (replicate n 0))
+rows n v = zip2 add8 (zip2 sub8 (sel_l (map (top 7) (zip2 under v (replicate n 51))) (replicate n 51) v)
+    (replicate n 51)) (sel_l (map (top 7) (zip2 under v (replicate n 26))) (replicate n 13) (replicate n 0))
 
 rows_are : (n : ℕ) (v : List ℕ) → length v ≡ n → rows n v ≡ map row v
 rows_are zero [] e = refl
@@ -191,23 +184,11 @@ pub rows_ok : (v : List ℕ) → length v ≡ 16 → list_all is_value v ≡ tru
 rows_ok v long each = rw (rows_are 16 v long)
     (SwzOk-from_below w8 16 1 16 0 (map row v) refl (omega (arith, length-map v row)) (rows_below v each))
 
-looked_up : (table js : List ℕ) → length js ≡ 16 → Each1 (λ j. j < 16) js
-    → swz_l w8 16 table 0 js ≡ map (λ j. get_or table j 0) js
-looked_up table js long small =
-    ext_get_or 0 _ _ (length-swz_l w8 16 table 0 js ∙ sym (length-map js (λ j. get_or table j 0))) (λ i h.
-    let lt : i < length js = omega (arith, length-swz_l w8 16 table 0 js) in
-    let below = Each1-get_or (λ j. j < 16) js i 0 lt small in
-    let same : 16 * ((0 + i) / 16) + get_or js i 0 ≡ get_or js i 0 = omega arith in
-    get_or-swz_l_below w8 16 table 0 js i lt below
-    ∙ ap (λ j. get_or table j 0) same
-    ∙ sym (get_or-map (λ j. get_or table j 0) js i 0 0 lt))
-
 -- the row of a value is the index of its offset
 row_is : (x : ℕ) → x < 64 → row x ≡ offset_index x
 row_is x lt = eqb-true _ _ (agree_below_at (λ x. eqb (row x) (offset_index x)) (λ _. true) 64 x refl lt)
 
-offset_at : (offsets : List ℕ) (x : ℕ) → x < 64 → AreOffsets offsets
-    → add8 x (get_or offsets (row x) 0) ≡ symbol x
+offset_at : (offsets : List ℕ) (x : ℕ) → x < 64 → AreOffsets offsets → add8 x (get_or offsets (row x) 0) ≡ symbol x
 offset_at offsets x lt all =
     let test : ℕ → Bool = λ v. (v + get_or offsets (offset_index v) 0) % 256 == symbol v in
     let from_zero : 0 + x ≡ x = omega arith in
@@ -228,10 +209,8 @@ moved offsets (x ∷ v) each all =
 
 pub symbols_are : (offsets v : List ℕ) → length v ≡ 16 → list_all is_value v ≡ true → AreOffsets offsets
     → zip2 add8 v (swz_l w8 16 offsets 0 (rows 16 v)) ≡ map symbol v
-symbols_are offsets v long each all =
-    ap (λ (js : List ℕ). zip2 add8 v (swz_l w8 16 offsets 0 js)) (rows_are 16 v long)
-    ∙ ap (zip2 add8 v) (looked_up offsets (map row v) (length-map v row ∙ long) (rows_below v each))
-    ∙ moved offsets v each all
+symbols_are offsets v long each all = ap (λ (js : List ℕ). zip2 add8 v (swz_l w8 16 offsets 0 js)) (rows_are _ _ long)
+    ∙ ap (zip2 add8 v) (half_looked_up _ _ (length-map v row ∙ long) (rows_below _ each)) ∙ moved _ _ each all
 
 -- ---- the text of a block
 

@@ -1,30 +1,18 @@
 -- Values that are looked at one after another.
 use Rattle.std.proofs.Common.{◌≡◌, ℕ, zero, suc, ◌<◌, List, [], ◌∷◌, ◌++◌, length, get_or, map, take, refl, sym, ap}
-use Rattle.std.proofs.Common.{subst, ◌∙◌, length-append, Result, Ok, Err, inl, inr, arith}
-use Rattle.std.specs.Prelude.{⊤, not, Option, Some, flat_map, MatchResult, IfErr, IsErrAnd}
-use Rattle.std.specs.Iterator.{Yields, Drains}
-use Rattle.std.specs.List.{find}
-use Rattle.std.proofs.lemmas.Result.{err_from_is_err_and}
-use Rattle.std.proofs.lemmas.List.Concat.{flat_map-append}
-use Rattle.std.proofs.lemmas.List.Folds.{flat_map-map}
-use Rattle.std.proofs.iter.Next.{Yields-more}
+use Rattle.std.proofs.Common.{subst, ◌∙◌, length-append, Result, Ok, Err, inl, inr, arith, not, Option, Some, flat_map}
+use Rattle.std.proofs.Common.{MatchResult, IfErr, IsErrAnd, find}
+use Rattle.std.{specs.Iterator.{Yields, Drains}, specs.Map.values_of, specs.Prelude.⊤, proofs.iter.Next.Yields-more}
+use Rattle.std.proofs.lemmas.{List.Concat.flat_map-append, List.Folds.flat_map-map, Result.err_from_is_err_and}
 use Rattle.sfv_spec.specs.Values.{BareValue, RawField, HasMember, bare_values, fits_bare, AllFit, member_values}
-use Rattle.sfv_spec.specs.declared.field_kind.FieldKind.{FieldKind}
-use Rattle.sfv_spec.specs.declared.field_kind.FieldKind.TheVariants.{Item as item_field, List as list_field}
-use Rattle.sfv_spec.specs.declared.field_kind.FieldKind.TheVariants.{Dictionary as dictionary_field}
-use Rattle.sfv_spec.specs.declared.version.Version.{Version}
-use Rattle.sfv_spec.specs.declared.version.Version.TheVariants.{Rfc9651}
+use Rattle.sfv_spec.proofs.{Fields.fit_append, Given.{found_front, found_after, newer_has_all}, Marks.parameter_values}
+use Rattle.sfv_model.proofs.Types.{FieldKind, item_field, list_field, dictionary_field, Version, Rfc9651}
 use Rattle.sfv_values.specs.BareItems.{bare_value}
 use Rattle.sfv_tree.specs.Trees.{OwnedBareItem, pairs_tree, member_tree, dictionary_tree}
 use Rattle.sfv_tree.specs.declared.parsed.ListEntry.{ListEntry}
-use Rattle.std.specs.Map.{values_of}
-use Rattle.sfv_spec.proofs.Given.{found_front, found_after, newer_has_all}
-use Rattle.sfv_writer.proofs.Lent.{GivesAll}
 use Rattle.sfv_writer.specs.Versions.{NamesFirstUnfit, ChecksVersion, ChecksAll, ChecksVersionFirst, IsSerializeError}
-use Rattle.sfv_writer.specs.Versions.{FailsAmong, FailsFrom}
-use Rattle.sfv_spec.proofs.Marks.{parameter_values}
-use Rattle.sfv_spec.proofs.Fields.{fit_append}
-use Rattle.sfv_writer.specs.declared.serialize_error.SerializeError.{SerializeError}
+use Rattle.sfv_writer.specs.{Versions.{FailsAmong, FailsFrom}, declared.serialize_error.SerializeError.SerializeError}
+use Rattle.sfv_writer.proofs.Lent.{GivesAll}
 use Rattle.sfv_writer.specs.declared.serialize_error.SerializeError.TheVariants as errors
 
 -- ---- in front of others and after them
@@ -60,17 +48,14 @@ pub fails_after : {S A T : Type 0} (steps : S → Option A → S → Type 0) (re
     (version : Version) (b : BareValue) (r : Result T SerializeError) → AllFit version (b ∷ [])
     → IfErr r (FailsAmong steps rest values version) → IfErr r (FailsFrom steps rest (λ taken. b ∷ values taken) version)
 fails_after steps rest values version b (Ok x) f h = tt
-fails_after steps rest values version b (Err e) f h =
-    (h.0, h.1, h.2, error_after version (b ∷ []) (values h.0) e f h.4)
+fails_after steps rest values version b (Err e) f h = (h.0, h.1, h.2, error_after version (b ∷ []) (values h.0) e f h.4)
 
 -- what the iterator gave first, and the rest, are what it gave
 pub fails_from_first : {S A T : Type 0} (steps : S → Option A → S → Type 0) (s : S) (x : A) (rest : S)
     (values : List A → List BareValue) (version : Version) (r : Result T SerializeError) → steps s (Some x) rest
-    → IfErr r (FailsFrom steps rest (λ taken. values (x ∷ taken)) version)
-    → IfErr r (FailsAmong steps s values version)
+    → IfErr r (FailsFrom steps rest (λ taken. values (x ∷ taken)) version) → IfErr r (FailsAmong steps s values version)
 fails_from_first steps s x rest values version (Ok y) step h = tt
-fails_from_first steps s x rest values version (Err e) step h =
-    (x ∷ h.0, h.1, (rest, step, h.2), omega arith, h.3)
+fails_from_first steps s x rest values version (Err e) step h = (x ∷ h.0, h.1, (rest, step, h.2), omega arith, h.3)
 
 pub drains_from_first : {S A : Type 0} (steps : S → Option A → S → Type 0) (s : S) (x : A) (rest : S)
     (xs : List A) → steps s (Some x) rest → Drains steps rest xs → Drains steps s (x ∷ xs)
@@ -97,10 +82,9 @@ module _ {A : Type 0} (version : Version) (values : A → List BareValue) where
   pub each_stops : (front : List A) (x : A) (rest : List A) (e : SerializeError)
       → AllFit version (flat_map values front) → NamesFirstUnfit version (values x) e
       → NamesFirstUnfit version (flat_map values (front ++ x ∷ rest)) e
-  each_stops front x rest e h k =
-      subst (λ (bs : List BareValue). NamesFirstUnfit version bs e) (sym (flat_map-append values front (x ∷ rest)))
-      (names_after version (flat_map values front) (values x ++ flat_map values rest) e h
-      (names_front version (values x) (flat_map values rest) e k))
+  each_stops front x rest e h k = subst (λ (bs : List BareValue). NamesFirstUnfit version bs e)
+      (sym (flat_map-append values front (x ∷ rest))) (names_after version (flat_map values front)
+      (values x ++ flat_map values rest) e h (names_front version (values x) (flat_map values rest) e k))
 
 -- with one more there is one
 not_none : {A : Type 0} (xs : List A) (x : A) → 0 < length (xs ++ x ∷ [])
@@ -154,10 +138,9 @@ checks_whole {lent = lent} values version (Ok v) whole h = subst (AllFit version
     (sym (flat_map-map values lent h.0) ∙ ap (flat_map values) (whole.all h.0 h.1)) h.2
 checks_whole {lent = lent} values version (Err e) whole h =
     let more = whole.front h.0 h.1 h.2 in
-    subst (λ bs. NamesFirstUnfit version bs e)
-    (sym (ap (flat_map values) more.1 ∙ flat_map-append values (map lent h.0) more.0))
-    (names_front version (flat_map values (map lent h.0)) (flat_map values more.0) e
-    (subst (λ bs. NamesFirstUnfit version bs e) (sym (flat_map-map values lent h.0)) h.3))
+    subst (λ bs. NamesFirstUnfit version bs e) (sym (ap (flat_map values) more.1
+    ∙ flat_map-append values (map lent h.0) more.0)) (names_front version (flat_map values (map lent h.0))
+    (flat_map values more.0) e (subst (λ bs. NamesFirstUnfit version bs e) (sym (flat_map-map values lent h.0)) h.3))
 
 -- the values of parameters, one by one
 pub singles : {A : Type 0} (f : A → BareValue) (xs : List A) → flat_map (λ x. f x ∷ []) xs ≡ map f xs

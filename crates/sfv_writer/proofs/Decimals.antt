@@ -1,16 +1,11 @@
 -- The digits of a decimal.
 use Rattle.std.proofs.Common.{◌≡◌, ℕ, ◌+◌, ◌<◌, ◌≤◌, ◌/◌, ◌%◌, Bool, true, false, eqb, List, [], ◌∷◌, ◌++◌, refl, ap}
-use Rattle.std.proofs.Common.{subst, ◌∙◌, arith, sym, Result, ℤ, pos, negsuc, to_z, of_z, w64}
-use Rattle.std.specs.Prelude.{MatchResult, nat_abs, int_lt, codes, decimal as decimal_digits}
-use Rattle.std.proofs.lemmas.Fmt.{decimal_digit, decimal_step}
-use Rattle.std.proofs.lemmas.Int.{to_z-of_z}
-use Rattle.std.specs.Fmt.{signed_decimal}
-use Rattle.sfv_spec.proofs.Marks.{digit_zero, minus_text}
-use Rattle.std.specs.Int.{is_negative}
-use Rattle.sfv_spec.proofs.Written.{not_negative}
+use Rattle.std.proofs.Common.{subst, ◌∙◌, arith, sym, Result, ℤ, pos, negsuc, to_z, of_z, w64, MatchResult, nat_abs}
+use Rattle.std.{proofs.Common.{int_lt, codes, decimal as decimal_digits}, specs.Fmt.signed_decimal}
+use Rattle.std.{specs.Int.is_negative, proofs.lemmas.Fmt.{decimal_digit, decimal_step}, proofs.lemmas.Int.to_z-of_z}
 use Rattle.sfv_spec.specs.Canonical.{fraction_digits, decimal_text}
-use Rattle.sfv_writer.specs.Written.{Extends}
-use Rattle.sfv_writer.proofs.Appended.{put, next, after}
+use Rattle.sfv_spec.proofs.{Marks.{digit_zero, minus_text}, Written.not_negative}
+use Rattle.sfv_writer.{specs.Written.Extends, proofs.Appended.{put, next, after}}
 
 pub fraction_one : (f : ℕ) → eqb (f % 100) 0 ≡ true → fraction_digits f ≡ (digit_zero + f / 100) ∷ []
 fraction_one f e = rw e refl
@@ -27,8 +22,7 @@ pub ruleset fraction_steps = (fraction_one, fraction_two, fraction_three)
 
 -- the digits of a number below 100, and of one below 1000
 pub two_digits : (n : ℕ) → 10 ≤ n → n < 100 → decimal_digits n ≡ (48 + n / 10) ∷ (48 + n % 10) ∷ []
-two_digits n l h =
-    rw (decimal_step n l (omega (arith, h)), decimal_digit (n / 10) (omega (arith, h))) refl
+two_digits n l h = rw (decimal_step n l (omega (arith, h)), decimal_digit (n / 10) (omega (arith, h))) refl
 
 pub three_digits : (n : ℕ) → 100 ≤ n → n < 1000
     → decimal_digits n ≡ (48 + n / 100) ∷ (48 + n / 10 % 10) ∷ (48 + n % 10) ∷ []
@@ -63,17 +57,14 @@ front_of old text sign mid new a b e = a ∙ put old text sign mid b e
 
 -- a sign and digits are the text of an integer
 signed_text : (z : ℤ) → minus_text (is_negative z) ++ decimal_digits (nat_abs z) ≡ signed_decimal z
-signed_text (pos n) =
-    ap (λ (b : Bool). minus_text b ++ decimal_digits n) (not_negative n)
+signed_text (pos n) = ap (λ (b : Bool). minus_text b ++ decimal_digits n) (not_negative n)
 signed_text (negsuc n) = refl
 
 -- the digits of a number that is not below zero are its text
 pub natural_text : (v z : ℤ) (m : ℕ) → v ≡ z → m ≡ nat_abs z → int_lt v (pos 0) ≡ false
     → decimal_digits m ≡ signed_decimal z
-natural_text v z m same e h =
-    ap decimal_digits e
-    ∙ ap (λ (minus : List ℕ). minus ++ decimal_digits (nat_abs z)) (sym (minus_of v z false same h))
-    ∙ signed_text z
+natural_text v z m same e h = ap decimal_digits e
+    ∙ ap (λ (minus : List ℕ). minus ++ decimal_digits (nat_abs z)) (sym (minus_of v z false same h)) ∙ signed_text z
 
 -- the parts of a decimal, one after another
 pub decimal_parts : {T E : Type 0} (old front whole dot point new : List ℕ) (z : ℤ) (m : ℕ) (r : Result T E)
@@ -83,8 +74,5 @@ pub decimal_parts : {T E : Type 0} (old front whole dot point new : List ℕ) (z
 decimal_parts {T} {E} old front whole dot point new z m r e a b k c h =
     let minus : List ℕ = minus_text (is_negative z) in
     subst (λ (n : ℕ). MatchResult r (λ _. new ≡ old ++ (minus ++ decimal_digits (n / 1000) ++ codes "."
-    ++ fraction_digits (n % 1000))) (λ _. Extends old new)) e
-    (after old (minus ++ decimal_digits (m / 1000) ++ codes ".") point _ new r
-    (next old (minus ++ decimal_digits (m / 1000)) whole (codes ".") point
-    (next old minus front (decimal_digits (m / 1000)) whole a b)
-    (put whole dot (codes ".") point c k)) h)
+    ++ fraction_digits (n % 1000))) (λ _. Extends old new)) e (after _ _ _ _ _ _ (next _ _ _ _ _
+    (next _ _ _ _ _ a b) (put _ _ _ _ c k)) h)

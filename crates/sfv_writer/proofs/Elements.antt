@@ -1,24 +1,17 @@
 -- What a call took from an iterator before it failed.
 use Rattle.std.proofs.Common.{◌≡◌, ◌<◌, ℕ, Bool, true, false, List, [], ◌∷◌, ◌++◌, length, refl, sym, ap, subst, ◌∙◌}
-use Rattle.std.proofs.Common.{arith, inl, string_bytes, Result, Ok, Err}
-use Rattle.std.specs.Prelude.{Option, IfErr, OnOk, flat_map}
-use Rattle.std.specs.Borrow.{Bor}
-use Rattle.std.specs.Iterator.{Drains}
-use Rattle.std.specs.List.{AllByRecursion}
-use Rattle.std.specs.declared.string.String.{String}
+use Rattle.std.proofs.Common.{arith, inl, string_bytes, Result, Ok, Err, Option, IfErr, OnOk, flat_map, Bor}
+use Rattle.std.specs.{Iterator.Drains, List.AllByRecursion, declared.string.String.String}
 use Rattle.indexmap.proofs.MapLemmas.{OnOk-map}
-use Rattle.sfv_spec.specs.Values.{AreParameters, AllFit}
-use Rattle.sfv_spec.specs.Canonical.{parameters_text}
-use Rattle.sfv_spec.specs.declared.version.Version.{Version}
-use Rattle.sfv_spec.specs.declared.version.Version.TheVariants.{Rfc9651}
+use Rattle.sfv_spec.specs.{Canonical.parameters_text, Values.{AreParameters, AllFit}}
+use Rattle.sfv_spec.specs.declared.version.Version.{Version, TheVariants.Rfc9651}
 use Rattle.sfv_values.specs.BareItems.{bare_value}
 use Rattle.sfv_tree.specs.Trees.{OwnedBareItem}
-use Rattle.sfv_writer.proofs.Checks.{newer_fails, singles}
 use Rattle.sfv_writer.specs.Pairs.{lent_pairs, pair_values}
 use Rattle.sfv_writer.specs.Versions.{PartKind, parts_text, StopsEarly, FailsAmong, LacksAmong, IsSerializeError}
 use Rattle.sfv_writer.specs.Versions.{AppendsParameters, parameter_pairs}
-use Rattle.sfv_writer.specs.Written.{LacksRoom}
-use Rattle.sfv_writer.specs.declared.serialize_error.SerializeError.{SerializeError}
+use Rattle.sfv_writer.specs.{Written.LacksRoom, declared.serialize_error.SerializeError.SerializeError}
+use Rattle.sfv_writer.proofs.Checks.{newer_fails, singles}
 use Rattle.sfv_writer.specs.declared.serialize_error.SerializeError.TheVariants as errors
 
 module _ {A S Z : Type 0} (kind : PartKind A) (separator : List ℕ) (version : Version)

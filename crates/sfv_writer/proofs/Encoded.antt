@@ -1,14 +1,10 @@
 -- The Base64 texts of bytes, part by part.
 use Rattle.std.proofs.Common.{◌≡◌, ◌≤◌, ◌<◌, ◌+◌, ◌*◌, ◌/◌, ◌%◌, ℕ, zero, suc, true, List, [], ◌∷◌, ◌++◌, length, take}
 use Rattle.std.proofs.Common.{drop, get_or, refl, sym, ap, ◌∙◌, arith, append_assoc, ltb, string_bytes, string_capacity}
-use Rattle.std.specs.Str.{IsAscii}
-use Rattle.std.specs.List.{list_all}
-use Rattle.std.specs.declared.string.String.{String}
-use Rattle.std.proofs.lemmas.Bool.{and_parts, ltb-true, lt-ltb}
-use Rattle.std.proofs.lemmas.List.{append-nil, length-append, length-take-le, take-append-drop}
+use Rattle.std.proofs.Common.{IsAscii, ltb-true, lt-ltb, append-nil, length-append, length-take-le, take-append-drop}
+use Rattle.std.{specs.List.list_all, specs.declared.string.String.String, proofs.lemmas.Bool.and_parts}
 use Rattle.sfv_spec.specs.Base64.{symbols, symbol, base64_text}
-use Rattle.sfv_writer.specs.Written.{LacksRoom}
-use Rattle.sfv_writer.proofs.Room.{len_of}
+use Rattle.sfv_writer.{specs.Written.LacksRoom, proofs.Room.len_of}
 
 -- its text between colons, after what was written before
 pub between_colons : (old a b new bytes : List ℕ) → a ≡ old ++ 58 ∷ [] → b ≡ a ++ base64_text bytes
@@ -29,8 +25,7 @@ each_ascii : (bytes : List ℕ) → list_all (λ x. ltb x 128) (base64_text byte
 unfolding base64_text
 each_ascii [] = refl
 each_ascii (a ∷ []) = rw (symbol_ascii (a / 4), symbol_ascii (a % 4 * 16)) refl
-each_ascii (a ∷ b ∷ []) =
-    rw (symbol_ascii (a / 4), symbol_ascii (a % 4 * 16 + b / 16), symbol_ascii (b % 16 * 4)) refl
+each_ascii (a ∷ b ∷ []) = rw (symbol_ascii (a / 4), symbol_ascii (a % 4 * 16 + b / 16), symbol_ascii (b % 16 * 4)) refl
 each_ascii (a ∷ b ∷ c ∷ rest) =
     rw (symbol_ascii (a / 4), symbol_ascii (a % 4 * 16 + b / 16), symbol_ascii (b % 16 * 4 + c / 64), symbol_ascii (c % 64))
     (each_ascii rest)
@@ -135,8 +130,7 @@ none_for_all before output input rest part after so_far parts lacks =
 pub all_encoded : {Z : Type 0} (before output : String Z) (input rest : List ℕ) → IsEncodedUpTo before input rest output
     → length rest ≡ 0 → string_bytes output ≡ string_bytes before ++ base64_text input
 unfolding base64_text
-all_encoded before output input [] so_far none =
-    so_far.text ∙ rw (so_far.whole, append-nil) refl
+all_encoded before output input [] so_far none = so_far.text ∙ rw (so_far.whole, append-nil) refl
 all_encoded before output input (b ∷ rest) so_far none = absurd (omega (arith, none))
 
 -- the text of whole groups in front, and of the rest

@@ -1,31 +1,22 @@
 -- Values that are lent by a slice or a map.
-use Rattle.std.proofs.Common.{◌≡◌, List, [], ◌∷◌, ◌++◌, ℕ, length, map, refl, sym, ap, ◌∙◌, Iter, arith}
-use Rattle.std.specs.Prelude.{Option}
-use Rattle.std.specs.Borrow.{Bor}
-use Rattle.std.specs.Iterator.{Yields, Drains}
-use Rattle.std.specs.Slice.Iter.{iter_rest, iter_steps}
-use Rattle.std.specs.Map.Iter.{TakesFirst, deref_pair}
-use Rattle.std.proofs.lemmas.List.{map-append, append-nil}
-use Rattle.std.proofs.lemmas.Map.Iter.{rest_so_far}
-use Rattle.std.proofs.lemmas.Simd.{map-map}
+use Rattle.std.proofs.Common.{◌≡◌, List, [], ◌∷◌, ◌++◌, ℕ, length, map, refl, sym, ap, ◌∙◌, Iter, arith, Option, Bor}
+use Rattle.std.proofs.Common.{append-nil}
+use Rattle.std.specs.{Iterator.{Yields, Drains}, Map.Iter.{TakesFirst, deref_pair}, Slice.Iter.{iter_rest, iter_steps}}
+use Rattle.std.proofs.lemmas.{List.map-append, Map.Iter.rest_so_far, Simd.map-map}
 use Rattle.sfv_tree.specs.Trees.{OwnedBareItem, pairs_tree, member_tree, list_tree, dictionary_tree}
-use Rattle.sfv_tree.proofs.Words.{pair_tree, entry_tree}
-use Rattle.sfv_tree.specs.declared.parsed.ListEntry.{ListEntry}
-use Rattle.sfv_writer.specs.Pairs.{lent_pairs}
-use Rattle.sfv_writer.proofs.Words.{lent_list_member, lent_dictionary_member}
+use Rattle.sfv_tree.{specs.declared.parsed.ListEntry.ListEntry, proofs.Words.{pair_tree, entry_tree}}
+use Rattle.sfv_writer.{specs.Pairs.lent_pairs, proofs.Words.{lent_list_member, lent_dictionary_member}}
 
 -- ---- the elements taken so far come before the rest
 
 pub pairs_front : (s t : List (List ℕ × OwnedBareItem)) (xs : List (Bor (List ℕ) × Bor OwnedBareItem))
     → Yields (TakesFirst deref_pair) s xs t → pairs_tree s ≡ lent_pairs xs ++ pairs_tree t
-pairs_front s t xs ran =
-    ap pairs_tree (rest_so_far deref_pair xs s t ran) ∙ map-append pair_tree (map deref_pair xs) t
+pairs_front s t xs ran = ap pairs_tree (rest_so_far deref_pair xs s t ran) ∙ map-append pair_tree (map deref_pair xs) t
 
 map_front : {A X B : Type 0} (shows : A → X) (tree : X → B) (s t : List X) (xs : List A)
     → Yields (TakesFirst shows) s xs t → map tree s ≡ map (λ x. tree (shows x)) xs ++ map tree t
-map_front shows tree s t xs ran =
-    ap (map tree) (rest_so_far shows xs s t ran) ∙ map-append tree (map shows xs) t
-    ∙ ap (λ ys. ys ++ map tree t) (map-map tree shows xs)
+map_front shows tree s t xs ran = ap (map tree) (rest_so_far shows xs s t ran)
+    ∙ map-append tree (map shows xs) t ∙ ap (λ ys. ys ++ map tree t) (map-map tree shows xs)
 
 pub members_front : (s t : List (List ℕ × ListEntry)) (xs : List (Bor (List ℕ) × Bor ListEntry))
     → Yields (TakesFirst deref_pair) s xs t → dictionary_tree s ≡ map lent_dictionary_member xs ++ dictionary_tree t

@@ -1,22 +1,13 @@
 -- Parameters that are written one after another: as values, and as they are lent.
 use Rattle.std.proofs.Common.{◌≡◌, ℕ, List, [], ◌∷◌, ◌++◌, length, refl, sym, ap, subst, ◌∙◌, append_assoc, arith}
-use Rattle.std.specs.Prelude.{IsTrue, Result, Ok, Err, OnOk}
-use Rattle.std.specs.Borrow.{Bor}
-use Rattle.std.proofs.lemmas.List.{append-nil}
-use Rattle.sfv_spec.specs.Classes.{is_key}
+use Rattle.std.proofs.Common.{IsTrue, Result, Ok, Err, OnOk, Bor, append-nil}
+use Rattle.sfv_spec.specs.{Canonical.parameters_text, Classes.is_key, Statements.IsValue}
 use Rattle.sfv_spec.specs.Values.{BareValue, RawParameters, RawItem, IsBareValue, AreParameters, AllFit}
-use Rattle.sfv_spec.specs.declared.field_kind.FieldKind.TheVariants.{Item as item_field}
-use Rattle.sfv_spec.specs.Statements.{IsValue}
-use Rattle.sfv_spec.proofs.Distinct.{item_own}
-use Rattle.sfv_spec.specs.declared.version.Version.{Version}
-use Rattle.sfv_spec.proofs.Repeats.{no_repeats}
-use Rattle.sfv_spec.proofs.Marks.{keys}
-use Rattle.sfv_spec.specs.Canonical.{parameters_text}
+use Rattle.sfv_spec.specs.declared.{field_kind.FieldKind.TheVariants.Item as item_field, version.Version.Version}
+use Rattle.sfv_spec.proofs.{Distinct.item_own, Marks.keys, Repeats.no_repeats}
 use Rattle.sfv_values.specs.BareItems.{bare_value}
 use Rattle.sfv_tree.specs.Trees.{OwnedBareItem, pairs_tree}
-use Rattle.sfv_writer.specs.Written.{param_text}
-use Rattle.sfv_writer.specs.Pairs.{lent_pairs, pair_values}
-use Rattle.sfv_writer.proofs.Appended.{next}
+use Rattle.sfv_writer.{specs.Pairs.{lent_pairs, pair_values}, specs.Written.param_text, proofs.Appended.next}
 
 -- the text of one more, after those of all before
 pub parameters_push : (ps : RawParameters) (p : List ℕ × BareValue)
@@ -45,20 +36,16 @@ module _ (k : Bor (List ℕ)) (v : Bor OwnedBareItem) where
       → new ≡ old ++ parameters_text (lent_pairs (ps ++ (k, v) ∷ []))
   text_more old output new ps e n =
       let so_far : RawParameters = lent_pairs ps in
-      next old (parameters_text so_far) output (param_text k.now (bare_value v.now)) new e n
-      ∙ ap (λ (t : List ℕ). old ++ t) (sym (ap parameters_text (lent_push ps)
-      ∙ parameters_push so_far (k.now, bare_value v.now)))
+      next _ _ _ _ _ e n ∙ ap (λ (t : List ℕ). old ++ t) (sym (ap parameters_text (lent_push _) ∙ parameters_push _ _))
 
   -- and is a parameter
   pub valid_more : (ps : List (Bor (List ℕ) × Bor OwnedBareItem)) → AreParameters (lent_pairs ps)
       → IsTrue (is_key k.now) → IsBareValue (bare_value v.now) → AreParameters (lent_pairs (ps ++ (k, v) ∷ []))
-  valid_more ps h key value =
-      subst AreParameters (sym (lent_push ps)) (valid_push (lent_pairs ps) (k.now, bare_value v.now) h key value)
+  valid_more ps h key value = subst AreParameters (sym (lent_push _)) (valid_push _ _ h key value)
 
   -- whose value fits
-  pub fit_more : (version : Version) (ps : List (Bor (List ℕ) × Bor OwnedBareItem))
-      → AllFit version (pair_values ps) → AllFit version (bare_value v.now ∷ [])
-      → AllFit version (pair_values (ps ++ (k, v) ∷ []))
+  pub fit_more : (version : Version) (ps : List (Bor (List ℕ) × Bor OwnedBareItem)) → AllFit version (pair_values ps)
+      → AllFit version (bare_value v.now ∷ []) → AllFit version (pair_values (ps ++ (k, v) ∷ []))
   fit_more version [] h fit = fit
   fit_more version (p ∷ ps) h fit = (h.0, fit_more version ps h.1 fit)
 
@@ -72,8 +59,7 @@ pub none_valid : (es : List (List ℕ × OwnedBareItem)) → length es ≡ 0 →
 none_valid [] e = tt
 none_valid (p ∷ es) e = absurd (omega (arith, e))
 
-pub none_repeated : (es : List (List ℕ × OwnedBareItem)) → length es ≡ 0
-    → IsTrue (no_repeats (keys (pairs_tree es)))
+pub none_repeated : (es : List (List ℕ × OwnedBareItem)) → length es ≡ 0 → IsTrue (no_repeats (keys (pairs_tree es)))
 none_repeated [] e = refl
 none_repeated (p ∷ es) e = absurd (omega (arith, e))
 

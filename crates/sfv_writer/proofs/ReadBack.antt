@@ -1,21 +1,11 @@
 -- What is written is read back.
-use Rattle.std.proofs.Common.{◌≡◌, ◌++◌, ◌∙◌, ℕ, List, [], ◌∷◌, ap, sym, subst, refl, append-nil}
-use Rattle.std.specs.Prelude.{Option, Some, None}
-use Rattle.sfv_spec.specs.Values.{RawField, RawMember, IsFieldValue, IsMember, HasMember, bare_values, member_values}
-use Rattle.sfv_spec.specs.Values.{Fits, AllFit}
-use Rattle.sfv_spec.specs.declared.field_kind.FieldKind.{FieldKind}
-use Rattle.sfv_spec.specs.declared.field_kind.FieldKind.TheVariants.{List as list_field}
-use Rattle.sfv_spec.specs.declared.version.Version.{Version}
-use Rattle.sfv_spec.specs.declared.version.Version.TheVariants.{Rfc8941, Rfc9651}
-use Rattle.sfv_spec.specs.Ordered.{ordered, ordered_member}
-use Rattle.sfv_spec.specs.Grammar.{IsFieldText}
+use Rattle.std.proofs.Common.{◌≡◌, ◌++◌, ◌∙◌, ℕ, List, [], ◌∷◌, ap, sym, subst, refl, append-nil, Option, Some, None}
+use Rattle.sfv_spec.specs.{Canonical.{canonical, member_text}, Grammar.IsFieldText, Ordered.{ordered, ordered_member}}
 use Rattle.sfv_spec.specs.Statements.{IsValue, IsParsedAs, IsSerializedAs}
-use Rattle.sfv_spec.specs.Canonical.{canonical, member_text}
-use Rattle.sfv_spec.proofs.Fields.{all_fit_newer}
-use Rattle.sfv_spec.proofs.Laws.{round_trip_lem}
-use Rattle.sfv_spec.proofs.Structure.{one_field_lem}
-use Rattle.sfv_spec.proofs.Valid.{accepted_is_value_lem}
-use Rattle.sfv_spec.proofs.Versions.{newer_accepts_lem}
+use Rattle.sfv_spec.specs.Values.{RawField, RawMember, IsFieldValue, IsMember, HasMember, bare_values, member_values}
+use Rattle.sfv_spec.{specs.Values.{Fits, AllFit}, proofs.Fields.all_fit_newer, proofs.Laws.round_trip_lem}
+use Rattle.sfv_spec.proofs.{Structure.one_field_lem, Valid.accepted_is_value_lem, Versions.newer_accepts_lem}
+use Rattle.sfv_model.proofs.Types.{FieldKind, list_field, Version, Rfc8941, Rfc9651}
 
 -- what is written of a field that fits a version is read by it as its ordered value: repeated keys too
 pub read_back : (version : Version) (kind : FieldKind) (raw : RawField kind) → IsFieldValue kind raw → Fits version kind raw
@@ -73,10 +63,9 @@ pub serialized_is_value : (version : Version) (kind : FieldKind) (value : RawFie
     → IsSerializedAs version kind value (Some t) → IsValue kind value × Fits version kind value
 serialized_is_value version kind value t h =
     let parsed = h.2 in
-    let v = parsed_is_value version kind value t parsed in
+    let v = parsed_is_value _ _ _ _ parsed in
     let same = one_field_lem Rfc9651 kind t parsed.raw value (newer version parsed.raw parsed.accepted)
-    (subst (IsFieldText Rfc9651 kind value) (sym h.1)
-    (round_trip_lem Rfc9651 kind value v.parts (all_fit_newer (bare_values kind value)))) in
+    (subst (IsFieldText Rfc9651 kind value) (sym h.1) (round_trip_lem Rfc9651 kind value v.parts (all_fit_newer _))) in
     (v, subst (Fits version kind) same (accepted_is_value_lem version kind t parsed.raw parsed.accepted).2)
   where
     newer : (version : Version) (raw : RawField kind) → IsFieldText version kind raw t → IsFieldText Rfc9651 kind raw t

@@ -1,16 +1,10 @@
 -- Room for what is added to a text.
-use Rattle.std.proofs.Common.{◌≡◌, ◌<◌, ◌≤◌, ◌+◌, ℕ, Bool, true, false, cond, List, [], ◌∷◌, ◌++◌, length, string_bytes, string_len}
-use Rattle.std.proofs.Common.{string_capacity, ap, sym, arith, refl, Result, Ok, Err}
-use Rattle.std.specs.Prelude.{flat_map}
-use Rattle.std.specs.declared.string.String.{String}
-use Rattle.std.specs.List.{list_all}
-use Rattle.std.proofs.lemmas.Bool.{and_parts}
-use Rattle.std.proofs.lemmas.List.{append-nil, length-append}
-use Rattle.sfv_spec.specs.Texts.{RunOf}
-use Rattle.sfv_spec.specs.Strings.{is_escaped_in_string, is_plain_in_display}
-use Rattle.sfv_writer.specs.Quoted.{piece_of}
-use Rattle.sfv_writer.specs.Written.{LacksRoom, AsksForRoom}
-use Rattle.sfv_writer.proofs.Written.{IsWrittenUpTo}
+use Rattle.std.proofs.Common.{◌≡◌, ◌<◌, ◌≤◌, ◌+◌, ℕ, Bool, true, false, cond, List, [], ◌∷◌, ◌++◌, length, string_bytes}
+use Rattle.std.proofs.Common.{string_len, string_capacity, ap, sym, arith, refl, Result, Ok, Err, flat_map, append-nil}
+use Rattle.std.proofs.Common.{length-append}
+use Rattle.std.{specs.List.list_all, specs.declared.string.String.String, proofs.lemmas.Bool.and_parts}
+use Rattle.sfv_spec.specs.{Strings.{is_escaped_in_string, is_plain_in_display}, Texts.RunOf}
+use Rattle.sfv_writer.{specs.Quoted.piece_of, specs.Written.{LacksRoom, AsksForRoom}, proofs.Written.IsWrittenUpTo}
 
 -- how long a text is
 pub len_of : {Z : Type 0} (s : String Z) → string_len s ≡ length (string_bytes s)

@@ -1,30 +1,19 @@
 -- Room for parts that an iterator gives one after another.
 use Rattle.std.proofs.Common.{◌≡◌, ◌≤◌, ◌+◌, ℕ, Bool, true, false, List, [], ◌∷◌, ◌++◌, length, map, string_bytes}
-use Rattle.std.proofs.Common.{string_capacity, refl, sym, ap, subst, ◌∙◌, arith, Result, Ok, Err}
-use Rattle.std.specs.Prelude.{Option, Some, IfErr, IsErrAnd}
-use Rattle.std.specs.Borrow.{Bor}
-use Rattle.std.specs.Iterator.{Yields, Drains}
-use Rattle.std.specs.Map.Iter.{TakesFirst, ShowsInOrder, deref_pair}
-use Rattle.std.specs.declared.string.String.{String}
-use Rattle.std.proofs.iter.Next.{Yields-more}
-use Rattle.std.proofs.lemmas.List.{length-append, map-append}
-use Rattle.std.proofs.lemmas.List.Concat.{flat_map-append}
-use Rattle.std.proofs.lemmas.Simd.{map-map}
-use Rattle.sfv_spec.specs.Texts.{joined}
-use Rattle.sfv_spec.specs.Values.{BareValue, RawParameters, AllFit}
-use Rattle.sfv_spec.specs.declared.version.Version.{Version}
+use Rattle.std.proofs.Common.{string_capacity, refl, sym, ap, subst, ◌∙◌, arith, Result, Ok, Err, Option, Some, IfErr}
+use Rattle.std.proofs.Common.{IsErrAnd, Bor, length-append}
+use Rattle.std.specs.{Iterator.{Yields, Drains}, Map.Iter.{TakesFirst, ShowsInOrder, deref_pair}}
+use Rattle.std.{specs.declared.string.String.String, proofs.iter.Next.Yields-more}
+use Rattle.std.proofs.lemmas.{List.map-append, List.Concat.flat_map-append, Simd.map-map}
 use Rattle.sfv_spec.specs.Canonical.{parameters_text}
+use Rattle.sfv_spec.specs.{Texts.joined, Values.{BareValue, RawParameters, AllFit}, declared.version.Version.Version}
 use Rattle.sfv_values.specs.BareItems.{bare_value}
 use Rattle.sfv_tree.specs.Trees.{OwnedBareItem, pairs_tree}
+use Rattle.sfv_writer.specs.{Pairs.lent_pairs, Versions.{NamesFirstUnfit, LacksAmong, parameter_pairs, parts_text}}
 use Rattle.sfv_writer.specs.Written.{LacksRoom, separator_before, with_separators, is_first_after, param_text}
-use Rattle.sfv_writer.specs.Pairs.{lent_pairs}
-use Rattle.sfv_writer.specs.Versions.{NamesFirstUnfit, LacksAmong, parameter_pairs, parts_text}
-use Rattle.sfv_writer.proofs.Elements.{text_as}
 use Rattle.sfv_writer.specs.declared.serialize_error.SerializeError.{SerializeError}
-use Rattle.sfv_writer.proofs.Lent.{lent_all, pairs_front}
-use Rattle.sfv_writer.proofs.Checks.{at_exit}
-use Rattle.sfv_writer.proofs.Parameters.{parameters_push, lent_push}
-use Rattle.sfv_writer.proofs.Room.{room_after, room_before, room_shorter}
+use Rattle.sfv_writer.proofs.{Checks.at_exit, Elements.text_as, Lent.{lent_all, pairs_front}}
+use Rattle.sfv_writer.proofs.{Parameters.{parameters_push, lent_push}, Room.{room_after, room_before, room_shorter}}
 use Rattle.sfv_writer.proofs.Separated.{in_a_row_first, is_first_after-false}
 
 -- ---- what an iterator gives
@@ -126,8 +115,7 @@ pub pairs_lack : {Z : Type 0} (old : String Z) (s t : List (List ℕ × OwnedBar
 pairs_lack old s t taken ran h =
     let front : RawParameters = lent_pairs taken in
     let whole : parameters_text (pairs_tree s) ≡ parameters_text front ++ parameters_text (pairs_tree t) =
-    ap parameters_text (pairs_front s t taken ran)
-    ∙ flat_map-append (λ p. param_text p.0 p.1) front (pairs_tree t) in
+    ap parameters_text (pairs_front s t taken ran) ∙ flat_map-append (λ p. param_text p.0 p.1) front (pairs_tree t) in
     subst (λ (l : List ℕ). LacksRoom old l) (sym whole)
     (room_before old (parameters_text front) (parameters_text (pairs_tree t)) h)
 
@@ -149,7 +137,6 @@ module _ {Z : Type 0} (k : Bor (List ℕ)) (v : Bor OwnedBareItem) (ps : List (B
   pub one_lacks : string_bytes output ≡ string_bytes old ++ parameters_text (lent_pairs ps)
       → string_capacity old ≤ string_capacity output → LacksRoom output (param_text k.now (bare_value v.now))
       → LacksRoom old (parameters_text (lent_pairs (ps ++ (k, v) ∷ [])))
-  one_lacks e c h =
-      subst (λ (l : List ℕ). LacksRoom old l) (sym (ap parameters_text (lent_push k v ps)
-      ∙ parameters_push (lent_pairs ps) (k.now, bare_value v.now)))
+  one_lacks e c h = subst (λ (l : List ℕ). LacksRoom old l)
+      (sym (ap parameters_text (lent_push k v ps) ∙ parameters_push (lent_pairs ps) (k.now, bare_value v.now)))
       (room_after old output (parameters_text (lent_pairs ps)) (param_text k.now (bare_value v.now)) e c h)

@@ -1,9 +1,7 @@
 -- Parts that are written in a row, with a separator between each two.
 use Rattle.std.proofs.Common.{◌≡◌, ℕ, ◌+◌, ◌<◌, Bool, true, false, List, [], ◌∷◌, ◌++◌, length, get_or, map, take, refl}
-use Rattle.std.proofs.Common.{sym, ap, ◌∙◌, append_assoc, Result, Ok, Err, arith}
-use Rattle.std.specs.Prelude.{IfErr, OnOk}
-use Rattle.std.specs.List.{AllByRecursion}
-use Rattle.std.proofs.lemmas.List.{take_more, map-append, append-nil}
+use Rattle.std.proofs.Common.{sym, ap, ◌∙◌, append_assoc, Result, Ok, Err, arith, IfErr, OnOk, append-nil}
+use Rattle.std.{specs.List.AllByRecursion, proofs.lemmas.List.{take_more, map-append}}
 use Rattle.sfv_spec.specs.Texts.{joined}
 use Rattle.sfv_writer.specs.Written.{separator_before, with_separators, is_first_after}
 
@@ -16,8 +14,7 @@ all_push P (y ∷ ys) x h p = (h.0, all_push P ys x h.1 p)
 -- the values of one more of a list
 pub mapped_more : {A B : Type 0} (f : A → B) (xs : List A) (i : ℕ) (x : A) → i < length xs → x ≡ get_or xs i x
     → map f (take (i + 1) xs) ≡ map f (take i xs) ++ f x ∷ []
-mapped_more f xs i x lt e =
-    ap (map f) (take_more xs i x lt) ∙ map-append f (take i xs) (get_or xs i x ∷ [])
+mapped_more f xs i x lt e = ap (map f) (take_more xs i x lt) ∙ map-append f (take i xs) (get_or xs i x ∷ [])
     ∙ ap (λ y. map f (take i xs) ++ f y ∷ []) (sym e)
 
 -- both of what holds of each
@@ -74,9 +71,8 @@ in_a_row_push text_of s b (y ∷ ys) x =
     let rest : List ℕ = with_separators false s (map text_of ys) in
     let front : List ℕ = separator_before b s ++ text_of y in
     ap (λ (t : List ℕ). front ++ t) (in_a_row_push text_of s false ys x
-    ∙ ap (λ (f : Bool). (rest ++ separator_before f s) ++ text_of x) (is_first_after-false ys))
-    ∙ sym (append_assoc front (rest ++ s) (text_of x))
-    ∙ ap (λ (t : List ℕ). t ++ text_of x) (sym (append_assoc front rest s))
+    ∙ ap (λ (f : Bool). (rest ++ separator_before f s) ++ text_of x) (is_first_after-false ys)) ∙ sym
+    (append_assoc front (rest ++ s) (text_of x)) ∙ ap (λ (t : List ℕ). t ++ text_of x) (sym (append_assoc front rest s))
 
 -- one more part is written
 pub in_a_row_more : {A : Type 0} (text_of : A → List ℕ) (IsGood : A → Type 0) (s : List ℕ) (xs : List A)
@@ -102,6 +98,5 @@ in_a_row_first s [] = refl
 in_a_row_first s (x ∷ []) = append-nil x
 in_a_row_first s (x ∷ y ∷ xs) =
     let after : List ℕ = with_separators false s xs in
-    ap (λ (t : List ℕ). x ++ t) (append_assoc s y after)
-    ∙ sym (append_assoc x s (y ++ after))
+    ap (λ (t : List ℕ). x ++ t) (append_assoc s y after) ∙ sym (append_assoc x s (y ++ after))
     ∙ ap (λ (t : List ℕ). (x ++ s) ++ t) (in_a_row_first s (y ∷ xs))

@@ -1,22 +1,15 @@
 -- Parts that an iterator gave, and whose text is appended.
 use Rattle.std.proofs.Common.{◌≡◌, ◌≤◌, ℕ, Bool, false, List, [], ◌∷◌, ◌++◌, string_bytes, string_capacity, refl, sym}
-use Rattle.std.proofs.Common.{ap, subst, ◌∙◌, arith, inl, inr, Result}
-use Rattle.std.specs.Prelude.{Option, Some, None, IfErr, IsErrAnd, flat_map}
-use Rattle.std.specs.Iterator.{Yields, Drains}
-use Rattle.std.specs.declared.string.String.{String}
-use Rattle.std.proofs.iter.Next.{Yields-more}
-use Rattle.std.proofs.lemmas.List.{append-nil, length-append}
-use Rattle.sfv_spec.specs.Values.{AllFit}
-use Rattle.sfv_spec.specs.declared.version.Version.{Version}
+use Rattle.std.proofs.Common.{ap, subst, ◌∙◌, arith, inl, inr, Result, Option, Some, None, IfErr, IsErrAnd, flat_map}
+use Rattle.std.proofs.Common.{append-nil, length-append}
+use Rattle.std.{specs.Iterator.{Yields, Drains}, specs.declared.string.String.String, proofs.iter.Next.Yields-more}
+use Rattle.sfv_spec.specs.{Values.AllFit, declared.version.Version.Version}
 use Rattle.sfv_writer.specs.Versions.{PartKind, parts_text, StopsEarly, LacksForParts, IsSerializeError}
-use Rattle.sfv_writer.specs.Versions.{NamesFirstUnfit}
-use Rattle.sfv_writer.specs.Written.{Extends, LacksRoom, separator_before}
+use Rattle.sfv_writer.specs.{Versions.NamesFirstUnfit, Written.{Extends, LacksRoom, separator_before}}
 use Rattle.sfv_writer.specs.declared.serialize_error.SerializeError.{SerializeError}
+use Rattle.sfv_writer.proofs.{Appended.{next, grows}, Checks.{at_exit, each_more, each_stops}}
+use Rattle.sfv_writer.proofs.{Room.{room_after, room_before}, Separated.{IsLed, in_a_row_more, in_a_row_push}}
 use Rattle.sfv_writer.specs.declared.serialize_error.SerializeError.TheVariants as errors
-use Rattle.sfv_writer.proofs.Appended.{next, grows}
-use Rattle.sfv_writer.proofs.Checks.{at_exit, each_more, each_stops}
-use Rattle.sfv_writer.proofs.Room.{room_after, room_before}
-use Rattle.sfv_writer.proofs.Separated.{IsLed, in_a_row_more, in_a_row_push}
 
 module _ {A S Z : Type 0} (kind : PartKind A) (gives : S → Option A → S → Type 0) (from : S) (separator : List ℕ)
     (was_first : Bool) (old : String Z) where
@@ -90,8 +83,7 @@ module _ {A S Z : Type 0} {kind : PartKind A} {gives : S → Option A → S → 
     pub stops_unfit : (e : SerializeError) → IsErrAnd r (λ y. y ≡ e) → NamesFirstUnfit version (kind.values x) e
         → IfErr r (StopsEarly kind version gives from separator old was_first)
     stops_unfit e exit names = at_exit r e _ _ exit (stops version e
-        (inr (each_stops version kind.values so_far.taken x [] e fit names))
-        (λ is. absurd (let named = names.2 in cc)))
+        (inr (each_stops version kind.values so_far.taken x [] e fit names)) (λ is. absurd (let named = names.2 in cc)))
 
     -- memory runs out at this part
     pub stops_full : IsErrAnd r (λ y. y ≡ errors.OutOfMemory) → AllFit version (kind.values x)
@@ -117,9 +109,8 @@ module _ {A S Z : Type 0} {kind : PartKind A} {gives : S → Option A → S → 
         → LacksRoom old (parts_text kind separator was_first (so_far.taken ++ x ∷ []))
     lacks_part h =
         let front : List ℕ = parts_text kind separator was_first so_far.taken in
-        subst (λ (l : List ℕ). LacksRoom old l) (sym with_one_more)
-        (room_after old ready (front ++ separator_before is_first separator) (kind.text x) so_far_parted
-        (omega (arith, so_far.grown, room)) h)
+        subst (λ (l : List ℕ). LacksRoom old l) (sym with_one_more) (room_after old ready (front
+        ++ separator_before is_first separator) (kind.text x) so_far_parted (omega (arith, so_far.grown, room)) h)
 
     -- a text after the separator is one after the old text
     pub grown_parted : (new : List ℕ) → Extends (string_bytes ready) new → Extends (string_bytes old) new

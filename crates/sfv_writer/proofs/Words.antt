@@ -1,9 +1,7 @@
 -- Words that only proofs use: borrowed members, as parts of a field.
-use Rattle.std.specs.Prelude.{ℕ, List}
-use Rattle.std.specs.Borrow.{Bor}
+use Rattle.std.proofs.Common.{ℕ, List, Bor}
 use Rattle.sfv_spec.specs.Values.{RawMember}
-use Rattle.sfv_tree.specs.Trees.{member_tree}
-use Rattle.sfv_tree.specs.declared.parsed.ListEntry.{ListEntry}
+use Rattle.sfv_tree.specs.{Trees.member_tree, declared.parsed.ListEntry.ListEntry}
 
 abbrev pub lent_list_member : Bor ListEntry → RawMember
 lent_list_member member = member_tree member.now

@@ -1,24 +1,15 @@
 -- A text is written run by run.
 use Rattle.std.proofs.Common.{◌≡◌, ℕ, Bool, true, false, cond, not, List, [], ◌∷◌, ◌++◌, length, take, refl, sym, ap}
-use Rattle.std.proofs.Common.{subst, ◌∙◌, append_assoc, arith, inl, inr, Result}
-use Rattle.std.specs.Prelude.{◌<◌, string_bytes, slice_index, IsUtf8, MatchResult}
-use Rattle.std.specs.Str.{IsCharBoundary}
-use Rattle.std.specs.declared.string.String.{String}
-use Rattle.std.specs.List.{flat_map, list_all}
+use Rattle.std.proofs.Common.{subst, ◌∙◌, append_assoc, arith, inl, inr, Result, ◌<◌, string_bytes, slice_index, IsUtf8}
+use Rattle.std.proofs.Common.{MatchResult, IsCharBoundary, flat_map, append-nil, length-append, take_at}
+use Rattle.std.specs.{List.list_all, declared.string.String.String}
 use Rattle.std.proofs.lemmas.Bool.{and_parts, and_cases, both_ways, not-true, not-false}
-use Rattle.std.proofs.lemmas.List.{append-nil, length-append, take_at}
-use Rattle.std.proofs.lemmas.List.Folds.{list_all-append}
-use Rattle.std.proofs.lemmas.Str.{IsUtf8-string_bytes, IsCharBoundary-from_take}
-use Rattle.sfv_spec.proofs.Marks.{backslash, is_plain_in_string}
-use Rattle.sfv_spec.specs.Texts.{RunOf}
-use Rattle.sfv_spec.specs.Classes.{is_string_byte}
-use Rattle.sfv_spec.specs.Strings.{is_escaped_in_string}
+use Rattle.std.proofs.lemmas.{List.Folds.list_all-append, Str.{IsUtf8-string_bytes, IsCharBoundary-from_take}}
+use Rattle.sfv_spec.specs.{Classes.is_string_byte, Strings.is_escaped_in_string, Texts.RunOf}
+use Rattle.sfv_spec.proofs.Marks.{backslash, is_plain_in_string, plain_of}
+use Rattle.sfv_writer.{specs.Quoted.piece_of, specs.Written.{Extends, IsTruncatedTo}, proofs.Appended.after}
 use Rattle.sfv_model.proofs.quoted.StringSteps as in_string
 use Rattle.sfv_model.proofs.quoted.DisplaySteps as in_display
-use Rattle.sfv_writer.specs.Written.{Extends, IsTruncatedTo}
-use Rattle.sfv_spec.proofs.Marks.{plain_of}
-use Rattle.sfv_writer.specs.Quoted.{piece_of}
-use Rattle.sfv_writer.proofs.Appended.{after}
 
 flat_map_append : (f : ℕ → List ℕ) (xs ys : List ℕ) → flat_map f (xs ++ ys) ≡ flat_map f xs ++ flat_map f ys
 flat_map_append f [] ys = refl
@@ -38,16 +29,14 @@ module _ (piece : ℕ → List ℕ) (before bytes : List ℕ) where
   more_written rest output front after new w e n = record {
     front = w.front ++ front;
     whole = w.whole ∙ ap (λ (l : List ℕ). w.front ++ l) e ∙ sym (append_assoc w.front front after);
-    done = n ∙ ap (λ (l : List ℕ). l ++ flat_map piece front) w.done
-        ∙ append_assoc before (flat_map piece w.front) (flat_map piece front)
-        ∙ ap (λ (l : List ℕ). before ++ l) (sym (flat_map_append piece w.front front));
+    done = n ∙ ap (λ (l : List ℕ). l ++ flat_map piece front) w.done ∙ append_assoc before (flat_map piece w.front)
+        (flat_map piece front) ∙ ap (λ (l : List ℕ). before ++ l) (sym (flat_map_append piece w.front front));
   }
 
   -- a run of bytes that are written for themselves
   pub run_written : (plain : ℕ → Bool) → ((c : ℕ) → plain c ≡ true → piece c ≡ c ∷ [])
-      → (rest output run after new : List ℕ)
-      → IsWrittenUpTo piece before bytes rest output → rest ≡ run ++ after → RunOf plain run → new ≡ output ++ run
-      → IsWrittenUpTo piece before bytes after new
+      → (rest output run after new : List ℕ) → IsWrittenUpTo piece before bytes rest output
+      → rest ≡ run ++ after → RunOf plain run → new ≡ output ++ run → IsWrittenUpTo piece before bytes after new
   run_written plain itself rest output run after new w e h n =
       more_written rest output run after new w e (n ∙ ap (λ (l : List ℕ). output ++ l) (sym (run_itself run h)))
     where
@@ -58,17 +47,12 @@ module _ (piece : ℕ → List ℕ) (before bytes : List ℕ) where
 
   pub byte_written : (rest output after new : List ℕ) (byte : ℕ) → IsWrittenUpTo piece before bytes rest output
       → rest ≡ byte ∷ after → new ≡ output ++ piece byte → IsWrittenUpTo piece before bytes after new
-  byte_written rest output after new byte w e n =
-      more_written rest output (byte ∷ []) after new w e (n
-      ∙ ap (λ (l : List ℕ). output ++ l) (sym (append-nil (piece byte))))
+  byte_written rest output after new byte w e n = more_written rest output
+      (byte ∷ []) after new w e (n ∙ ap (λ (l : List ℕ). output ++ l) (sym (append-nil (piece byte))))
 
   -- none is written at the start
   pub none_written : IsWrittenUpTo piece before bytes bytes before
-  none_written = record {
-    front = [];
-    whole = refl;
-    done = sym (append-nil before);
-  }
+  none_written = record { front = []; whole = refl; done = sym (append-nil before) }
 
   -- and all are when none is left
   pub whole_written : (rest output : List ℕ) → IsWrittenUpTo piece before bytes rest output → length rest ≡ 0
@@ -79,11 +63,9 @@ module _ (piece : ℕ → List ℕ) (before bytes : List ℕ) where
 
   -- the rest is written by a call that may fail
   pub rest_written : {T E : Type 0} (rest output new : List ℕ) (r : Result T E)
-      → IsWrittenUpTo piece before bytes rest output
-      → MatchResult r (λ _. new ≡ output ++ flat_map piece rest) (λ _. Extends output new)
-      → MatchResult r (λ _. new ≡ before ++ flat_map piece bytes) (λ _. Extends before new)
-  rest_written rest output new r w h =
-      subst (λ t. MatchResult r (λ _. new ≡ before ++ t) (λ _. Extends before new))
+      → IsWrittenUpTo piece before bytes rest output → MatchResult r (λ _. new ≡ output ++ flat_map piece rest)
+      (λ _. Extends output new) → MatchResult r (λ _. new ≡ before ++ flat_map piece bytes) (λ _. Extends before new)
+  rest_written rest output new r w h = subst (λ t. MatchResult r (λ _. new ≡ before ++ t) (λ _. Extends before new))
       (sym (ap (flat_map piece) w.whole ∙ flat_map_append piece w.front rest))
       (after before (flat_map piece w.front) output (flat_map piece rest) new r w.done h)
 
@@ -93,9 +75,8 @@ module _ (piece : ℕ → List ℕ) (before bytes : List ℕ) where
   next_held held rest output after byte h w e =
       let all : RunOf held (w.front ++ byte ∷ after) =
       subst (RunOf held) (w.whole ∙ ap (λ (l : List ℕ). w.front ++ l) e) h in
-      let parts = and_parts (list_all held w.front) (list_all held (byte ∷ after))
-      (sym (list_all-append held w.front (byte ∷ after)) ∙ all) in
-      (and_parts (held byte) (list_all held after) parts.1).0
+      let parts = and_parts (list_all held w.front) _ (sym (list_all-append held w.front (byte ∷ after)) ∙ all) in
+      (and_parts _ (list_all held after) parts.1).0
 
 -- a run that begins with a plain byte isn't empty
 pub run_shortens : (plain : ℕ → Bool) (rest run after others : List ℕ) (byte : ℕ) → rest ≡ run ++ after
@@ -138,16 +119,12 @@ front_of before text len utf8 whole is more =
 
 -- cut where a character begins
 pub cut_there : (text new : List ℕ) (len : ℕ) → IsUtf8 text → new ≡ take len text → IsTruncatedTo len text new
-cut_there text new len whole is = record {
-  back = λ before utf8 at more.
-      is ∙ (front_of before text len utf8 whole at more).1;
-}
+cut_there text new len whole is = record { back = λ before utf8 at more. is ∙ (front_of _ _ _ utf8 whole at more).1 }
 
 -- where none begins, no text ended
 pub cut_nowhere : (text : List ℕ) (len : ℕ) → IsUtf8 text → ¬ IsCharBoundary text len → IsTruncatedTo len text text
 cut_nowhere text len whole none = record {
-  back = λ before utf8 at more.
-      absurd (none (front_of before text len utf8 whole at more).0);
+  back = λ before utf8 at more. absurd (none (front_of before text len utf8 whole at more).0);
 }
 
 -- a text that was added to and cut back is as it was

@@ -1,39 +1,23 @@
 -- The builder of a dictionary: after all events of a tree each key that it was given or that stands in the tree is
 -- there once, at its first place, with its last member.
 use Rattle.std.proofs.Common.{◌≡◌, ℕ, Bool, true, false, List, [], ◌∷◌, ◌++◌, map, refl, sym, ap, ◌∙◌, All}
-use Rattle.std.proofs.Common.{append_assoc, ◌⊎◌, inl, inr}
-use Rattle.std.specs.Prelude.{bytes_eq, fold, Option, Some, None, option_map, unwrap_or}
-use Rattle.std.proofs.lemmas.List.{append-nil, map-append}
-use Rattle.std.proofs.lemmas.List.Elements.{All-nil, All-same}
-use Rattle.std.proofs.lemmas.List.Sums.{fold-append}
+use Rattle.std.proofs.Common.{append_assoc, ◌⊎◌, inl, inr, bytes_eq, fold, Option, Some, None, option_map, unwrap_or}
+use Rattle.std.{proofs.Common.append-nil, specs.List.FoldsTo}
+use Rattle.std.proofs.lemmas.List.{map-append, Elements.{All-nil, All-same}, Sums.fold-append}
 use Rattle.indexmap.specs.IndexMap.{IndexMap, insert_entry}
-use Rattle.sfv_spec.specs.Values.{RawMember}
-use Rattle.sfv_spec.specs.declared.field_kind.FieldKind.TheVariants.{Dictionary as dictionary_field}
-use Rattle.sfv_spec.specs.declared.version.Version.{Version}
-use Rattle.sfv_spec.specs.Grammar.{IsFieldText}
 use Rattle.sfv_spec.specs.Events.{TreeEvent, member_events, events}
-use Rattle.sfv_spec.specs.Ordered.{last_of, without, collapse, ordered, ordered_member}
-use Rattle.sfv_spec.proofs.Repeats.{no_repeats, IsOrdered}
-use Rattle.sfv_spec.proofs.Marks.{keys}
-use Rattle.sfv_spec.specs.Statements.{IsParsedAs}
-use Rattle.std.specs.List.{FoldsTo}
-use Rattle.sfv_spec.proofs.Collapse.{collapse-push, collapse-distinct}
-use Rattle.sfv_spec.proofs.Last.{over, last_of-over}
-use Rattle.sfv_spec.proofs.Distinct.{ordered_same}
-use Rattle.sfv_spec.proofs.Runs.{runs_fold}
-use Rattle.sfv_tree.specs.Trees.{member_tree, dictionary_tree}
+use Rattle.sfv_spec.specs.{Grammar.IsFieldText, Ordered.{last_of, without, collapse, ordered, ordered_member}}
+use Rattle.sfv_spec.specs.{Statements.IsParsedAs, Values.RawMember}
+use Rattle.sfv_spec.proofs.{Collapse.{collapse-push, collapse-distinct}, Distinct.ordered_same}
+use Rattle.sfv_spec.proofs.{Last.{over, last_of-over}, Marks.keys, Repeats.{no_repeats, IsOrdered}, Runs.runs_fold}
 use Rattle.sfv_tree.specs.Builders.{MemberState, begun, item_head, item_parameters, inner_items, inner_head}
 use Rattle.sfv_tree.specs.Builders.{inner_parameters, list_parameters, ended, member_step, DictionaryState, settle_pair}
 use Rattle.sfv_tree.specs.Builders.{dictionary_step, complete, dictionary_state, DictionaryAddsUnder, DictionaryAdds}
-use Rattle.sfv_tree.specs.declared.parsed.ListEntry.{ListEntry}
-use Rattle.sfv_tree.specs.declared.visitor.dictionary_builder.DictionaryBuilder.{DictionaryBuilder}
+use Rattle.sfv_tree.specs.{Seeds.{MemberHasSeed, DictionaryHasSeed}, Trees.dictionary_tree}
+use Rattle.sfv_tree.proofs.{Entered.insert_entry-entered, Seeded.{AddsTo, adds_none, adds_more, adds_entered, adds_all}}
+use Rattle.sfv.specs.Types.{dictionary_field, Version, ListEntry, DictionaryBuilder, HashSeed}
 use Rattle.sfv.proofs.Relations.{Answers}
-use Rattle.sfv_tree.specs.declared.hash_seed.HashSeed.{HashSeed}
-use Rattle.sfv_tree.specs.Seeds.{MemberHasSeed, DictionaryHasSeed}
-use Rattle.sfv_tree.proofs.Seeded.{AddsTo, adds_none, adds_more, adds_entered, adds_all}
-use Rattle.sfv.proofs.built.Seeded.{map_none, runs_grow, runs_stay, runs_weaker}
-use Rattle.sfv.proofs.built.Items.{insert_entry-entered}
-use Rattle.sfv.proofs.built.Members.{IsOpen, member_built}
+use Rattle.sfv.proofs.built.{Members.{IsOpen, member_built}, Seeded.{map_none, runs_grow, runs_stay, runs_weaker}}
 
 -- values that are changed one by one are collapsed before or after
 module _ {A B : Type 0} (f : A → B) where
@@ -70,8 +54,7 @@ abbrev Places : DictionaryBuilder → TreeEvent → DictionaryBuilder → Type 0
 Places s e after = dictionary_state after ≡ dictionary_step (dictionary_state s) e
 
 abbrev Steps : DictionaryBuilder → TreeEvent → DictionaryBuilder → Type 0
-Steps s e after = (dictionary_state after ≡ dictionary_step (dictionary_state s) e)
-    × DictionaryAdds s after
+Steps s e after = (dictionary_state after ≡ dictionary_step (dictionary_state s) e) × DictionaryAdds s after
 
 abbrev Ends : DictionaryBuilder → IndexMap (List ℕ) ListEntry HashSeed → Type 0
 Ends s dictionary = dictionary ≡ s.dictionary
@@ -94,33 +77,25 @@ within_each ms key (ended m) e h = absurd h
 pair_built : (ms : List (List ℕ × RawMember)) (key : List ℕ) (m : RawMember)
     → fold dictionary_step (collapse ms, Some (key, begun)) (member_events m)
     ≡ between_pairs (collapse (ms ++ (key, ordered_member m) ∷ []))
-pair_built ms key m =
-    member_built dictionary_step (settle_pair (collapse ms) key) (within_each (collapse ms) key) m
-    ∙ ap between_pairs (insert_entry-entered (collapse ms) key (ordered_member m)
-    ∙ sym (collapse-push ms key (ordered_member m)))
+pair_built ms key m = member_built dictionary_step (settle_pair (collapse ms) key) (within_each _ _) m
+    ∙ ap between_pairs (insert_entry-entered (collapse ms) key (ordered_member m) ∙ sym (collapse-push _ _ _))
 
-pairs_built : (ms raw : List (List ℕ × RawMember))
-    → fold dictionary_step (between_pairs (collapse ms)) (events dictionary_field raw)
-    ≡ between_pairs (collapse (ms ++ ordered_pairs raw))
+pairs_built : (ms raw : List (List ℕ × RawMember)) → fold dictionary_step (between_pairs (collapse ms))
+    (events dictionary_field raw) ≡ between_pairs (collapse (ms ++ ordered_pairs raw))
 pairs_built ms [] = ap (λ (qs : List (List ℕ × RawMember)). between_pairs (collapse qs)) (sym (append-nil ms))
-pairs_built ms (m ∷ raw) =
-    fold-append dictionary_step (collapse ms, Some (m.0, begun)) (member_events m.1) (events dictionary_field raw)
-    ∙ ap (λ (p : DictionaryState). fold dictionary_step p (events dictionary_field raw)) (pair_built ms m.0 m.1)
-    ∙ pairs_built (ms ++ (m.0, ordered_member m.1) ∷ []) raw
-    ∙ ap (λ (qs : List (List ℕ × RawMember)). between_pairs (collapse qs))
-    (append_assoc ms ((m.0, ordered_member m.1) ∷ []) (ordered_pairs raw))
+pairs_built ms (m ∷ raw) = fold-append dictionary_step (collapse ms, Some (m.0, begun)) (member_events m.1)
+    (events dictionary_field raw) ∙ ap (λ (p : DictionaryState). fold dictionary_step p (events dictionary_field raw))
+    (pair_built ms m.0 m.1) ∙ pairs_built (ms ++ (m.0, ordered_member m.1) ∷ []) raw ∙ ap (λ (qs : List (List ℕ
+    × RawMember)). between_pairs (collapse qs)) (append_assoc ms ((m.0, ordered_member m.1) ∷ []) (ordered_pairs raw))
 
 -- after all events the pairs are entered in turn, each member ordered
 pub dictionary_built : (held raw : List (List ℕ × RawMember)) (s last : DictionaryBuilder)
     → no_repeats (keys held) ≡ true → dictionary_state s ≡ between_pairs held
     → FoldsTo Steps s (events dictionary_field raw) last
     → dictionary_state last ≡ between_pairs (collapse (held ++ ordered_pairs raw))
-dictionary_built held raw s last distinct here run =
-    runs_fold dictionary_state dictionary_step (events dictionary_field raw) s last
-    (runs_weaker Steps Places (λ s e t k. k.0) (events dictionary_field raw) s last run)
-    ∙ ap (λ (p : DictionaryState). fold dictionary_step p (events dictionary_field raw)) (here
-    ∙ ap between_pairs (sym (collapse-distinct held distinct)))
-    ∙ pairs_built held raw
+dictionary_built held raw s last distinct here run = runs_fold _ _ _ _ _ (runs_weaker _ _ (λ s e t k. k.0) _ _ _ run)
+    ∙ ap (λ (p : DictionaryState). fold dictionary_step p (events dictionary_field raw))
+    (here ∙ ap between_pairs (sym (collapse-distinct _ distinct))) ∙ pairs_built _ _
 
 -- to a dictionary without repeats the field adds its pairs as if all stood in one field
 joined : (held raw : List (List ℕ × RawMember)) → IsOrdered dictionary_field held
@@ -128,9 +103,8 @@ joined : (held raw : List (List ℕ × RawMember)) → IsOrdered dictionary_fiel
 joined held raw h =
     let same : held ≡ ordered_pairs held = sym (ap ordered_pairs (sym (collapse-distinct held h.0))
     ∙ ordered_same dictionary_field held h) in
-    ap (λ (qs : List (List ℕ × RawMember)). collapse (qs ++ ordered_pairs raw)) same
-    ∙ ap collapse (sym (map-append (λ (m : List ℕ × RawMember). (m.0, ordered_member m.1)) held raw))
-    ∙ collapse-over ordered_member (held ++ raw)
+    ap (λ (qs : List (List ℕ × RawMember)). collapse (qs ++ ordered_pairs raw)) same ∙ ap collapse (sym (map-append
+    (λ (m : List ℕ × RawMember). (m.0, ordered_member m.1)) held raw)) ∙ collapse-over ordered_member (held ++ raw)
 
 -- what was built from the pairs of earlier lines: the pairs of the only tree are entered into them
 pub built_dictionary_after : (version : Version) (t : List ℕ) (held : List (List ℕ
@@ -151,8 +125,7 @@ built_dictionary_after version t held from dictionary distinct here h =
       h.accepted,
       h.only,
       there,
-      λ k. there
-          ∙ joined held h.raw k,
+      λ k. there ∙ joined held h.raw k,
     )
 
 -- what was built is the ordered dictionary of the only tree
@@ -183,12 +156,9 @@ pub dictionary_adds : (version : Version) (t : List ℕ) (from : DictionaryBuild
     (dictionary : IndexMap (List ℕ) ListEntry HashSeed) (seed : HashSeed) → DictionaryAddsUnder seed from
     → Answers Steps Ends version dictionary_field t from dictionary
     → AddsTo (λ (p : List ℕ × ListEntry). MemberHasSeed seed p.1) from.dictionary.entries dictionary.entries
-dictionary_adds version t from dictionary seed start h = rw h.holds.2
-    (runs_grow DictionaryAddsUnder Steps (λ s. s.dictionary.entries)
-    (λ seed xs ys. AddsTo (λ (p : List ℕ × ListEntry). MemberHasSeed seed p.1) xs ys)
-    (λ seed. adds_none (λ (p : List ℕ × ListEntry). MemberHasSeed seed p.1))
-    (λ seed. adds_more (λ (p : List ℕ × ListEntry). MemberHasSeed seed p.1))
-    one_step (events dictionary_field h.raw) from h.holds.0 h.holds.1 seed start)
+dictionary_adds version t from dictionary seed start h =
+    rw h.holds.2 (runs_grow _ _ _ _ (λ seed. adds_none (λ (p : List ℕ × ListEntry). MemberHasSeed seed p.1))
+    (λ seed. adds_more (λ (p : List ℕ × ListEntry). MemberHasSeed seed p.1)) one_step _ _ h.holds.0 h.holds.1 _ start)
 
 -- if the members that were there hash under the seed, all do
 pub dictionary_seeded : (version : Version) (t : List ℕ) (from : DictionaryBuilder)
@@ -196,16 +166,14 @@ pub dictionary_seeded : (version : Version) (t : List ℕ) (from : DictionaryBui
     → All (λ (p : List ℕ × ListEntry). MemberHasSeed seed p.1) from.dictionary.entries → DictionaryAddsUnder seed from
     → Answers Steps Ends version dictionary_field t from dictionary → DictionaryHasSeed seed dictionary
 dictionary_seeded version t from dictionary seed held start h =
-    let last : DictionaryAddsUnder seed h.holds.0 = runs_stay DictionaryAddsUnder Steps (λ s e t k seed j. (k.1 seed j).0)
-    (events dictionary_field h.raw) from h.holds.0 h.holds.1 seed start in (
+    let last : DictionaryAddsUnder seed h.holds.0 = runs_stay _ _ (λ s e t k seed j. (k.1 seed j).0)
+    _ _ h.holds.0 h.holds.1 _ start in (
       rw h.holds.2 last.0,
-      adds_all (λ (p : List ℕ × ListEntry). MemberHasSeed seed p.1) from.dictionary.entries dictionary.entries held
-          (dictionary_adds version t from dictionary seed start h),
+      adds_all (λ (p : List ℕ × ListEntry). MemberHasSeed seed p.1) _ _ held (dictionary_adds _ _ _ _ _ start h),
     )
 
 -- no member was there
 pub no_entry_held : (from : DictionaryBuilder) (seed : HashSeed) → dictionary_state from ≡ between_pairs []
     → All (λ (p : List ℕ × ListEntry). MemberHasSeed seed p.1) from.dictionary.entries
-no_entry_held from seed here = All-same (λ (p : List ℕ × ListEntry). MemberHasSeed seed p.1) from.dictionary.entries []
-    (map_none (λ (p : List ℕ × ListEntry). (p.0, member_tree p.1)) from.dictionary.entries (ap complete here))
-    (All-nil (λ (p : List ℕ × ListEntry). MemberHasSeed seed p.1))
+no_entry_held from seed here =
+    All-same (λ (p : List ℕ × ListEntry). MemberHasSeed seed p.1) _ _ (map_none _ _ (ap complete here)) (All-nil _)

@@ -1,28 +1,17 @@
 -- The builder of an item: after all events of a tree it has the ordered item.
-use Rattle.std.proofs.Common.{◌≡◌, ℕ, cond, List, [], ◌∷◌, ◌++◌, refl, sym, ap, ◌∙◌, append_assoc, inl, inr}
-use Rattle.std.specs.Prelude.{⊤, bytes_eq, IsTrue}
-use Rattle.std.proofs.lemmas.List.{append-nil}
+use Rattle.std.proofs.Common.{◌≡◌, ℕ, List, [], ◌∷◌, ◌++◌, sym, ap, ◌∙◌, append_assoc, inl, inr, bytes_eq, IsTrue}
+use Rattle.std.{proofs.Common.append-nil, specs.List.FoldsTo, specs.Prelude.⊤}
 use Rattle.indexmap.specs.IndexMap.{insert_entry}
-use Rattle.sfv_spec.specs.Values.{BareValue, RawParameters, RawItem, item}
-use Rattle.sfv_spec.specs.declared.field_kind.FieldKind.TheVariants.{Item as item_field}
-use Rattle.sfv_spec.specs.declared.version.Version.{Version}
-use Rattle.sfv_spec.specs.Events.{TreeEvent, bare_item, parameter, parameters_end, parameters_events, item_events}
-use Rattle.sfv_spec.specs.Ordered.{collapse, ordered_item}
-use Rattle.sfv_spec.specs.Statements.{IsParsedAs}
-use Rattle.std.specs.List.{FoldsTo}
-use Rattle.sfv_spec.proofs.Collapse.{entered, collapse-push}
-use Rattle.sfv_tree.specs.Trees.{item_tree}
-use Rattle.sfv_tree.specs.Builders.{MemberState, item_head, item_parameters, ended, member_step, item_state}
-use Rattle.sfv_tree.specs.Builders.{takes_memory, IsItemUnder}
+use Rattle.sfv_spec.{specs.Events.item_events, specs.Ordered.{collapse, ordered_item}, proofs.Collapse.collapse-push}
 use Rattle.sfv_base.specs.declared.error.ParseError.TheVariants.{Visitor}
-use Rattle.sfv_tree.specs.declared.hash_seed.HashSeed.{HashSeed}
-use Rattle.sfv_tree.specs.Seeds.{ItemHasSeed}
-use Rattle.sfv.proofs.built.Seeded.{answer_seeded}
-use Rattle.sfv_tree.specs.declared.visitor.ItemFault.{ItemFault}
+use Rattle.sfv_tree.specs.Builders.{MemberState, item_head, item_parameters, ended, member_step, item_state}
+use Rattle.sfv_tree.specs.{Builders.{takes_memory, IsItemUnder}, Seeds.ItemHasSeed}
+use Rattle.sfv_tree.proofs.Entered.{insert_entry-entered}
+use Rattle.sfv.specs.Field.{TreeEvent, bare_item, parameter, parameters_end, parameters_events, IsParsedAs, BareValue}
+use Rattle.sfv.specs.Field.{RawParameters, RawItem, item, item_tree, item_field, Version}
+use Rattle.sfv.specs.Types.{HashSeed, ItemFault, Item, ItemBuilder}
+use Rattle.sfv.proofs.{Relations.{Answers, FailsIn, HasVisitorError, item_failed}, built.Seeded.answer_seeded}
 use Rattle.sfv_tree.specs.declared.visitor.ItemFault.TheVariants as faults
-use Rattle.sfv_tree.specs.declared.parsed.Item.{Item}
-use Rattle.sfv_tree.specs.declared.visitor.item_builder.ItemBuilder.{ItemBuilder}
-use Rattle.sfv.proofs.Relations.{Answers, FailsIn, HasVisitorError, item_failed}
 
 -- what the builder does with an event, and with the end
 abbrev Steps : ItemBuilder → TreeEvent → ItemBuilder → Type 0
@@ -38,12 +27,6 @@ Fails s e fault = (fault ≡ faults.OutOfMemory) × IsTrue (takes_memory (item_s
 
 abbrev EndFails : ItemBuilder → ItemFault → Type 0
 EndFails s fault = (fault ≡ faults.NoItem) × ((i : RawItem) → ¬ (item_state s ≡ ended (item i)))
-
-pub insert_entry-entered : {A : Type 0} (ps : List (List ℕ × A)) (k : List ℕ) (v : A)
-    → insert_entry bytes_eq ps k v ≡ entered ps k v
-insert_entry-entered [] k v = refl
-insert_entry-entered {A} (p ∷ ps) k v = ap (λ (rest : List (List ℕ × A)).
-    cond (bytes_eq k p.0) ((p.0, v) ∷ ps) (p ∷ rest)) (insert_entry-entered ps k v)
 
 abbrev pub with_bare : BareValue → RawParameters → RawItem
 with_bare b ps = record { bare = b; parameters = ps }
@@ -78,13 +61,8 @@ item_at_end i j e = cc
 pub built : (version : Version) (t : List ℕ) (from : ItemBuilder) (item : Item) → item_state from ≡ item_head
     → Answers Steps Ends version item_field t from item → IsParsedAs version item_field t (item_tree item)
 built version t from made here h =
-    let whole = item_built h.raw from h.holds.0 here h.holds.1 in
-    record {
-      raw = h.raw;
-      accepted = h.accepted;
-      only = h.only;
-      holds = item_at_end (item_tree made) (ordered_item h.raw) (sym h.holds.2.0 ∙ whole);
-    }
+    let whole = item_built _ _ h.holds.0 here h.holds.1 in
+    record { raw = h.raw; accepted = h.accepted; only = h.only; holds = item_at_end _ _ (sym h.holds.2.0 ∙ whole) }
 
 -- the builder's error is want of memory: no event fails otherwise, and after all events of an item there is one
 pub built_fails : (version : Version) (t : List ℕ) (from : ItemBuilder) (fault : ItemFault) → item_state from ≡ item_head

@@ -1,40 +1,23 @@
 -- The builder of a list: after all events of a tree it has the ordered members after those that it was given.
 use Rattle.std.proofs.Common.{◌≡◌, ℕ, List, [], ◌∷◌, ◌++◌, map, refl, sym, ap, ◌∙◌, append_assoc, Option, ◌⊎◌, inl, inr}
-use Rattle.std.proofs.Common.{subst}
-use Rattle.std.specs.Prelude.{Some, None, fold}
-use Rattle.std.specs.declared.alloc.Global.{Global}
-use Rattle.std.specs.declared.vec.Vec.{Vec}
-use Rattle.std.proofs.lemmas.List.{append-nil}
-use Rattle.std.proofs.lemmas.List.Elements.{All-nil, All-cons, All-append, All-same}
-use Rattle.std.proofs.lemmas.List.Sums.{fold-append}
-use Rattle.sfv_spec.specs.Values.{RawMember}
-use Rattle.sfv_spec.specs.declared.field_kind.FieldKind.TheVariants.{List as list_field}
-use Rattle.sfv_spec.specs.declared.version.Version.{Version}
-use Rattle.sfv_spec.specs.Grammar.{IsFieldText}
-use Rattle.sfv_spec.specs.Events.{TreeEvent, member_events, events}
-use Rattle.sfv_spec.specs.Ordered.{ordered, ordered_member}
-use Rattle.sfv_spec.specs.Statements.{IsParsedAs}
-use Rattle.std.specs.List.{FoldsTo}
+use Rattle.std.{proofs.Common.{subst, Some, None, fold, append-nil}, specs.List.FoldsTo}
+use Rattle.std.specs.declared.{alloc.Global.Global, vec.Vec.Vec}
+use Rattle.std.proofs.lemmas.List.{Elements.{All-nil, All-cons, All-append, All-same}, Sums.fold-append}
 use Rattle.sfv_spec.proofs.Runs.{runs_fold}
-use Rattle.sfv_tree.specs.Trees.{member_tree, list_tree}
 use Rattle.sfv_tree.specs.Builders.{MemberState, begun, item_head, item_parameters, inner_items, inner_head}
 use Rattle.sfv_tree.specs.Builders.{inner_parameters, list_parameters, ended, member_step, settle, list_step, complete}
-use Rattle.sfv_tree.specs.Builders.{list_state, ListAddsUnder, ListAdds}
-use Rattle.sfv_tree.specs.declared.parsed.ListEntry.{ListEntry}
-use Rattle.sfv_tree.specs.declared.visitor.list_builder.ListBuilder.{ListBuilder}
+use Rattle.sfv_tree.specs.{Builders.{list_state, ListAddsUnder, ListAdds}, Seeds.{MemberHasSeed, ListHasSeed}}
+use Rattle.sfv.specs.Field.{TreeEvent, member_events, events, IsFieldText, ordered, ordered_member, IsParsedAs}
+use Rattle.sfv.specs.{Field.{RawMember, list_tree, list_field, Version}, Types.{ListEntry, ListBuilder, HashSeed}}
 use Rattle.sfv.proofs.Relations.{Answers}
-use Rattle.sfv_tree.specs.declared.hash_seed.HashSeed.{HashSeed}
-use Rattle.sfv_tree.specs.Seeds.{MemberHasSeed, ListHasSeed}
-use Rattle.sfv.proofs.built.Seeded.{map_none, runs_grow, runs_weaker}
-use Rattle.sfv.proofs.built.Members.{IsOpen, member_built}
+use Rattle.sfv.proofs.built.{Members.{IsOpen, member_built}, Seeded.{map_none, runs_grow, runs_weaker}}
 
 -- what the builder does with an event, and with the end
 abbrev Places : ListBuilder → TreeEvent → ListBuilder → Type 0
 Places s e after = list_state after ≡ list_step (list_state s) e
 
 abbrev Steps : ListBuilder → TreeEvent → ListBuilder → Type 0
-Steps s e after = (list_state after ≡ list_step (list_state s) e)
-    × ListAdds s after
+Steps s e after = (list_state after ≡ list_step (list_state s) e) × ListAdds s after
 
 abbrev Ends : ListBuilder → Vec ListEntry Global → Type 0
 Ends s list = list ≡ s.list
@@ -61,21 +44,16 @@ within_each ms (ended m) e h = absurd h
 members_built : (ms raw : List RawMember) → fold list_step (between ms) (events list_field raw)
     ≡ between (ms ++ ordered list_field raw)
 members_built ms [] = ap between (sym (append-nil ms))
-members_built ms (m ∷ raw) =
-    fold-append list_step (ms, Some begun) (member_events m) (events list_field raw)
-    ∙ ap (λ (p : ListState). fold list_step p (events list_field raw))
-    (member_built list_step (settle ms) (within_each ms) m)
-    ∙ members_built (ms ++ ordered_member m ∷ []) raw
+members_built ms (m ∷ raw) = fold-append list_step (ms, Some begun) (member_events m)
+    (events list_field raw) ∙ ap (λ (p : ListState). fold list_step p (events list_field raw))
+    (member_built list_step (settle ms) (within_each ms) m) ∙ members_built (ms ++ ordered_member m ∷ []) raw
     ∙ ap between (append_assoc ms (ordered_member m ∷ []) (map ordered_member raw))
 
 -- after all events the members stand last, each of them ordered
 pub list_built : (ms raw : List RawMember) (s last : ListBuilder) → list_state s ≡ between ms
     → FoldsTo Steps s (events list_field raw) last → list_state last ≡ between (ms ++ ordered list_field raw)
-list_built ms raw s last here run =
-    runs_fold list_state list_step (events list_field raw) s last
-    (runs_weaker Steps Places (λ s e t k. k.0) (events list_field raw) s last run)
-    ∙ ap (λ (p : ListState). fold list_step p (events list_field raw)) here
-    ∙ members_built ms raw
+list_built ms raw s last here run = runs_fold _ _ _ _ _ (runs_weaker _ _ (λ s e t k. k.0) _ _ _ run)
+    ∙ ap (λ (p : ListState). fold list_step p (events list_field raw)) here ∙ members_built _ _
 
 -- what was built after the members of earlier lines is those, and then the ordered members of the only tree
 pub built_list_after : (version : Version) (t : List ℕ) (held : List RawMember) (from : ListBuilder)
@@ -125,9 +103,8 @@ one_step s e after h seed start = let k = h.1 seed start in (k.0, on k.1)
 pub list_adds : (version : Version) (t : List ℕ) (from : ListBuilder) (list : Vec ListEntry Global) (seed : HashSeed)
     → ListAddsUnder seed from → Answers Steps Ends version list_field t from list
     → GrowsUnder seed from.list.items list.items
-list_adds version t from list seed start h = rw h.holds.2
-    (runs_grow ListAddsUnder Steps (λ s. s.list.items) GrowsUnder grows_none grows_more one_step
-    (events list_field h.raw) from h.holds.0 h.holds.1 seed start)
+list_adds version t from list seed start h =
+    rw h.holds.2 (runs_grow _ _ _ _ grows_none grows_more one_step _ _ h.holds.0 h.holds.1 _ start)
 
 -- if the members that were there hash under the seed, all do
 pub list_seeded : (version : Version) (t : List ℕ) (from : ListBuilder) (list : Vec ListEntry Global) (seed : HashSeed)
@@ -139,5 +116,4 @@ list_seeded version t from list seed held start h =
 
 -- no member was there
 pub no_list_held : (from : ListBuilder) (seed : HashSeed) → list_state from ≡ between [] → ListHasSeed seed from.list.items
-no_list_held from seed here = All-same (MemberHasSeed seed) from.list.items []
-    (map_none member_tree from.list.items (ap complete here)) (All-nil (MemberHasSeed seed))
+no_list_held from seed here = All-same (MemberHasSeed seed) _ _ (map_none _ _ (ap complete here)) (All-nil _)

@@ -1,16 +1,15 @@
 -- A member that a builder reads: after all events of a member it has ended, as the ordered member.
-use Rattle.std.proofs.Common.{◌≡◌, ℕ, List, [], ◌∷◌, ◌++◌, map, refl, sym, ap, subst, ◌∙◌, append_assoc}
-use Rattle.std.specs.Prelude.{⊤, bytes_eq, fold, flat_map}
-use Rattle.std.proofs.lemmas.List.{append-nil}
+use Rattle.std.proofs.Common.{◌≡◌, ℕ, List, [], ◌∷◌, ◌++◌, map, refl, sym, ap, subst, ◌∙◌, append_assoc, bytes_eq, fold}
+use Rattle.std.{proofs.Common.{flat_map, append-nil}, specs.Prelude.⊤}
 use Rattle.indexmap.specs.IndexMap.{insert_entry}
-use Rattle.sfv_spec.specs.Values.{BareValue, RawParameters, RawItem, RawInnerList, RawMember, item, inner_list}
 use Rattle.sfv_spec.specs.Events.{TreeEvent, begins_item, parameter, parameters_end, inner_list_end, parameters_events}
-use Rattle.sfv_spec.specs.Events.{item_events, member_events}
-use Rattle.sfv_spec.specs.Ordered.{collapse, ordered_item, ordered_member}
+use Rattle.sfv_spec.specs.{Events.{item_events, member_events}, Ordered.{collapse, ordered_item, ordered_member}}
+use Rattle.sfv_spec.specs.Values.{BareValue, RawParameters, RawItem, RawInnerList, RawMember, item, inner_list}
 use Rattle.sfv_spec.proofs.Collapse.{collapse-push}
 use Rattle.sfv_tree.specs.Builders.{MemberState, begun, item_head, item_parameters, inner_items, inner_head}
 use Rattle.sfv_tree.specs.Builders.{inner_parameters, list_parameters, ended, member_step}
-use Rattle.sfv.proofs.built.Items.{insert_entry-entered, with_bare}
+use Rattle.sfv_tree.proofs.Entered.{insert_entry-entered}
+use Rattle.sfv.proofs.built.Items.{with_bare}
 
 -- a member that has not ended
 abbrev pub IsOpen : MemberState → Type 0
@@ -35,8 +34,7 @@ module _ (place after : RawParameters → MemberState) (opened : (ps : RawParame
       (after (collapse (front ++ ps)))
   parameters_go [] front = (
     opened (collapse front),
-    closes (collapse front)
-        ∙ ap (λ (qs : RawParameters). after (collapse qs)) (sym (append-nil front)),
+    closes (collapse front) ∙ ap (λ (qs : RawParameters). after (collapse qs)) (sym (append-nil front)),
   )
   parameters_go (p ∷ ps) front =
       let more : insert_entry bytes_eq (collapse front) p.0 p.1 ≡ collapse (front ++ p ∷ []) =
@@ -47,16 +45,14 @@ module _ (place after : RawParameters → MemberState) (opened : (ps : RawParame
       subst (λ (qs : RawParameters). Goes (place (collapse (front ++ p ∷ []))) (parameters_events ps)
       (after (collapse qs))) (append_assoc front (p ∷ []) ps) (parameters_go ps (front ++ p ∷ [])) in (
         opened (collapse front),
-        subst (λ (s : MemberState).
-            Goes s (parameters_events ps) (after (collapse (front ++ p ∷ ps)))) (sym next) rest,
+        subst (λ (s : MemberState). Goes s (parameters_events ps) (after (collapse (front ++ p ∷ ps)))) (sym next) rest,
       )
 
 item_goes : (i : RawItem) → Goes item_head (item_events i) (ended (item (ordered_item i)))
 unfolding collapse
 item_goes i = (
   tt,
-  parameters_go (λ ps. item_parameters (with_bare i.bare ps))
-      (λ ps. ended (item (with_bare i.bare ps))) (λ ps. tt) (λ ps k v. refl) (λ ps. refl) i.parameters [],
+  parameters_go (λ ps. item_parameters (with_bare i.bare ps)) _ (λ ps. tt) (λ ps k v. refl) (λ ps. refl) _ [],
 )
 
 -- the inner list with this item appended
@@ -68,8 +64,7 @@ inner_item_goes : (l : RawInnerList) (i : RawItem)
 unfolding collapse
 inner_item_goes l i = (
   tt,
-  parameters_go (λ ps. inner_parameters l (with_bare i.bare ps))
-      (λ ps. inner_items (adds l (with_bare i.bare ps))) (λ ps. tt) (λ ps k v. refl) (λ ps. refl) i.parameters [],
+  parameters_go (λ ps. inner_parameters l (with_bare i.bare ps)) _ (λ ps. tt) (λ ps k v. refl) (λ ps. refl) _ [],
 )
 
 abbrev list_of : List RawItem → RawParameters → RawInnerList

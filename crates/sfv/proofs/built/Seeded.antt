@@ -1,11 +1,6 @@
 -- What was built is under the seed of its builder.
-use Rattle.std.proofs.Common.{◌≡◌, ℕ, List, [], ◌∷◌, map, refl, subst}
-use Rattle.sfv_spec.specs.declared.field_kind.FieldKind.{FieldKind}
-use Rattle.sfv_spec.specs.declared.version.Version.{Version}
-use Rattle.sfv_spec.specs.Events.{TreeEvent}
-use Rattle.std.specs.List.{FoldsTo}
-use Rattle.sfv_tree.specs.declared.hash_seed.HashSeed.{HashSeed}
-use Rattle.sfv.proofs.Relations.{Answers}
+use Rattle.std.{proofs.Common.{◌≡◌, ℕ, List, [], ◌∷◌, map, refl, subst}, specs.List.FoldsTo}
+use Rattle.sfv.{specs.Field.{FieldKind, Version, TreeEvent}, specs.Types.HashSeed, proofs.Relations.Answers}
 
 -- events that are taken are taken in a weaker sense
 pub runs_weaker : {S : Type 0} (takes less : S → TreeEvent → S → Type 0)

@@ -1,21 +1,14 @@
 -- Vectors of symbols, of values and of groups, lane by lane.
 use Rattle.std.proofs.Common.{◌≡◌, ℕ, zero, suc, ◌+◌, ◌-◌, ◌*◌, ◌/◌, ◌%◌, ◌^◌, ◌<◌, Bool, true, cond, eqb, ltb, List}
-use Rattle.std.proofs.Common.{[], ◌∷◌, ◌++◌, map, take, length, get_or, replicate, refl, sym, ap, ap₂, ◌∙◌, arith, w8}
-use Rattle.std.proofs.Common.{Fits, T, inl, inr}
-use Rattle.std.specs.Prelude.{◌==◌}
-use Rattle.std.specs.List.{list_all}
-use Rattle.std.proofs.lemmas.Bool.{agree_below_at, eqb-true, and_parts, and_from, both_ways, cases_Bool, ltb-true}
-use Rattle.std.proofs.lemmas.Bool.{lt-ltb}
-use Rattle.std.proofs.lemmas.List.{get_or-map, length-map, ext_get_or}
-use Rattle.std.proofs.lemmas.List.Folds.{list_all_at}
-use Rattle.std.proofs.lemmas.Simd.{swz_l, SwzOk, SwzOk-from_below, Each1-get_or, length-swz_l, get_or-swz_l_below}
-use Rattle.std.proofs.lemmas.Simd.{get_or_narrower}
+use Rattle.std.proofs.Common.{[], ◌∷◌, ◌++◌, map, take, length, get_or, replicate, refl, ap, ap₂, ◌∙◌, arith, w8, Fits}
+use Rattle.std.{proofs.Common.{T, inl, inr, ◌==◌, eqb-true, ltb-true, lt-ltb}, specs.List.list_all}
+use Rattle.std.proofs.lemmas.{Bool.{agree_below_at, and_parts, and_from, both_ways, cases_Bool}, List.length-map}
+use Rattle.std.proofs.lemmas.{List.Folds.list_all_at, Simd.{swz_l, SwzOk, SwzOk-from_below, get_or_narrower}}
 use lib.Lanes.{zip2, sel_l, top, Each1, dots, products, pair_sums, all_below, number_l, digits_l, pick_l}
-use Rattle.sfv_spec.proofs.Marks.{is_symbol}
+use Rattle.sfv_spec.{specs.Base64.symbols, proofs.Marks.is_symbol}
 use Rattle.sfv_model.specs.Content.{symbol_value, bytes_from}
-use Rattle.sfv_model.proofs.base64.Bits.{is_value, head_value}
-use Rattle.sfv_model.proofs.base64.Shape.{symbol-value, value_within}
-use Rattle.sfv_spec.specs.Base64.{symbols}
+use Rattle.sfv_model.proofs.base64.{Bits.{is_value, head_value}, Shape.{symbol-value, value_within}}
+use Rattle.sfv_base.proofs.Masks.{half_looked_up}
 use Rattle.sfv.specs.parser.Base64.{group_numbers, bytes_of_groups, offset_index, AreOffsets}
 
 -- ---- values
@@ -58,17 +51,6 @@ pub rows_ok : (v : List ℕ) → length v ≡ 16 → Each1 (Fits w8) v → SwzOk
 rows_ok v long fits = rw (rows_are 16 v long)
     (SwzOk-from_below w8 16 1 16 0 (map row v) refl (omega (arith, length-map v row)) (rows_below v fits))
 
-looked_up : (table js : List ℕ) → length js ≡ 16 → Each1 (λ j. j < 16) js
-    → swz_l w8 16 table 0 js ≡ map (λ j. get_or table j 0) js
-looked_up table js long small =
-    ext_get_or 0 _ _ (length-swz_l w8 16 table 0 js ∙ sym (length-map js (λ j. get_or table j 0))) (λ i h.
-    let lt : i < length js = omega (arith, length-swz_l w8 16 table 0 js) in
-    let below = Each1-get_or (λ j. j < 16) js i 0 lt small in
-    let same : 16 * ((0 + i) / 16) + get_or js i 0 ≡ get_or js i 0 = omega arith in
-    get_or-swz_l_below w8 16 table 0 js i lt below
-    ∙ ap (λ j. get_or table j 0) same
-    ∙ sym (get_or-map (λ j. get_or table j 0) js i 0 0 lt))
-
 -- the row of a symbol is the index of its offset
 row_is : (x : ℕ) → x < 256 → row x ≡ offset_index x
 row_is x lt = eqb-true _ _ (agree_below_at (λ x. eqb (row x) (offset_index x)) (λ _. true) 256 x refl lt)
@@ -93,12 +75,10 @@ moved offsets (x ∷ v) fits each all =
     ap₂ (λ a (l : List ℕ). a ∷ l) (offset_at offsets x fits.0.fits parts.0 all) (moved offsets v fits.1 parts.1 all)
 
 pub values_are : (offsets v : List ℕ) → length v ≡ 16 → Each1 (Fits w8) v → list_all is_symbol v ≡ true
-    → AreOffsets offsets
-    → zip2 add8 v (swz_l w8 16 offsets 0 (rows 16 v)) ≡ map symbol_value v
+    → AreOffsets offsets → zip2 add8 v (swz_l w8 16 offsets 0 (rows 16 v)) ≡ map symbol_value v
 values_are offsets v long fits each all =
-    ap (λ (js : List ℕ). zip2 add8 v (swz_l w8 16 offsets 0 js)) (rows_are 16 v long)
-    ∙ ap (zip2 add8 v) (looked_up offsets (map row v) (length-map v row ∙ long) (rows_below v fits))
-    ∙ moved offsets v fits each all
+    ap (λ (js : List ℕ). zip2 add8 v (swz_l w8 16 offsets 0 js)) (rows_are 16 v long) ∙ ap (zip2 add8 v)
+    (half_looked_up offsets (map row v) (length-map v row ∙ long) (rows_below v fits)) ∙ moved offsets v fits each all
 
 -- ---- groups
 
@@ -117,9 +97,8 @@ abbrev pub back_weights : ℕ → List ℕ
 back_weights zero = []
 back_weights (suc n) = 0 ∷ 0 ∷ 64 ∷ 1 ∷ back_weights n
 
-group_of : (a b c d : ℕ) → a < 64 → b < 64 → c < 64 → d < 64
-    → add32 (mul32 ((a * 64 + b * 1) + (c * 0 + d * 0)) 4096) ((a * 0 + b * 0) + (c * 64 + d * 1))
-    ≡ (a * 64 + b) * 4096 + (c * 64 + d)
+group_of : (a b c d : ℕ) → a < 64 → b < 64 → c < 64 → d < 64 → add32 (mul32 ((a * 64 + b * 1) + (c * 0 + d * 0)) 4096)
+    ((a * 0 + b * 0) + (c * 64 + d * 1)) ≡ (a * 64 + b) * 4096 + (c * 64 + d)
 group_of a b c d la lb lc ld = omega arith
 
 pub groups_are : (n : ℕ) (vs : List ℕ) → length vs ≡ 4 * n → list_all is_value vs ≡ true

@@ -1,10 +1,8 @@
 -- The bytes of symbols, group by group.
 use Rattle.std.proofs.Common.{◌≡◌, ℕ, ◌<◌, ◌≤◌, ◌+◌, ◌*◌, ◌/◌, ◌%◌, List, [], ◌∷◌, ◌++◌, length, map, append_assoc}
-use Rattle.std.proofs.Common.{take, drop, refl, sym, ◌∙◌, ap, true, arith, suc, take-take}
-use Rattle.std.specs.List.{list_all}
-use Rattle.std.proofs.lemmas.Bool.{and_parts, and_from}
-use Rattle.std.proofs.lemmas.List.{append-nil, length-map, length-take-le, length-drop, take-append-drop, map-append}
-use Rattle.std.proofs.lemmas.List.Folds.{list_all-append}
+use Rattle.std.proofs.Common.{take, drop, refl, sym, ◌∙◌, ap, true, arith, suc, take-take, append-nil, length-take-le}
+use Rattle.std.{proofs.Common.{length-drop, take-append-drop}, specs.List.list_all}
+use Rattle.std.proofs.lemmas.{Bool.{and_parts, and_from}, List.{length-map, map-append}, List.Folds.list_all-append}
 use Rattle.sfv_spec.proofs.Marks.{is_symbol}
 use Rattle.sfv_model.specs.Content.{symbol_value, bytes_from}
 use Rattle.sfv.specs.parser.Base64.{decoded_symbols}
@@ -23,9 +21,8 @@ bytes_from-append (a ∷ b ∷ c ∷ d ∷ rest) ws n =
 -- symbols up to a place, and from there on
 pub all_parts : (n : ℕ) (cs : List ℕ) → list_all is_symbol cs ≡ true
     → (list_all is_symbol (take n cs) ≡ true) × (list_all is_symbol (drop n cs) ≡ true)
-all_parts n cs h =
-    and_parts _ _ (sym (list_all-append is_symbol (take n cs) (drop n cs))
-    ∙ ap (list_all is_symbol) (take-append-drop n cs) ∙ h)
+all_parts n cs h = and_parts _ _
+    (sym (list_all-append is_symbol (take n cs) (drop n cs)) ∙ ap (list_all is_symbol) (take-append-drop n cs) ∙ h)
 
 -- ---- the whole groups, and what is left
 
@@ -65,8 +62,7 @@ zeros_each = refl
 -- symbols that others fill up to a block
 pub filled_each : (cs front fill : List ℕ) → front ≡ cs → list_all is_symbol cs ≡ true → list_all is_symbol fill ≡ true
     → list_all is_symbol (front ++ drop (length cs) fill) ≡ true
-filled_each cs front fill is each filled =
-    list_all-append is_symbol front (drop (length cs) fill)
+filled_each cs front fill is each filled = list_all-append is_symbol front (drop (length cs) fill)
     ∙ and_from _ _ (rw is each) ((all_parts (length cs) fill filled).1)
 
 -- the bytes of such symbols, from the bytes of the block
@@ -82,9 +78,8 @@ filled_decoded cs front fill block is size few bytes =
     let front_is : decoded_symbols (front ++ drop (length cs) fill) ≡ bytes_from (vs ++ ws) =
     ap (λ (l : List ℕ). decoded_symbols (l ++ drop (length cs) fill)) is
     ∙ ap bytes_from (map-append symbol_value cs (drop (length cs) fill)) in
-    sym (take-take (length cs * 3 / 4) 12 block (omega (arith, few)))
-    ∙ ap (λ (l : List ℕ). take (length cs * 3 / 4) l) (bytes ∙ front_is)
-    ∙ ap (λ (k : ℕ). take (k * 3 / 4) (bytes_from (vs ++ ws))) (sym n) ∙ front_bytes vs ws groups
+    sym (take-take (length cs * 3 / 4) 12 block (omega (arith, few))) ∙ ap (λ (l : List ℕ). take (length cs * 3 / 4) l)
+    (bytes ∙ front_is) ∙ ap (λ (k : ℕ). take (k * 3 / 4) (bytes_from (vs ++ ws))) (sym n) ∙ front_bytes vs ws groups
 
 -- no symbol has no byte
 pub none_after : (old cs : List ℕ) → length cs ≡ 0 → old ≡ old ++ decoded_symbols cs
@@ -100,9 +95,8 @@ pub record IsDecodedUpTo (before symbols rest bytes : List ℕ) : Type 0 where
 
 -- some symbols more are decoded
 pub more_decoded : (before symbols rest bytes part after new : List ℕ) (n : ℕ)
-    → IsDecodedUpTo before symbols rest bytes → n ≤ length rest → n % 4 ≡ 0 → part ≡ take n rest → after ≡ drop n rest
-    → new ≡ bytes ++ decoded_symbols part
-    → IsDecodedUpTo before symbols after new
+    → IsDecodedUpTo before symbols rest bytes → n ≤ length rest → n % 4 ≡ 0 → part ≡ take n rest
+    → after ≡ drop n rest → new ≡ bytes ++ decoded_symbols part → IsDecodedUpTo before symbols after new
 more_decoded before symbols rest bytes part after new n so_far fits groups front back is =
     let parts = symbols_from rest n fits groups in
     record {
@@ -110,8 +104,3 @@ more_decoded before symbols rest bytes part after new n so_far fits groups front
       within = rw back (omega (arith, length-drop n rest, so_far.within));
       all = rw (is, front, back, append_assoc, ← parts) so_far.all;
     }
-
--- the last ones are decoded
-pub all_decoded : (before symbols rest bytes new : List ℕ) → IsDecodedUpTo before symbols rest bytes
-    → new ≡ bytes ++ decoded_symbols rest → new ≡ before ++ decoded_symbols symbols
-all_decoded before symbols rest bytes new so_far is = is ∙ so_far.all

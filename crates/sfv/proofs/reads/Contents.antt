@@ -1,25 +1,18 @@
 -- What the runs of symbols and of padding show of a content.
 use Rattle.std.proofs.Common.{◌≡◌, ℕ, zero, suc, ◌<◌, ◌≤◌, ◌+◌, ◌-◌, ◌%◌, List, [], ◌∷◌, ◌++◌, length, take, drop}
 use Rattle.std.proofs.Common.{replicate, get_or, Ok, Err, refl, sym, ◌∙◌, ap, subst, Bool, true, false, arith, ◌⊎◌, inl}
-use Rattle.std.proofs.Common.{inr}
-use Rattle.std.specs.Prelude.{◌==◌}
-use Rattle.std.specs.List.{list_any}
-use Rattle.std.proofs.lemmas.Bool.{eqb-true, cases_Bool, true≢false}
-use Rattle.std.proofs.lemmas.List.{append-nil, length-take-le, length-drop, take-append-drop, drop-drop, drop_more}
-use Rattle.std.proofs.lemmas.List.{drop_all, get_or-drop, take_rest}
-use Rattle.std.proofs.Math.Seq.{take-add}
-use Rattle.sfv_spec.proofs.Marks.{colon, equals_sign, is_symbol}
-use Rattle.sfv_spec.proofs.Settled.{NotBegun}
+use Rattle.std.proofs.Common.{inr, ◌==◌, eqb-true, true≢false, append-nil, length-take-le, length-drop}
+use Rattle.std.{proofs.Common.{take-append-drop, drop-drop, get_or-drop, take-add}, specs.List.list_any}
+use Rattle.std.proofs.lemmas.{Bool.cases_Bool, List.{drop_more, drop_all, take_rest}}
 use Rattle.sfv_spec.specs.declared.error_kind.ErrorKind.TheVariants.{InvalidByteSequence, UnterminatedByteSequence}
-use Rattle.sfv_model.specs.Reader.{Apart}
+use Rattle.sfv_spec.proofs.{Marks.{colon, equals_sign, is_symbol}, Settled.NotBegun}
 use Rattle.sfv_model.specs.Content.{most_padding, valid_from, fault_place, HasNoColon, bytes_at, IsContentAt, IsBytesAt}
-use Rattle.sfv_model.specs.Content.{IsInvalidAt}
-use Rattle.sfv_model.proofs.base64.Shape.{Shape, is_equals, shape_valid, valid_local}
+use Rattle.sfv_model.specs.{Content.IsInvalidAt, Reader.Apart}
 use Rattle.sfv_model.proofs.base64.Contents.{well_formed, gives_the_bytes, rejected_at, lone_symbol}
-use Rattle.sfv_model.proofs.sound.ByteSequences.{symbols_apart, padding_apart, both_apart, no_colon}
+use Rattle.sfv_model.proofs.base64.Shape.{Shape, is_equals, shape_valid, valid_local}
 use Rattle.sfv_model.proofs.faults.ByteSequences.{gives_value, gives_fault, gives_unclosed}
-use Rattle.sfv.specs.parser.Cursor.{located}
-use Rattle.sfv.specs.parser.Base64.{IsSymbolRun, IsPaddingRun, decoded_symbols}
+use Rattle.sfv_model.proofs.sound.ByteSequences.{symbols_apart, padding_apart, both_apart, no_colon}
+use Rattle.sfv.specs.parser.{Base64.{IsSymbolRun, IsPaddingRun, decoded_symbols}, Cursor.located}
 
 -- the first colon
 first_colon : (u : List ℕ) → list_any (λ c. c == colon) u ≡ true
@@ -66,17 +59,15 @@ valid_runs t n p r =
       within = rw z r.padding.room;
       ends = rw z (elim r.padding.ends [
         | inl e ↦ inl e
-        | inr a ↦ inr (subst (λ (u : List ℕ). NotBegun is_equals u) (drop-drop p n t)
-            (begun is_equals (drop p (drop n t)) a))
+        | inr a ↦ inr (subst (λ (u : List ℕ). NotBegun is_equals u) (drop-drop p n t) (begun _ _ a))
       ]);
-      apart = subst (λ (u : List ℕ). NotBegun is_symbol u) after (begun is_symbol (drop n t) r.symbols.ends);
+      apart = subst (λ (u : List ℕ). NotBegun is_symbol u) after (begun _ _ r.symbols.ends);
     } in
-    (shape_valid 0 t s).0 ∙ ap (λ k. k + p) size
+    (shape_valid _ _ s).0 ∙ ap (λ k. k + p) size
 
 -- a content from its place
 closed_at : (input : List ℕ) (start m : ℕ) → m < length (drop start input) → get_or (drop start input) m 0 ≡ colon
-    → HasNoColon (take m (drop start input))
-    → IsContentAt input start (start + m) (take m (drop start input))
+    → HasNoColon (take m (drop start input)) → IsContentAt input start (start + m) (take m (drop start input))
 closed_at input start m lt closes none =
     let t : List ℕ = drop start input in
     let sum : start + (m + 1) ≡ start + m + 1 = omega arith in
@@ -102,8 +93,7 @@ bytes_closed input start n p r lt closes lone =
     }
 
 lone_closed : (input : List ℕ) (start n p : ℕ) → Runs (drop start input) n p → n + p < length (drop start input)
-    → get_or (drop start input) (n + p) 0 ≡ colon
-    → n % 4 ≡ 1 → IsInvalidAt input start (start + (n + p) - 1)
+    → get_or (drop start input) (n + p) 0 ≡ colon → n % 4 ≡ 1 → IsInvalidAt input start (start + (n + p) - 1)
 lone_closed input start n p r lt closes one =
     let t : List ℕ = drop start input in
     let size : length (take n t) ≡ n = length-take-le n t r.symbols.within in

@@ -1,17 +1,11 @@
 -- What a part of a reading answers is what the whole does.
 use Rattle.std.proofs.Common.{◌≡◌, ℕ, ◌≤◌, List, length, Option, Some, None, Ok, Err, sym, ap, subst, ◌∙◌, drop}
-use Rattle.std.specs.Prelude.{MatchOption, Result, IsErrAnd}
-use Rattle.std.proofs.lemmas.Result.{err_from_is_err_and}
-use Rattle.std.specs.declared.alloc.Global.{Global}
-use Rattle.sfv_spec.specs.declared.version.Version.{Version}
-use Rattle.sfv_base.specs.declared.error.Error.{Error}
-use Rattle.sfv_spec.specs.declared.error_kind.ErrorKind.{ErrorKind}
-use Rattle.sfv_base.specs.Errors.{error_of}
-use Rattle.sfv_model.specs.Reader.{Answer, Reader, and_then, bind, ◌>>=◌}
-use Rattle.sfv.specs.declared.parser.Parser.{Parser}
-use Rattle.sfv.specs.declared.parser.cursor.Cursor.{Cursor}
+use Rattle.std.proofs.Common.{MatchOption, Result, IsErrAnd}
+use Rattle.std.{specs.declared.alloc.Global.Global, proofs.lemmas.Result.err_from_is_err_and}
+use Rattle.sfv_model.{specs.Reader.{Answer, Reader, and_then, bind, ◌>>=◌}, proofs.Types.{Version, ErrorKind}}
+use Rattle.sfv_base.specs.{Errors.error_of, declared.error.Error.Error}
+use Rattle.sfv.specs.{Memory.IsRefusal, declared.parser.Parser.Parser, declared.parser.cursor.Cursor.Cursor}
 use Rattle.sfv.specs.parser.Cursor.{kept, kept_input, kept_version, rest, located, IsFaultOf, IsErrorOf, Reads}
-use Rattle.sfv.specs.Memory.{IsRefusal}
 
 -- what `?` returns
 pub left_with : {T E : Type 0} {r : Result T E} {e : E} → IsErrAnd r (λ f. f ≡ e) → r ≡ Err e

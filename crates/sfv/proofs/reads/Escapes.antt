@@ -1,37 +1,24 @@
 -- The inside of strings and display strings, by what the code found out, and the errors that it tells of them.
 use Rattle.std.proofs.Common.{◌≡◌, ℕ, ◌<◌, ◌≤◌, ◌+◌, ◌*◌, Bool, true, false, not, List, [], ◌∷◌, ◌++◌, length, drop}
 use Rattle.std.proofs.Common.{Option, Some, None, Ok, Err, refl, sym, ap, subst, ◌∙◌, append_assoc, length-append}
-use Rattle.std.proofs.Common.{arith, inl, inr}
-use Rattle.std.specs.Prelude.{MatchOption, is_some, ◌==◌, ◌↔◌}
-use Rattle.std.specs.List.{concat}
-use Rattle.std.specs.declared.alloc.Global.{Global}
+use Rattle.std.proofs.Common.{arith, inl, inr, MatchOption, is_some, ◌==◌, ◌↔◌, eqb-true, append-nil}
+use Rattle.std.specs.{Char.digit_value as hexadecimal_value, List.concat, declared.alloc.Global.Global}
 use Rattle.std.proofs.lemmas.Bool.{and_parts, and_from, and_cases, or_parts, or_from, not-true, not_from_false}
-use Rattle.std.proofs.lemmas.Bool.{both_ways, eqb-true}
-use Rattle.std.proofs.lemmas.Bool.Decides.{nat_tests}
-use Rattle.std.proofs.lemmas.List.{append-nil}
-use Rattle.sfv_spec.proofs.Marks.{double_quote, percent_sign, backslash, plain_of}
-use Rattle.sfv_spec.specs.Texts.{RunOf}
+use Rattle.std.proofs.lemmas.Bool.{both_ways, Decides.nat_tests}
 use Rattle.sfv_spec.specs.Classes.{is_string_byte, is_lower_hexadecimal}
-use Rattle.sfv_spec.specs.Strings.{is_escaped_in_string, IsStringPiece, IsDisplayPiece}
-use Rattle.std.specs.Char.{digit_value as hexadecimal_value}
-use Rattle.sfv_base.specs.declared.error.Error.{Error}
-use Rattle.sfv_spec.specs.declared.error_kind.ErrorKind.{ErrorKind}
-use Rattle.sfv_spec.specs.declared.error_kind.ErrorKind.TheVariants.{UnterminatedEscapeSequence, InvalidEscapeSequence}
-use Rattle.sfv_base.specs.Digits.{digit_value}
-use Rattle.sfv_base.specs.Errors.{kind_of, index_of}
-use Rattle.sfv_model.specs.Reader.{Answer, first, byte, Apart}
+use Rattle.sfv_spec.specs.{Strings.{is_escaped_in_string, IsStringPiece, IsDisplayPiece}, Texts.RunOf}
+use Rattle.sfv_spec.proofs.Marks.{double_quote, percent_sign, backslash, plain_of}
 use Rattle.sfv_model.specs.Quoted.{after_bytes, string_from, outside, percent, digit, pieces_from, checked, display_at}
-use Rattle.sfv_model.specs.Quoted.{StringStops, DisplayStops, Traced}
-use Rattle.sfv_model.proofs.quoted.Pieces.{after_bytes_none, after_bytes_more, after_bytes_ok, step_string}
-use Rattle.sfv_model.proofs.quoted.Pieces.{step_display}
-use Rattle.sfv_model.proofs.quoted.Traces.{Ends, trace_of_string, trace_of_display}
+use Rattle.sfv_model.specs.{Quoted.{StringStops, DisplayStops, Traced}, Reader.{Answer, first, byte, Apart}}
+use Rattle.sfv_model.proofs.Types.{ErrorKind, UnterminatedEscapeSequence, InvalidEscapeSequence}
 use Rattle.sfv_model.proofs.quoted.DisplaySteps.{outside_byte}
-use Rattle.sfv.proofs.reads.Steps.{passed}
-use Rattle.sfv.specs.declared.parser.Parser.{Parser}
-use Rattle.sfv.specs.declared.parser.cursor.Cursor.{Cursor}
+use Rattle.sfv_model.proofs.quoted.Pieces.{after_bytes_none, after_bytes_more, after_bytes_ok, step_string}
+use Rattle.sfv_model.proofs.quoted.{Pieces.step_display, Traces.{Ends, trace_of_string, trace_of_display}}
+use Rattle.sfv_base.specs.{Digits.digit_value, Errors.{kind_of, index_of}, declared.error.Error.Error}
+use Rattle.sfv.specs.{Memory.IsRefusal, declared.parser.Parser.Parser, declared.parser.cursor.Cursor.Cursor}
 use Rattle.sfv.specs.parser.Cursor.{kept_input, rest, located, IsFaultOf, IsErrorOf, NextIs, TakesIf, Skips}
 use Rattle.sfv.specs.parser.Quoted.{mark_of, end_error_of, inside, after_mark, opening, HasNoMark, HasNoMarkInside}
-use Rattle.sfv.specs.Memory.{IsRefusal}
+use Rattle.sfv.proofs.reads.Steps.{passed}
 
 -- ---- one byte of a quoted text
 
@@ -151,9 +138,8 @@ after_fault i j e bytes a whole same eq h = rw (← eq)
 pub escape_fails : (d : Bool) (i j : Parser × Global) (e : Error) (bytes t q r : List ℕ) (whole : Answer (List ℕ))
     → i ≡ j → after_bytes bytes (inside d t) ≡ whole → q ≡ t → TakesIf (byte (mark_of d)) true q r
     → IsFaultOf (kept_input i) e (after_mark d r) → IsErrorOf (kept_input j) e whole
-escape_fails d i j e bytes t q r whole same sofar at mark h =
-    after_fault i j e bytes (after_mark d r) whole same (ap (after_bytes bytes) (sym (at_mark d t q r at mark))
-    ∙ sofar) h
+escape_fails d i j e bytes t q r whole same sofar at mark h = after_fault i j e bytes
+    (after_mark d r) whole same (ap (after_bytes bytes) (sym (at_mark d t q r at mark)) ∙ sofar) h
 
 checked_located : (t : List ℕ) (a : Answer (List ℕ)) (x : ErrorKind × List ℕ) → located a ≡ Err x
     → located (checked t a) ≡ Err x
@@ -178,10 +164,8 @@ abbrev no_mark : Bool → ℕ → Bool
 no_mark d c = not (c == mark_of d)
 
 plain_no_mark : (d : Bool) (c : ℕ) → plain_of d c ≡ true → no_mark d c ≡ true
-plain_no_mark true c p = not_from_false (c == percent_sign)
-    (or_parts (c == percent_sign) (c == double_quote) (not-true _ (and_parts (is_string_byte c) _ p).1)).0
-plain_no_mark false c p = not_from_false (c == backslash)
-    (or_parts (c == double_quote) (c == backslash) (not-true _ (and_parts (is_string_byte c) _ p).1)).1
+plain_no_mark true c p = not_from_false _ (or_parts _ _ (not-true _ (and_parts _ _ p).1)).0
+plain_no_mark false c p = not_from_false _ (or_parts _ _ (not-true _ (and_parts _ _ p).1)).1
 
 quote_no_mark : (d : Bool) → no_mark d double_quote ≡ true
 quote_no_mark true = refl
@@ -192,9 +176,7 @@ pub no_escape : (d : Bool) (run t p r : List ℕ) → RunOf (plain_of d) run →
     → TakesIf (byte double_quote) true p r → (s : List ℕ) × (t ≡ s ++ r) × RunOf (no_mark d) s
 no_escape d run t p r each taken quote = (
   run ++ double_quote ∷ [],
-  taken
-      ∙ ap (λ (l : List ℕ). run ++ l) (at_byte double_quote p r quote)
-      ∙ sym (append_assoc run (double_quote ∷ []) r),
+  taken ∙ ap (λ (l : List ℕ). run ++ l) (at_byte double_quote p r quote) ∙ sym (append_assoc run (double_quote ∷ []) r),
   on run each,
 )
   where
@@ -269,9 +251,8 @@ pub first_digit : (c : ℕ) (t : List ℕ) → is_lower_hexadecimal c ≡ true
 unfolding pieces_from
 first_digit c t h = rw h refl
 
-second_digit : (high c : ℕ) (t : List ℕ) → is_lower_hexadecimal c ≡ true
-    → pieces_from (digit high) (c ∷ t) ≡ after_bytes ((16 * hexadecimal_value high + hexadecimal_value c) ∷ [])
-    (pieces_from outside t)
+second_digit : (high c : ℕ) (t : List ℕ) → is_lower_hexadecimal c ≡ true → pieces_from (digit high)
+    (c ∷ t) ≡ after_bytes ((16 * hexadecimal_value high + hexadecimal_value c) ∷ []) (pieces_from outside t)
 unfolding pieces_from
 second_digit high c t h = rw h refl
 

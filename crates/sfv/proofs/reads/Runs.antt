@@ -1,19 +1,13 @@
 -- Loops over bytes of a class, and over digits.
 use Rattle.std.proofs.Common.{◌≡◌, ℕ, zero, suc, ◌+◌, ◌-◌, ◌*◌, ◌^◌, ◌<◌, ◌≤◌, Bool, true, false, List, [], ◌∷◌, ◌++◌}
 use Rattle.std.proofs.Common.{length, get_or, take, drop, Ok, refl, sym, ap, subst, ◌∙◌, arith, append_assoc, zero-add}
-use Rattle.std.proofs.Common.{add-one, inl, inr, length-append}
-use Rattle.std.proofs.Math.Nat.{pow-suc}
-use Rattle.std.proofs.lemmas.List.{take-append-drop, take_more, length-take, length-take-le, drop_more, drop_all}
-use Rattle.std.proofs.lemmas.List.Folds.{list_all-append}
-use Rattle.std.proofs.lemmas.Bool.{cases_lt, and_parts, and_from, or_from, or_left, or_right, leb-true}
-use Rattle.sfv_spec.specs.Texts.{RunOf}
-use Rattle.sfv_spec.proofs.Marks.{is_digit, is_space_or_tab, space, tab}
-use Rattle.sfv_spec.specs.Numbers.{place_value}
-use Rattle.sfv.specs.declared.parser.digits.Digits.{Digits}
-use Rattle.sfv.specs.parser.Values.{Spells}
+use Rattle.std.proofs.Common.{add-one, inl, inr, length-append, pow-suc, take-append-drop, length-take, length-take-le}
+use Rattle.std.proofs.{Common.leb-true, lemmas.Bool.{cases_lt, and_parts, and_from, or_from, or_left, or_right}}
+use Rattle.std.proofs.lemmas.List.{take_more, drop_more, drop_all, Folds.list_all-append}
+use Rattle.sfv_spec.{specs.Numbers.place_value, specs.Texts.RunOf, proofs.Marks.{is_digit, is_space_or_tab, space, tab}}
 use Rattle.sfv_model.specs.Reader.{Apart, byte, up_to, span}
-use Rattle.sfv.specs.parser.Cursor.{TakesIf}
 use Rattle.sfv_model.proofs.complete.Combinators.{Apart-nil, Apart-cons, up_to_taken, span_complete}
+use Rattle.sfv.specs.{declared.parser.digits.Digits.Digits, parser.Cursor.TakesIf, parser.Values.Spells}
 
 pub stops_at : (class : ℕ → Bool) (xs : List ℕ) (i : ℕ) → (i < length xs → class (get_or xs i 0) ≡ false)
     → Apart class (drop i xs)
@@ -26,8 +20,7 @@ stops_at class xs i h = elim (cases_lt i (length xs)) [
 pub up_to_run : (class : ℕ → Bool) (most k : ℕ) (bytes : List ℕ) → k ≤ most → k ≤ length bytes
     → RunOf class (take k bytes) → (k < most → k < length bytes → class (get_or bytes k 0) ≡ false)
     → up_to class most bytes ≡ Ok (take k bytes, drop k bytes)
-up_to_run class most k bytes le le' each h =
-    ap (up_to class most) (sym (take-append-drop k bytes))
+up_to_run class most k bytes le le' each h = ap (up_to class most) (sym (take-append-drop k bytes))
     ∙ up_to_taken class most (take k bytes) (drop k bytes) each (omega (arith, length-take k bytes))
     (λ lt. stops_at class bytes k (h (omega (arith, length-take k bytes))))
 
@@ -60,9 +53,7 @@ skipped_tab t r q w h a b = skipped_more is_space_or_tab t r w b.0 h (sym a.0 �
 
 pub neither_space_nor_tab : (t r q : List ℕ) → TakesIf (byte space) false t r → TakesIf (byte tab) false r q
     → Apart is_space_or_tab t
-neither_space_nor_tab t r q a b = record {
-  apart = λ c e. or_from _ _ (a.1.apart c e) (b.1.apart c (rw a.0 e));
-}
+neither_space_nor_tab t r q a b = record { apart = λ c e. or_from _ _ (a.1.apart c e) (b.1.apart c (rw a.0 e)) }
 
 -- ---- digits
 

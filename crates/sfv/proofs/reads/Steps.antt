@@ -1,45 +1,33 @@
 -- What a reader gives, by what the code found out.
 use Rattle.std.proofs.Common.{◌≡◌, ℕ, ◌+◌, ◌-◌, ◌*◌, ◌^◌, ◌≤◌, Bool, true, false, eqb, ltb, List, [], ◌∷◌, ◌++◌, length}
-use Rattle.std.proofs.Common.{Option, Some, None, Ok, Err, refl, sym, ap, subst, ◌∙◌, arith, drop}
-use Rattle.std.specs.Prelude.{IsTrue, ℤ, MatchOption}
-use Rattle.std.proofs.lemmas.Bool.{and_from, both_ways, eqb-true, ne_eqb}
-use Rattle.sfv_spec.proofs.Marks.{double_quote, percent_sign, digit_zero, colon, minus_sign, dot, digit_one, semicolon}
-use Rattle.sfv_spec.proofs.Marks.{equals_sign, question_mark, at_sign, is_digit, is_space}
-use Rattle.sfv_spec.specs.Texts.{RunOf}
+use Rattle.std.proofs.Common.{Option, Some, None, Ok, Err, refl, sym, ap, subst, ◌∙◌, arith, drop, IsTrue, ℤ}
+use Rattle.std.proofs.Common.{MatchOption, eqb-true, ne_eqb}
+use Rattle.std.{specs.declared.alloc.Global.Global, proofs.lemmas.Bool.{and_from, both_ways}}
 use Rattle.sfv_spec.specs.Classes.{is_key_start, is_key_inner, is_key, is_token_start, is_token_inner, is_token}
+use Rattle.sfv_spec.specs.{Events.bare_item, Numbers.{place_value, signed}, Texts.RunOf}
 use Rattle.sfv_spec.specs.Values.{RawParameters, RawItem, BareValue, integer, decimal, token, boolean, date}
 use Rattle.sfv_spec.specs.Values.{display_string, string, byte_sequence}
-use Rattle.sfv_spec.specs.declared.version.Version.{Version}
-use Rattle.sfv_spec.specs.declared.version.Version.TheVariants.{Rfc8941, Rfc9651}
-use Rattle.sfv_base.specs.declared.error.Error.{Error}
-use Rattle.std.specs.declared.alloc.Global.{Global}
-use Rattle.sfv_spec.specs.declared.error_kind.ErrorKind.{ErrorKind}
-use Rattle.sfv_spec.specs.Numbers.{place_value, signed}
-use Rattle.sfv_spec.specs.declared.error_kind.ErrorKind.TheVariants.{ExpectedQuote, Rfc8941DisplayString}
-use Rattle.sfv_spec.specs.declared.error_kind.ErrorKind.TheVariants.{ExpectedBoolean, Rfc8941Date, NonIntegerDate}
-use Rattle.sfv_spec.specs.declared.error_kind.ErrorKind.TheVariants.{ExpectedStartOfKey, ExpectedStartOfBareItem}
-use Rattle.sfv_spec.specs.declared.error_kind.ErrorKind.TheVariants.{ExpectedDigit, TooManyDigits}
-use Rattle.sfv_spec.specs.declared.error_kind.ErrorKind.TheVariants.{TooManyDigitsBeforeDecimalPoint}
-use Rattle.sfv_spec.specs.declared.error_kind.ErrorKind.TheVariants.{TooManyDigitsAfterDecimalPoint}
-use Rattle.sfv_spec.specs.declared.error_kind.ErrorKind.TheVariants.{TrailingDecimalPoint}
-use Rattle.sfv_model.specs.Reader.{Answer, Reader, led, give, fail, ruled, ◌>>=◌, branch, ahead, at_start}
-use Rattle.sfv_model.specs.Reader.{back, up_to, span, byte, Apart}
+use Rattle.sfv_spec.proofs.Marks.{double_quote, percent_sign, digit_zero, colon, minus_sign, dot, digit_one, semicolon}
+use Rattle.sfv_spec.proofs.Marks.{equals_sign, question_mark, at_sign, is_digit, is_space}
 use Rattle.sfv_model.specs.Bare.{is_number_start, bare_at, boolean_at, as_date, date_at, quoted_at, sign_at, long_at}
 use Rattle.sfv_model.specs.Bare.{decimal_at, fraction_at, point_at, whole_at, number_at, token_at}
+use Rattle.sfv_model.specs.{Content.bytes_at, Items.{key_at, value_at, parameter_at, parameters_at, item_of, item_at}}
 use Rattle.sfv_model.specs.Quoted.{string_at, display_at}
-use Rattle.sfv_model.specs.Content.{bytes_at}
-use Rattle.sfv_model.specs.Items.{key_at, value_at, parameter_at, parameters_at, item_of, item_at}
-use Rattle.sfv_spec.specs.Events.{bare_item}
+use Rattle.sfv_model.specs.Reader.{Answer, Reader, led, give, fail, ruled, ◌>>=◌, branch, ahead, at_start, back, up_to}
+use Rattle.sfv_model.specs.Reader.{span, byte, Apart}
+use Rattle.sfv_model.proofs.Types.{ExpectedQuote, Rfc8941DisplayString, ExpectedBoolean, Rfc8941Date, NonIntegerDate}
+use Rattle.sfv_model.proofs.Types.{ExpectedStartOfKey, ExpectedStartOfBareItem, ExpectedDigit, TooManyDigits}
+use Rattle.sfv_model.proofs.Types.{TooManyDigitsBeforeDecimalPoint, TooManyDigitsAfterDecimalPoint}
+use Rattle.sfv_model.proofs.Types.{TrailingDecimalPoint, Version, Rfc8941, Rfc9651, ErrorKind}
 use Rattle.sfv_model.proofs.complete.Combinators.{branch_past, branch_take, ahead_past, ahead_take, bind_complete}
 use Rattle.sfv_model.proofs.complete.Combinators.{led_complete, span_complete}
-use Rattle.sfv.proofs.reads.Errors.{fault_bind}
-use Rattle.sfv.specs.declared.parser.Parser.{Parser}
+use Rattle.sfv.specs.{Types.Error, declared.parser.Parser.Parser}
 use Rattle.sfv.specs.parser.Cursor.{kept_input, located, IsFaultOf, NextIs, TakesIf, Skips}
+use Rattle.sfv.proofs.reads.Errors.{fault_bind}
 
 pub ahead_true : {A : Type 0} (class : ℕ → Bool) (taken other : Reader A) (t : List ℕ) → NextIs class true t
     → ahead class taken other t ≡ taken t
-ahead_true class taken other t m = ap (ahead class taken other) m.2 ∙ ahead_take class taken other m.0 m.1 m.3
-    ∙ ap taken (sym m.2)
+ahead_true class taken other t m = ap (ahead class taken other) m.2 ∙ ahead_take _ _ _ _ _ m.3 ∙ ap taken (sym m.2)
 
 pub branch_true : {A : Type 0} (class : ℕ → Bool) (taken : ℕ → Reader A) (other : Reader A) (t r : List ℕ)
     → (m : TakesIf class true t r) → branch class taken other t ≡ taken m.0 r
@@ -106,12 +94,7 @@ unfolding point_at back
 at_point dated negative whole t r m k =
     let same : m.0 ∷ m.1 ≡ k.0 ∷ r = sym m.2 ∙ k.1 in
     let after : m.1 ≡ r = cc in
-    ap (at_start TrailingDecimalPoint t) (branch_true (byte dot) _ _ t r (
-      m.0,
-      m.2
-          ∙ ap (λ (l : List ℕ). m.0 ∷ l) after,
-      m.3,
-    ))
+    ap (at_start TrailingDecimalPoint t) (branch_true _ _ _ _ _ (m.0, m.2 ∙ ap (λ (l : List ℕ). m.0 ∷ l) after, m.3))
 
 pub point_empty : (dated negative : Bool) (whole t r f q : List ℕ) → NextIs (byte dot) true t → Skips t r
     → up_to is_digit 3 r ≡ Ok (f, q) → eqb (length f) 0 ≡ true
@@ -132,16 +115,14 @@ pub point_digit : (dated negative : Bool) (whole t r f q : List ℕ) → NextIs 
     → located (point_at dated negative whole t) ≡ Err (TooManyDigitsAfterDecimalPoint, q)
 unfolding fraction_at decimal_at
 point_digit dated negative whole t r f q m k d e n =
-    let inner : fraction_at dated negative whole r ≡ long_at dated q = bind_complete _ _ r q f d
-    ∙ rw e (ahead_true _ _ _ q n) in
-    ap located (at_point dated negative whole t r m k ∙ ap (at_start TrailingDecimalPoint t) inner)
-    ∙ long_located dated q t t
+    let inner : fraction_at dated negative whole r ≡ long_at dated q = bind_complete _ _ _ _ _ d
+    ∙ rw e (ahead_true _ _ _ _ n) in
+    ap located (at_point _ _ _ _ _ m k ∙ ap (at_start TrailingDecimalPoint t) inner) ∙ long_located _ _ _ t
 
 pub point_decimal : (dated negative : Bool) (whole t r f q : List ℕ) → NextIs (byte dot) true t → Skips t r
     → up_to is_digit 3 r ≡ Ok (f, q) → eqb (length f) 0 ≡ false → Apart is_digit q
     → point_at dated negative whole t ≡ Ok (
-      decimal
-          (signed negative (place_value whole * 1000 + place_value f * 10 ^ (3 - length f))),
+      decimal (signed negative (place_value whole * 1000 + place_value f * 10 ^ (3 - length f))),
       q,
     )
 unfolding fraction_at decimal_at give
@@ -189,9 +170,8 @@ pub key_some : (t bytes q : List ℕ) → IsTaken is_key_start is_key_inner t by
 unfolding key_at give
 key_some t bytes q h =
     let s = taken_text _ _ t bytes q h in
-    ap key_at s.0 ∙ branch_take _ _ _ h.each.0 _ s.1
-    ∙ bind_complete _ _ _ _ _ (span_complete is_key_inner h.each.1 q h.each.3 h.ends)
-    ∙ ap (λ (l : List ℕ). Ok (l, q)) (sym h.each.2)
+    ap key_at s.0 ∙ branch_take _ _ _ h.each.0 _ s.1 ∙ bind_complete _ _ _ _ _
+    (span_complete is_key_inner h.each.1 q h.each.3 h.ends) ∙ ap (λ (l : List ℕ). Ok (l, q)) (sym h.each.2)
 
 pub token_class : (t bytes q : List ℕ) → IsTaken is_token_start is_token_inner t bytes q → IsTrue (is_token bytes)
 token_class t bytes q h = let s = taken_text _ _ t bytes q h in rw h.each.2 (and_from _ _ s.1 h.each.3)
@@ -201,9 +181,8 @@ pub token_some : (t bytes q : List ℕ) → IsTaken is_token_start is_token_inne
 unfolding token_at give
 token_some t bytes q h =
     let s = taken_text _ _ t bytes q h in
-    ap token_at s.0 ∙ branch_take _ _ _ h.each.0 _ s.1
-    ∙ bind_complete _ _ _ _ _ (span_complete is_token_inner h.each.1 q h.each.3 h.ends)
-    ∙ ap (λ (l : List ℕ). Ok (token l, q)) (sym h.each.2)
+    ap token_at s.0 ∙ branch_take _ _ _ h.each.0 _ s.1 ∙ bind_complete _ _ _ _ _
+    (span_complete is_token_inner h.each.1 q h.each.3 h.ends) ∙ ap (λ (l : List ℕ). Ok (token l, q)) (sym h.each.2)
 
 pub ruleset key_steps = (some_next, key_none)
 
@@ -239,12 +218,7 @@ unfolding date_at back
 date_is t r m k =
     let same : m.0 ∷ m.1 ≡ k.0 ∷ r = sym m.2 ∙ k.1 in
     let after : m.1 ≡ r = cc in
-    ap (at_start NonIntegerDate t) (branch_true (byte at_sign) _ _ t r (
-      m.0,
-      m.2
-          ∙ ap (λ (l : List ℕ). m.0 ∷ l) after,
-      m.3,
-    ))
+    ap (at_start NonIntegerDate t) (branch_true _ _ _ _ _ (m.0, m.2 ∙ ap (λ (l : List ℕ). m.0 ∷ l) after, m.3))
 
 pub date_integer : (t r q : List ℕ) (z : ℤ) → NextIs (byte at_sign) true t → Skips t r
     → number_at true r ≡ Ok (integer z, q) → date_at Rfc9651 t ≡ Ok (date z, q)
@@ -254,8 +228,7 @@ date_integer t r q z m k n = date_is t r m k ∙ ap (at_start NonIntegerDate t) 
 pub date_decimal : (t r q : List ℕ) (z : ℤ) → NextIs (byte at_sign) true t → Skips t r
     → number_at true r ≡ Ok (decimal z, q) → located (date_at Rfc9651 t) ≡ Err (NonIntegerDate, t)
 unfolding give
-date_decimal t r q z m k n = ap located (date_is t r m k
-    ∙ ap (at_start NonIntegerDate t) (bind_complete _ _ r q (decimal z) n))
+date_decimal t r q z m k n = ap located (date_is _ _ m k ∙ ap (at_start NonIntegerDate t) (bind_complete _ _ _ _ _ n))
 
 start_fault : (k t s : List ℕ) (o : Answer (Option BareValue)) (kind : ErrorKind) → located o ≡ Err (kind, s)
     → located (at_start NonIntegerDate t o) ≡ Err (kind, s)
@@ -431,8 +404,7 @@ pub parameter_some : (version : Version) (t r s q key w x : List ℕ) (v : BareV
     → span is_space r ≡ Ok (s, q) → key_at q ≡ Ok (key, w) → value_at version w ≡ Ok (v, x)
     → parameter_at version t ≡ Ok (Some (key, v), x)
 unfolding give
-parameter_some version t r s q key w x v m i k e = parameter_keyed version t r s q key w m i k
-    ∙ bind_complete _ _ w x v e
+parameter_some version t r s q key w x v m i k e = parameter_keyed _ _ _ _ _ _ _ m i k ∙ bind_complete _ _ _ _ _ e
 
 pub ruleset parameter_steps = parameter_none
 
@@ -450,7 +422,5 @@ pub item_some : (version : Version) (t r q : List ℕ) (bare : BareValue) (ps : 
     → bare_at version t ≡ Ok (bare, r) → parameters_at version r ≡ Ok (ps, q)
     → item_at version t ≡ Ok (item_of bare ps, q)
 unfolding item_after give
-item_some version t r q bare ps e k = item_is version t
-    ∙ bind_complete (bare_at version) (item_after version) t r bare e
-    ∙ led_complete (bare_item bare ∷ []) (parameters_at version
-    >>= λ ps. give (item_of bare ps)) r q (item_of bare ps) (bind_complete _ _ r q ps k)
+item_some version t r q bare ps e k = item_is _ _ ∙ bind_complete _ _ _ _ _ e
+    ∙ led_complete _ _ _ _ _ (bind_complete _ _ _ _ _ k)

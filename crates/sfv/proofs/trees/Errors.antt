@@ -1,26 +1,15 @@
 -- Errors of functions that build trees: out of memory, or the fault of a reader.
-use Rattle.std.proofs.Common.{◌≡◌, ℕ, ◌≤◌, List, [], ◌∷◌, length, Option, Some, None, Ok, Err, drop, refl, subst}
-use Rattle.std.proofs.Common.{inl, inr}
-use Rattle.std.specs.Prelude.{⊤, ◌⊎◌, MatchOption}
-use Rattle.std.specs.List.{FoldsTo}
-use Rattle.std.specs.declared.alloc.Global.{Global}
-use Rattle.sfv_spec.proofs.Marks.{backslash, percent_sign, colon}
-use Rattle.sfv_spec.specs.declared.error_kind.ErrorKind.{ErrorKind}
-use Rattle.sfv_spec.specs.declared.field_kind.FieldKind.{FieldKind}
-use Rattle.sfv_spec.specs.declared.field_kind.FieldKind.TheVariants.{Item as item_field}
-use Rattle.sfv_spec.specs.declared.version.Version.{Version}
-use Rattle.sfv_spec.specs.Events.{TreeEvent}
-use Rattle.sfv_base.specs.declared.error.Error.{Error}
+use Rattle.std.proofs.Common.{◌≡◌, ℕ, ◌≤◌, List, [], ◌∷◌, length, Option, Some, None, Ok, Err, drop, refl, subst, inl}
+use Rattle.std.proofs.Common.{inr, ◌⊎◌, MatchOption}
+use Rattle.std.specs.{List.FoldsTo, Prelude.⊤, declared.alloc.Global.Global}
+use Rattle.sfv_spec.{specs.Events.TreeEvent, proofs.Marks.{backslash, percent_sign, colon}}
+use Rattle.sfv_model.specs.{Fields.read_field, Reader.{Answer, Fault, Reader, led_answer, led}}
 use Rattle.sfv_base.specs.Errors.{out_of_memory}
-use Rattle.sfv_model.specs.Reader.{Answer, Fault, Reader, led_answer, led}
-use Rattle.sfv_model.specs.Fields.{read_field}
-use Rattle.sfv.specs.declared.parser.Parser.{Parser}
-use Rattle.sfv.specs.declared.parser.cursor.Cursor.{Cursor}
 use Rattle.sfv.specs.Memory.{HoldsMark, IsRefusal, NeedsMemory}
-use Rattle.sfv.specs.Parsers.{IsParseError}
+use Rattle.sfv.specs.{Parsers.IsParseError, Types.{ErrorKind, FieldKind, item_field, Version, Error}}
+use Rattle.sfv.specs.declared.parser.{Parser.Parser, cursor.Cursor.Cursor}
 use Rattle.sfv.specs.parser.Cursor.{kept, kept_input, kept_version, input, version, rest, MayNeedMemory, located}
-use Rattle.sfv.specs.parser.Cursor.{located_whole, IsFaultOf, IsErrorOf}
-use Rattle.sfv.specs.parser.Trees.{FailsAs}
+use Rattle.sfv.specs.parser.{Cursor.{located_whole, IsFaultOf, IsErrorOf}, Trees.FailsAs}
 use Rattle.sfv.proofs.Parsed.{parse_error, unnamed}
 
 -- the loops of trees are those of a visitor that receives every event, and never fails

@@ -1,22 +1,13 @@
 -- Parts that are built one by one, each after a delimiter: the items of inner lists, and members.
 use Rattle.std.proofs.Common.{◌≡◌, ℕ, true, false, List, [], ◌∷◌, ◌++◌, map, Ok, Err, sym, ap, subst, ◌∙◌, inr}
-use Rattle.std.proofs.lemmas.List.{map-append}
-use Rattle.sfv_spec.specs.Values.{RawItem}
-use Rattle.sfv_spec.specs.declared.error_kind.ErrorKind.{ErrorKind}
-use Rattle.sfv_spec.specs.declared.version.Version.{Version}
-use Rattle.sfv_base.specs.declared.error.Error.{Error}
-use Rattle.sfv_spec.specs.Ordered.{ordered_item}
-use Rattle.std.specs.declared.alloc.Global.{Global}
-use Rattle.sfv_tree.specs.declared.hash_seed.HashSeed.{HashSeed}
+use Rattle.std.{specs.declared.alloc.Global.Global, proofs.lemmas.List.map-append}
+use Rattle.sfv_spec.specs.{Ordered.ordered_item, Values.RawItem}
 use Rattle.sfv_model.specs.Reader.{Answer, Reader}
-use Rattle.sfv.specs.declared.parser.Parser.{Parser}
-use Rattle.sfv.specs.declared.parser.cursor.Cursor.{Cursor}
-use Rattle.sfv.specs.parser.Cursor.{kept, version, input, rest, located, IsFaultOf}
-use Rattle.sfv.specs.parser.Trees.{FailsAs}
-use Rattle.sfv.proofs.reads.Delimiters.{first_of}
+use Rattle.sfv.specs.Types.{ErrorKind, Version, Error, HashSeed}
+use Rattle.sfv.specs.declared.parser.{Parser.Parser, cursor.Cursor.Cursor}
+use Rattle.sfv.specs.parser.{Cursor.{kept, version, input, rest, located, IsFaultOf}, Trees.FailsAs, Visits.Visits}
+use Rattle.sfv.proofs.reads.{Delimiters.first_of, Errors.fault_bind}
 use Rattle.sfv.proofs.trees.Errors.{Any, Never, FailsWith, any_run, fault_of, fails_in}
-use Rattle.sfv.proofs.reads.Errors.{fault_bind}
-use Rattle.sfv.specs.parser.Visits.{Visits}
 use Rattle.sfv.proofs.visits.Loops.{Loop, VisitedSoFar, Wants, IsFirst, begun, begun_at, more as visited_more, more_at}
 use Rattle.sfv.proofs.visits.Loops.{ended, faulty, next_one}
 

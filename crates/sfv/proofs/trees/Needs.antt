@@ -1,27 +1,17 @@
 -- Texts for whose item memory may be needed.
 use Rattle.std.proofs.Common.{eqb-true, ◌≡◌, ℕ, Bool, true, false, List, [], ◌∷◌, ◌++◌, Ok, take, refl, sym, subst}
-use Rattle.std.specs.Prelude.{IsTrue}
-use Rattle.std.specs.List.{Contains}
-use Rattle.std.proofs.lemmas.List.{take-append-drop}
-use Rattle.std.proofs.lemmas.List.Elements.{Contains-append_right}
-use Rattle.sfv_spec.proofs.Marks.{double_quote, percent_sign}
-use Rattle.sfv_spec.specs.Classes.{is_token_start}
-use Rattle.sfv_spec.specs.Values.{BareValue}
-use Rattle.sfv_spec.specs.declared.field_kind.FieldKind.TheVariants.{Item as item_field}
-use Rattle.sfv_model.specs.Reader.{byte, branch, fail}
-use Rattle.sfv_model.specs.Bare.{token_at}
-use Rattle.sfv.specs.Memory.{may_need_memory}
-use Rattle.sfv.specs.parser.Cursor.{MayNeedMemory, input, rest, NextIs}
-use Rattle.sfv.specs.declared.parser.cursor.Cursor.{Cursor}
-use Rattle.sfv.proofs.Memory.{first_in}
+use Rattle.std.proofs.{Common.{IsTrue, Contains, take-append-drop}, lemmas.List.Elements.Contains-append_right}
+use Rattle.sfv_spec.{specs.Classes.is_token_start, proofs.Marks.{double_quote, percent_sign}}
+use Rattle.sfv_model.specs.{Bare.token_at, Reader.{byte, branch, fail}}
+use Rattle.sfv.specs.{Field.{BareValue, item_field}, Memory.may_need_memory, declared.parser.cursor.Cursor.Cursor}
+use Rattle.sfv.{specs.parser.Cursor.{MayNeedMemory, input, rest, NextIs}, proofs.Memory.first_in}
 
 -- the next byte is in the input
 next_needs : (class : ℕ → Bool) → ((b : ℕ) → class b ≡ true → IsTrue (may_need_memory item_field b)) → (c : Cursor)
     → NextIs class true (rest c) → MayNeedMemory item_field (input c)
 next_needs class may c h =
-    let here : Contains (rest c) h.0 = subst (λ (t : List ℕ). Contains t h.0) (sym h.2) (first_in h.0 h.1) in
-    let there : Contains (take c.index (input c) ++ rest c) h.0 =
-    Contains-append_right (take c.index (input c)) (rest c) h.0 here in
+    let here : Contains (rest c) h.0 = subst (λ (t : List ℕ). Contains t h.0) (sym h.2) (first_in _ _) in
+    let there : Contains (take c.index (input c) ++ rest c) h.0 = Contains-append_right _ _ _ here in
     (h.0, subst (λ (t : List ℕ). Contains t h.0) (take-append-drop c.index (input c)) there, may h.0 h.3)
 
 -- the same for one byte

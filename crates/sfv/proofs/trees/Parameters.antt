@@ -1,19 +1,12 @@
 -- The loop over parameters that are inserted into a map.
-use Rattle.std.proofs.Common.{◌≡◌, ℕ, List, [], Some, Ok, Err, sym, ap, ◌∙◌}
-use Rattle.std.specs.Prelude.{bytes_eq}
+use Rattle.std.proofs.Common.{◌≡◌, ℕ, List, [], Some, Ok, Err, sym, ap, ◌∙◌, bytes_eq}
 use Rattle.indexmap.specs.IndexMap.{insert_entry}
-use Rattle.sfv_spec.specs.Values.{BareValue, RawParameters}
-use Rattle.sfv_spec.specs.declared.version.Version.{Version}
-use Rattle.sfv_spec.specs.Ordered.{collapse}
-use Rattle.sfv_spec.proofs.Collapse.{collapse-push}
-use Rattle.sfv_tree.specs.Trees.{OwnedBareItem, pairs_tree}
-use Rattle.sfv_spec.specs.declared.error_kind.ErrorKind.{ErrorKind}
+use Rattle.sfv_spec.{specs.Ordered.collapse, specs.Values.{BareValue, RawParameters}, proofs.Collapse.collapse-push}
 use Rattle.sfv_model.specs.Items.{parameter_event, parameter_at, parameters_at}
-use Rattle.sfv_model.proofs.sound.Items.{Consumes-parameter}
-use Rattle.sfv_model.proofs.sound.Many.{is_faulty}
+use Rattle.sfv_model.proofs.{Types.{Version, ErrorKind}, sound.Items.Consumes-parameter, sound.Many.is_faulty}
+use Rattle.sfv_tree.specs.Trees.{OwnedBareItem, pairs_tree}
 use Rattle.sfv.specs.parser.Cursor.{located}
-use Rattle.sfv.proofs.trees.Errors.{Any, FailsWith, fault_of}
-use Rattle.sfv.proofs.built.Items.{insert_entry-entered}
+use Rattle.sfv.proofs.{built.Items.insert_entry-entered, trees.Errors.{Any, FailsWith, fault_of}}
 use Rattle.sfv.proofs.visits.Parameters.{VisitedParameters, visited_none, visited_more}
 
 -- these parameters were read between start and now, and the map has each key once

@@ -1,40 +1,27 @@
 -- Items, inner lists and members that are built, by their parts.
 use Rattle.std.proofs.Common.{◌≡◌, ℕ, true, false, List, [], ◌∷◌, ◌++◌, map, None, Ok, Err, refl, sym, ap, ap₂, subst}
-use Rattle.std.proofs.Common.{◌∙◌}
-use Rattle.std.specs.Prelude.{All, Result, bytes_eq}
-use Rattle.std.proofs.lemmas.List.{map-append}
+use Rattle.std.proofs.{Common.{◌∙◌, All, Result, bytes_eq}, lemmas.List.map-append}
 use Rattle.indexmap.specs.IndexMap.{insert_entry}
-use Rattle.sfv_spec.proofs.Marks.{equals_sign, left_parenthesis, true_with}
-use Rattle.sfv_spec.specs.Values.{BareValue, boolean, RawParameters, RawItem, RawMember, item, inner_list}
 use Rattle.sfv_spec.specs.Classes.{is_token_start}
-use Rattle.sfv_spec.specs.declared.error_kind.ErrorKind.TheVariants.{ExpectedStartOfBareItem}
-use Rattle.sfv_spec.specs.declared.version.Version.{Version}
 use Rattle.sfv_spec.specs.Events.{TreeEvent, entry, begins_item, begins_inner_list, bare_item, keyed_entry}
 use Rattle.sfv_spec.specs.Ordered.{collapse, ordered_item, ordered_member}
-use Rattle.sfv_base.specs.declared.error.Error.{Error}
-use Rattle.sfv_model.specs.Reader.{Apart, Reader, led, give, ◌>>=◌, byte}
-use Rattle.sfv_model.specs.Items.{key_at, parameter_event, parameter_at, parameters_at, item_at, item_of}
+use Rattle.sfv_spec.specs.Values.{BareValue, boolean, RawParameters, RawItem, RawMember, item, inner_list}
+use Rattle.sfv_spec.proofs.Marks.{equals_sign, left_parenthesis, true_with}
 use Rattle.sfv_model.specs.Bare.{bare_at}
+use Rattle.sfv_model.specs.Items.{key_at, parameter_event, parameter_at, parameters_at, item_at, item_of}
 use Rattle.sfv_model.specs.Members.{inner_items_at, inner_at, inner_of, closed_events, member_at, member_value_at}
-use Rattle.sfv_model.specs.Members.{entry_at, keyed_at}
-use Rattle.sfv_model.proofs.complete.Combinators.{bind_complete, led_complete}
-use Rattle.sfv_model.proofs.sound.Many.{starts, is_done}
-use Rattle.sfv_model.proofs.sound.Items.{Consumes-parameter}
-use Rattle.sfv.specs.declared.parser.cursor.Cursor.{Cursor}
-use Rattle.sfv.specs.parser.Cursor.{kept, version, rest, located, TakesIf}
-use Rattle.sfv.specs.parser.Trees.{Builds, EntriesHaveSeed}
-use Rattle.sfv.proofs.trees.Errors.{Any, Never, FailsWith, led_fails, fails_in}
-use Rattle.sfv.proofs.reads.Steps.{branch_true, branch_false, item_some, NoOpener, bare_token, token_none}
-use Rattle.sfv.proofs.visits.InnerLists.{member_list, member_item}
-use Rattle.sfv_tree.specs.Trees.{OwnedBareItem, pairs_tree, item_tree, member_tree, list_tree, dictionary_tree}
+use Rattle.sfv_model.specs.{Members.{entry_at, keyed_at}, Reader.{Apart, Reader, led, give, ◌>>=◌, byte}}
+use Rattle.sfv_model.proofs.{Types.ExpectedStartOfBareItem, complete.Combinators.{bind_complete, led_complete}}
+use Rattle.sfv_model.proofs.sound.{Items.Consumes-parameter, Many.{starts, is_done}}
 use Rattle.sfv_tree.specs.Seeds.{ItemHasSeed, MemberHasSeed, ListHasSeed}
-use Rattle.sfv_tree.specs.declared.hash_seed.HashSeed.{HashSeed}
-use Rattle.sfv_tree.proofs.Entered.{dictionary_tree-insert}
-use Rattle.sfv_tree.proofs.Seeded.{all_push, all_entered}
-use Rattle.sfv_tree.specs.declared.parsed.Item.{Item}
-use Rattle.sfv_tree.specs.declared.parsed.ListEntry.{ListEntry}
+use Rattle.sfv_tree.specs.Trees.{OwnedBareItem, pairs_tree, item_tree, member_tree, list_tree, dictionary_tree}
+use Rattle.sfv_tree.proofs.{Entered.dictionary_tree-insert, Seeded.{all_push, all_entered}}
+use Rattle.sfv.specs.{Types.{Version, Error, HashSeed, Item, ListEntry}, declared.parser.cursor.Cursor.Cursor}
+use Rattle.sfv.specs.parser.{Cursor.{kept, version, rest, located, TakesIf}, Trees.{Builds, EntriesHaveSeed}}
 use Rattle.sfv.proofs.reads.Errors.{fault_bind, kept_reads}
-use Rattle.sfv.proofs.visits.Keyed.{true_is}
+use Rattle.sfv.proofs.reads.Steps.{branch_true, branch_false, item_some, NoOpener, bare_token, token_none}
+use Rattle.sfv.proofs.trees.Errors.{Any, Never, FailsWith, led_fails, fails_in}
+use Rattle.sfv.proofs.visits.{InnerLists.{member_list, member_item}, Keyed.true_is}
 
 -- no parameters
 pub no_parameters : (version : Version) (t : List ℕ) → parameter_at version t ≡ Ok (None, t)

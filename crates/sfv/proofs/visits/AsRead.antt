@@ -1,72 +1,48 @@
 -- The results of parsing functions with a visitor that receives the events as read: by the parts of a reading.
 use Rattle.std.proofs.Common.{◌≡◌, ℕ, true, false, Bool, List, [], ◌∷◌, ◌++◌, Result, Ok, Err, Some, None, refl, sym}
-use Rattle.std.proofs.Common.{ap, subst, ◌∙◌, ◌<◌, ◌+◌, cond, append_assoc, flat_map, length, inl, inr}
-use Rattle.std.specs.Prelude.{OnOk, IfOk, IfErr, ⊤, map, is_some}
-use Rattle.std.proofs.lemmas.List.{append-nil}
-use Rattle.std.specs.List.{FoldsTo}
-use Rattle.std.specs.declared.alloc.Global.{Global}
-use Rattle.sfv_spec.proofs.Marks.{semicolon, equals_sign, left_parenthesis, is_space}
-use Rattle.sfv_spec.specs.Values.{boolean, RawField}
-use Rattle.sfv_spec.specs.declared.field_kind.FieldKind.{FieldKind}
-use Rattle.sfv_spec.specs.declared.field_kind.FieldKind.TheVariants.{Item as item_field}
-use Rattle.sfv_spec.specs.declared.version.Version.{Version}
+use Rattle.std.proofs.Common.{ap, subst, ◌∙◌, ◌<◌, ◌+◌, cond, append_assoc, flat_map, length, inl, inr, OnOk, IfOk}
+use Rattle.std.proofs.Common.{IfErr, map, is_some, append-nil}
+use Rattle.std.specs.{List.FoldsTo, Prelude.⊤, declared.alloc.Global.Global}
 use Rattle.sfv_spec.specs.Events.{TreeEvent, bare_item, parameters_end, begins_item, begins_inner_list, keyed_entry}
 use Rattle.sfv_spec.specs.Events.{inner_list_end, parameters_events, item_events, inner_item_events, member_events}
-use Rattle.sfv_spec.specs.Events.{keyed_events, events}
-use Rattle.sfv_spec.proofs.Structure.{one_field_lem}
-use Rattle.sfv_base.specs.declared.error.Error.{Error}
-use Rattle.sfv_spec.specs.declared.error_kind.ErrorKind.TheVariants.{UnterminatedInnerList}
-use Rattle.sfv_spec.specs.declared.error_kind.ErrorKind.TheVariants.{TrailingCharactersAfterParsedValue}
-use Rattle.sfv_base.specs.declared.error.ParseError.{ParseError}
-use Rattle.sfv_base.specs.declared.error.ParseError.TheVariants.{Syntax, Visitor}
-use Rattle.sfv_base.specs.Errors.{error_of}
-use Rattle.sfv_values.specs.KeyText.{KeyRef}
-use Rattle.sfv_values.specs.CheckedTexts.{text_of}
-use Rattle.sfv_values.specs.BareItems.{input_value}
-use Rattle.sfv_values.specs.declared.bare.GenericBareItem.TheVariants as bare
-use Rattle.sfv_tree.specs.declared.visitor.Event.{Event}
-use Rattle.sfv_tree.specs.declared.visitor.Event.TheVariants as event
-use Rattle.sfv_tree.specs.declared.visitor.Visitor.{Ghosts}
-use Rattle.sfv_tree.specs.Events.{event_of}
-use Rattle.sfv_tree.specs.ProvidedVisitors.{ReadBareItem}
-use Rattle.sfv_model.specs.Reader.{Answer, Reader, byte, first, led, span}
-use Rattle.sfv_model.specs.Bare.{bare_at}
+use Rattle.sfv_spec.specs.{Events.{keyed_events, events}, Values.{boolean, RawField}}
+use Rattle.sfv_spec.proofs.{Marks.{semicolon, equals_sign, left_parenthesis, is_space}, Structure.one_field_lem}
+use Rattle.sfv_model.specs.{Bare.bare_at, Fields.{members_at, read_field}}
 use Rattle.sfv_model.specs.Items.{key_at, parameter_at, parameters_at, item_at}
 use Rattle.sfv_model.specs.Members.{inner_items_at, inner_at, member_at, member_value_at, keyed_at}
-use Rattle.sfv_model.specs.Fields.{members_at}
-use Rattle.sfv_model.specs.Fields.{read_field}
-use Rattle.sfv_model.proofs.LongestBareItem.{bare_is_exact}
-use Rattle.sfv_model.proofs.sound.Combinators.{sound_at}
-use Rattle.sfv_model.proofs.sound.Items.{Sound-key}
-use Rattle.sfv_model.proofs.Theorems.{read_is_accepted}
-use Rattle.sfv.specs.declared.parser.Parser.{Parser}
-use Rattle.sfv.specs.declared.parser.cursor.Cursor.{Cursor}
-use Rattle.sfv.specs.declared.parser.item.ReadParameter.{ReadParameter}
+use Rattle.sfv_model.specs.Reader.{Answer, Reader, byte, first, led, span}
+use Rattle.sfv_model.proofs.{LongestBareItem.bare_is_exact, Theorems.read_is_accepted}
+use Rattle.sfv_model.proofs.Types.{UnterminatedInnerList, TrailingCharactersAfterParsedValue}
+use Rattle.sfv_model.proofs.sound.{Combinators.sound_at, Items.Sound-key}
+use Rattle.sfv_base.specs.{Errors.error_of, declared.error.ParseError.TheVariants.{Syntax, Visitor}}
+use Rattle.sfv_values.specs.{BareItems.input_value, CheckedTexts.text_of, KeyText.KeyRef}
+use Rattle.sfv_tree.specs.{Events.event_of, ProvidedVisitors.ReadBareItem}
+use Rattle.sfv_tree.specs.declared.visitor.{Event.Event, Visitor.Ghosts}
 use Rattle.sfv.specs.Parsers.{version_of, input_of, HasNoQuote, AreReadFrom, IsEventText, Receives, ReceivesAsReadBy}
+use Rattle.sfv.specs.Types.{FieldKind, item_field, Version, Error, ParseError}
+use Rattle.sfv.specs.declared.parser.{Parser.Parser, cursor.Cursor.Cursor, item.ReadParameter.ReadParameter}
 use Rattle.sfv.specs.parser.AsRead.{Passes, IsNextValue, IsNextParameter, IsNextEvent, TakesNext, FailsNext}
 use Rattle.sfv.specs.parser.AsRead.{VisitsAsRead, VisitsFieldAsRead}
 use Rattle.sfv.specs.parser.Cursor.{kept, kept_version, version, rest, input, ReadsOrOutOfMemory, TakesIf, IsErrorOf}
 use Rattle.sfv.specs.parser.Cursor.{IsFaultOf}
 use Rattle.sfv.specs.parser.Members.{after_begin, member_parts, one_member_at, field_of, MemberValue}
-use Rattle.sfv.specs.parser.Quoted.{IsBorrowedUnlessEscaped}
-use Rattle.sfv.specs.parser.Values.{read_pair}
+use Rattle.sfv.specs.parser.{Quoted.IsBorrowedUnlessEscaped, Values.read_pair}
 use Rattle.sfv.specs.parser.Visits.{Visits, VisitsAnswer, IsOfVisitor}
+use Rattle.sfv.proofs.{reads.Delimiters.at_end, visits.BorrowedBareItem.lent_front}
+use Rattle.sfv.proofs.visits.Fields.{item_fails, finish_failed, finished_at, took_whole, members_fail, members_finish}
 use Rattle.sfv.proofs.visits.InnerLists.{inner_list_visits, list_member_visits, item_member_visits, items_fail}
 use Rattle.sfv.proofs.visits.InnerLists.{end_fails, list_begin_fails, item_begin_fails}
 use Rattle.sfv.proofs.visits.Keyed.{value_visits, true_visits, keyed_visits, true_begin_fails, true_bare_fails}
 use Rattle.sfv.proofs.visits.Keyed.{key_fails, keyed_fails}
-use Rattle.sfv.proofs.visits.BorrowedBareItem.{lent_front}
 use Rattle.sfv.proofs.visits.Loops.{Loop, VisitedSoFar, Wants, IsFirst, begun, more, ended as loop_ended, all_events}
 use Rattle.sfv.proofs.visits.Loops.{first_fails, one_fails, delimiter_fails, shorter, members_loop, turn_shortens}
 use Rattle.sfv.proofs.visits.Parameters.{VisitedParameters, visited_none, visited_more, visited_error, end_visits}
 use Rattle.sfv.proofs.visits.Parameters.{parameter_failed, of_visitor, item_visits, bare_faulty, bare_failed}
 use Rattle.sfv.proofs.visits.Parts.{led_visits, led_fails, start_visits}
-use Rattle.sfv.proofs.visits.Taken.{no_items_visited}
-use Rattle.sfv.proofs.visits.Fields.{item_fails, finish_failed, finished_at, took_whole, members_fail, members_finish}
-use Rattle.sfv.proofs.visits.Whole.{field_done, field_trailing_error}
-use Rattle.sfv.proofs.reads.Delimiters.{at_end}
 use Rattle.sfv.proofs.visits.Passed.{Passing, passes, passes_none, passes_same, passes_then, passes_if, then_if}
-use Rattle.sfv.proofs.visits.Passed.{passes_spaces}
+use Rattle.sfv.proofs.visits.{Passed.passes_spaces, Taken.no_items_visited, Whole.{field_done, field_trailing_error}}
+use Rattle.sfv_values.specs.declared.bare.GenericBareItem.TheVariants as bare
+use Rattle.sfv_tree.specs.declared.visitor.Event.TheVariants as event
 
 -- ---- the text of a value
 
@@ -75,13 +51,7 @@ pub next_after : (version : Version) (read : ReadBareItem) (t r q : List ℕ) �
     → IsNextValue version read t q
 next_after version read t r q h n =
     let all = passes_then t r (n.at ++ q) h (n.gap, n.text ∙ append_assoc n.gap n.at q, n.quiet) in
-    record {
-      gap = all.0;
-      at = n.at;
-      text = all.1 ∙ sym (append_assoc all.0 n.at q);
-      quiet = all.2;
-      means = n.means;
-    }
+    record { gap = all.0; at = n.at; text = all.1 ∙ sym (append_assoc all.0 n.at q); quiet = all.2; means = n.means }
 
 -- a bare item that was just consumed
 pub bare_next : (read : ReadBareItem) (before after : Cursor)
@@ -114,11 +84,9 @@ pub value_next : (before middle after : Cursor) (result : Result ReadBareItem Er
     → ReadsOrOutOfMemory input_value middle after result (bare_at (version middle))
     → IfOk result (λ read. IsBorrowedUnlessEscaped read middle after)
     → IfOk result (λ read. IsNextValue (version before) read (rest before) (rest after))
-value_next before middle after (Ok read) same takes parsed lent =
-    next_after (version before) read (rest before) (rest middle) (rest after)
-    (passes_if (byte equals_sign) true (rest before) (rest middle) refl takes)
-    (subst (λ v. IsNextValue v read (rest middle) (rest after)) (ap kept_version same)
-    (bare_next read middle after parsed.0 lent))
+value_next before middle after (Ok read) same takes parsed lent = next_after _ _ _ _ _
+    (passes_if (byte equals_sign) true _ _ refl takes) (subst (λ v. IsNextValue v read (rest middle) (rest after))
+    (ap kept_version same) (bare_next _ middle after parsed.0 lent))
 value_next before middle after (Err e) same takes parsed lent = tt
 
 -- a key that was just consumed
@@ -132,12 +100,11 @@ pub parameter_next : (version version' : Version) (key : KeyRef) (read : ReadBar
     → version' ≡ version → TakesIf (byte semicolon) true t t1 → span is_space t1 ≡ Ok (s, t2)
     → key_at t2 ≡ Ok (text_of key, t3) → IsNextValue version' read t3 q → IsNextParameter version key read t q
 parameter_next version version' key read t t1 t2 t3 q s same takes skipped keyed next =
-    let h = passes_then t t1 t2 (passes_if (byte semicolon) true t t1 refl takes) (passes_spaces t1 s t2 skipped) in
+    let h = passes_then _ _ _ (passes_if (byte semicolon) true _ _ refl takes) (passes_spaces _ _ _ skipped) in
     record {
       gap = h.0;
       after = t3;
-      text = h.1 ∙ ap (λ (l : List ℕ). h.0 ++ l) (key_text t2 t3 (text_of key) keyed)
-          ∙ sym (append_assoc h.0 (text_of key) t3);
+      text = h.1 ∙ ap (λ (l : List ℕ). h.0 ++ l) (key_text _ _ _ keyed) ∙ sym (append_assoc h.0 (text_of key) t3);
       quiet = h.2;
       value = subst (λ v. IsNextValue v read t3 q) same next;
     }
@@ -147,8 +114,7 @@ parameter_event_next : (version : Version) (key : KeyRef) (read : ReadBareItem) 
     → IsNextParameter version key read r q → IsNextEvent version (event.Parameter key read) t q
 parameter_event_next version key read t r q h n =
     let m = n.value in
-    let all = passes_then t r (text_of key ++ n.after) h
-    (n.gap, n.text ∙ append_assoc n.gap (text_of key) n.after, n.quiet) in
+    let all = passes_then _ _ _ h (n.gap, n.text ∙ append_assoc n.gap (text_of key) n.after, n.quiet) in
     let at : List ℕ = text_of key ++ (m.gap ++ m.at) in
     let same : text_of key ++ n.after ≡ at ++ q = ap (λ (l : List ℕ). text_of key ++ l) m.text
     ∙ sym (append_assoc (text_of key) (m.gap ++ m.at) q) in (
@@ -187,8 +153,7 @@ module _ {S O E : Type 0} (v : Ghosts S O E) where
   -- an event without a text
   step : (version : Version) (read : Event) (from to : S) (t : List ℕ) → IsEventText version read []
       → v.takes from (event_of read) to → v.takes_read from read to → Next version (from, t) (event_of read) (to, t)
-  step version read from to t none taken taken_read =
-      step_next version read from to t t ([], [], refl, refl, none) taken taken_read
+  step version read from to t none taken taken_read = step_next _ _ _ _ _ _ ([], [], refl, refl, none) taken taken_read
 
   -- the visitor fails at an event whose text comes next
   stop_next : (version : Version) (read : Event) (from : S) (t r : List ℕ) (error : ParseError E)
@@ -210,9 +175,8 @@ module _ {S O E : Type 0} (v : Ghosts S O E) where
       → Visits (Next (version middle)) (Stop (version middle)) parts middle after from to r f
       → VisitsAnswer (Next (kept_version j)) (Stop (kept_version j)) parts j after from to r
       (f (kept_version j) (rest middle))
-  kept_next parts f middle after from to j r same h =
-      subst (λ (k : Parser × Global). VisitsAnswer (Next (kept_version k)) (Stop (kept_version k)) parts k after from to r
-      (f (kept_version k) (rest middle))) same h
+  kept_next parts f middle after from to j r same h = subst (λ (k : Parser × Global). VisitsAnswer
+      (Next (kept_version k)) (Stop (kept_version k)) parts k after from to r (f (kept_version k) (rest middle))) same h
 
   under : {A : Type 0} (parts : A → List TreeEvent) (f : Version → Reader A) (middle after : Cursor)
       (from to : S × List ℕ) (r : Result (Unit {0}) (ParseError E)) (w : Version) → version middle ≡ w
@@ -235,9 +199,8 @@ module _ {S O E : Type 0} (v : Ghosts S O E) where
       let k = h t pass in (
         k.0,
         k.1,
-        led_visits (Next (version before)) (Stop (version before)) (event_of read) parts (f (version before)) (rest before)
-            (from, t) (middle, t) (to, k.0) (kept before) after r
-            (step (version before) read from middle t none taken taken_read) k.2,
+        led_visits (Next _) (Stop _) (event_of read) parts (f (version before)) (rest before) (from, t)
+            (middle, t) (to, k.0) (kept before) after r (step (version before) _ _ _ t none taken taken_read) k.2,
       )
 
   -- the visitor fails at this event
@@ -249,8 +212,7 @@ module _ {S O E : Type 0} (v : Ghosts S O E) where
   led_stops read parts f before after from to error none failed failed_read t pass = (
     t,
     tt,
-    led_fails (Next (version before)) (Stop (version before)) (event_of read) parts (f (version before)) (rest before)
-        (from, t) (to, t) (kept before) after error (stop (version before) read from t error none failed failed_read),
+    led_fails _ _ _ _ _ _ _ _ (kept before) after _ (stop _ _ _ _ _ none failed failed_read),
   )
 
   -- ---- parameters and items
@@ -272,10 +234,8 @@ module _ {S O E : Type 0} (v : Ghosts S O E) where
   read_more version version' start now r p from middle to same h parsed taken taken_read next t pass =
       let k = h t pass in (
         r,
-        passes_none r,
-        visited_more (Next version) version start now r (text_of p.key) (input_value p.value) (from, t) (middle, k.0)
-            (to, r) k.2 parsed (step_next version (event.Parameter p.key p.value) middle to k.0 r
-            (parameter_event_next version p.key p.value k.0 now r k.1
+        passes_none _,
+        visited_more _ _ _ _ _ _ _ _ _ _ k.2 parsed (step_next _ _ _ _ _ _ (parameter_event_next _ _ _ _ _ _ k.1
             (subst (λ w. IsNextParameter w p.key p.value now r) same next)) taken taken_read),
       )
 
@@ -285,18 +245,12 @@ module _ {S O E : Type 0} (v : Ghosts S O E) where
       → IsErrorOf (input now) e (parameter_at (version now) (rest now))
       → Reads parameters_events before after from middle (Err (Syntax e)) parameters_at
   parameter_error before now after from middle e same h error t pass =
-      let k = h t pass in (
-        k.0,
-        tt,
-        visited_error (Next (version before)) (rest before) (rest now) (from, t) (middle, k.0) (kept now) (kept before) e
-            same k.2 error,
-      )
+      let k = h t pass in (k.0, tt, visited_error _ _ _ _ _ _ _ _ same k.2 error)
 
   -- the visitor fails at a parameter
   pub parameter_stops : (before after : Cursor) (version' : Version) (now r : List ℕ) (p : ReadParameter)
-      (from middle to : S) (error : ParseError E) → version' ≡ version before
-      → ReadParameters (version before) (rest before) now from middle
-      → parameter_at (version before) now ≡ Ok (Some (read_pair p), r)
+      (from middle to : S) (error : ParseError E) → version' ≡ version before → ReadParameters (version before)
+      (rest before) now from middle → parameter_at (version before) now ≡ Ok (Some (read_pair p), r)
       → IsOfVisitor (v.fails middle (event_of (event.Parameter p.key p.value))) error
       → IsOfVisitor (v.fails_read middle (event.Parameter p.key p.value)) error
       → IsNextParameter version' p.key p.value now r
@@ -304,15 +258,12 @@ module _ {S O E : Type 0} (v : Ghosts S O E) where
   parameter_stops before after version' now r p from middle to error same h parsed failed failed_read next t pass =
       let k = h t pass in
       let read = event.Parameter p.key p.value in
-      let next = parameter_event_next (version before) p.key p.value k.0 now r k.1
+      let next = parameter_event_next _ _ _ _ _ _ k.1
       (subst (λ w. IsNextParameter w p.key p.value now r) same next) in (
         t,
         tt,
-        of_visitor (Next (version before)) (Stop (version before)) parameters_events (kept before) after (from, t) (to, t)
-            (Stop (version before) (middle, k.0) (event_of read)) error (parameters_at (version before) (rest before))
-            (stop_next (version before) read middle k.0 r error next failed failed_read)
-            (λ fault failed. parameter_failed (Next (version before)) (Stop (version before)) (version before)
-            (rest before) now r (text_of p.key) (input_value p.value) (from, t) (middle, k.0) fault k.2 parsed failed),
+        of_visitor _ _ _ (kept before) after _ _ _ _ _ (stop_next _ _ _ _ r _ next failed failed_read)
+            (λ fault failed. parameter_failed _ _ _ _ _ _ _ _ _ _ _ k.2 parsed failed),
       )
 
   -- after the last parameter
@@ -326,9 +277,8 @@ module _ {S O E : Type 0} (v : Ghosts S O E) where
   end_reads before after now from middle to r h parsed same keeps taken taken_read failed failed_read t pass =
       let k = h t pass in (
         k.0,
-        always r (passes_then k.0 now (rest after) k.1 (passes_same now (rest after) same)),
-        end_visits (Next (version before)) (Stop (version before)) (version before) (rest before) now (from, t)
-            (middle, k.0) (to, k.0) (kept before) after r k.2 parsed keeps (on_ok r k.0 taken taken_read)
+        always _ (passes_then _ _ _ k.1 (passes_same _ _ same)),
+        end_visits _ _ _ _ _ _ _ _ _ after _ k.2 parsed keeps (on_ok r k.0 taken taken_read)
             (on_err r k.0 failed failed_read),
       )
     where
@@ -357,8 +307,7 @@ module _ {S O E : Type 0} (v : Ghosts S O E) where
   pub item_error : (before after : Cursor) (from : S) (e : Error)
       → IsErrorOf (input before) e (bare_at (version before) (rest before))
       → Reads item_events before after from from (Err (Syntax e)) item_at
-  item_error before after from e h t pass =
-      (t, tt, bare_faulty (Next (version before)) (version before) (rest before) (input before) e (from, t) h)
+  item_error before after from e h t pass = (t, tt, bare_faulty _ _ _ _ _ _ h)
 
   -- the visitor fails at the bare item
   pub item_stops : (before between after : Cursor) (read : ReadBareItem) (from to : S) (error : ParseError E)
@@ -378,12 +327,11 @@ module _ {S O E : Type 0} (v : Ghosts S O E) where
   )
 
   -- a bare item and its parameters
-  pub item_reads : (before between after : Cursor) (read : ReadBareItem) (from middle to : S)
-      (r : Result (Unit {0}) (ParseError E)) → kept between ≡ kept before
+  pub item_reads : (before between after : Cursor) (read : ReadBareItem)
+      (from middle to : S) (r : Result (Unit {0}) (ParseError E)) → kept between ≡ kept before
       → bare_at (version before) (rest before) ≡ Ok (input_value read, rest between)
       → IsBorrowedUnlessEscaped read before between → v.takes from (bare_item (input_value read)) middle
-      → v.takes_read from (event.BareItem read) middle
-      → Reads parameters_events between after middle to r parameters_at
+      → v.takes_read from (event.BareItem read) middle → Reads parameters_events between after middle to r parameters_at
       → Reads item_events before after from to r item_at
   item_reads before between after read from middle to r same here lent taken taken_read h t pass =
       let k = h (rest between) (passes_none (rest between)) in (
@@ -428,12 +376,11 @@ module _ {S O E : Type 0} (v : Ghosts S O E) where
     pub first_stops : (middle after : Cursor) (from to : S) (error : ParseError E) → Passes (rest start) (rest middle)
         → First middle → Reads l.parts middle after from to (Err error) l.one → Ends after from to (Err error)
     first_stops middle after from to error skipped first h t pass =
-        let k = h t (passes_then t (rest start) (rest middle) pass skipped) in (
+        let k = h t (passes_then _ _ _ pass skipped) in (
           k.0,
           tt,
-          first_fails (Next (version start)) (Stop (version start)) l start total middle after (from, t) (to, k.0) error
-              first (under l.parts l.one middle after (from, t) (to, k.0) (Err error) (version start)
-              (ap kept_version first.1) k.2),
+          first_fails _ _ l start _ middle after _ _ _ first (under l.parts l.one middle after
+              (from, t) (to, k.0) (Err error) (version start) (ap kept_version first.1) k.2),
         )
 
     pub more_reads : (now middle after : Cursor) (from at to : S) → Passing l.delimiter
@@ -456,13 +403,12 @@ module _ {S O E : Type 0} (v : Ghosts S O E) where
         → Reads l.parts middle after at to (Err error) l.one → Ends after from to (Err error)
     one_stops now middle after from at to error passing h wanted one t pass =
         let k = h t pass in
-        let skipped = passes l.delimiter (rest now) (rest middle) true passing wanted.0 in
-        let n = one k.0 (passes_then k.0 (rest now) (rest middle) k.1 skipped) in (
+        let skipped = passes _ _ _ _ passing wanted.0 in
+        let n = one k.0 (passes_then _ _ _ k.1 skipped) in (
           n.0,
           tt,
-          one_fails (Next (version start)) (Stop (version start)) l start total now middle after (from, t) (at, k.0)
-              (to, n.0) error k.2 wanted (under l.parts l.one middle after (at, k.0) (to, n.0) (Err error) (version start)
-              (ap kept_version (wanted.1 ∙ k.2.same)) n.2),
+          one_fails _ _ _ _ _ _ middle after _ _ _ _ k.2 wanted (under l.parts l.one middle after
+              (at, k.0) (to, n.0) (Err error) (version start) (ap kept_version (wanted.1 ∙ k.2.same)) n.2),
         )
 
     -- the delimiter is faulty
@@ -489,9 +435,8 @@ module _ {S O E : Type 0} (v : Ghosts S O E) where
     -- What follows at this place: for `true`, a part, by what its parsing gives; for `false`, nothing.
     abbrev pub Awaits : Bool → Cursor → S → S → Type 0
     Awaits true middle from at = ((after : Cursor) (to : S) → Reads l.parts middle after at to (Ok tt) l.one
-        → ReadSoFar l start total after from to)
-        × ((after : Cursor) (to : S) (error : ParseError E) → Reads l.parts middle after at to (Err error) l.one
-        → Ends after from to (Err error))
+        → ReadSoFar l start total after from to) × ((after : Cursor) (to : S) (error : ParseError E)
+        → Reads l.parts middle after at to (Err error) l.one → Ends after from to (Err error))
     Awaits false middle from at = Ends middle from at (Ok tt)
 
     pub awaits_first : (middle : Cursor) (from : S) → Passes (rest start) (rest middle) → First middle
@@ -539,12 +484,7 @@ module _ {S O E : Type 0} (v : Ghosts S O E) where
       → Reads (λ is. flat_map inner_item_events is) before after from to (Err error) inner_items_at
       → Reads after_begin before after from to (Err error) inner_at
   items_stop before after from to error h t pass =
-      let k = h t pass in (
-        k.0,
-        tt,
-        items_fail (Next (version before)) (Stop (version before)) (version before) (rest before) (from, t) (to, k.0)
-            (kept before) after error k.2,
-      )
+      let k = h t pass in (k.0, tt, items_fail _ _ _ _ _ _ (kept before) after _ k.2)
 
   -- the visitor fails at the end of the items
   pub end_stops : (before between after : Cursor) (from middle to : S) (error : ParseError E)
@@ -555,42 +495,35 @@ module _ {S O E : Type 0} (v : Ghosts S O E) where
       let i = items t pass in (
         t,
         tt,
-        end_fails (Next (version before)) (Stop (version before)) (version before) (rest before) (rest between) i.2.0
-            (from, t) (middle, i.0) (to, t) (kept before) after error i.2.1 i.2.2
-            (stop (version before) event.InnerListEnd middle i.0 error refl failed failed_read),
+        end_fails _ _ _ _ _ _ _ _ _ (kept before) after _ i.2.1 i.2.2 (stop _ _ _ _ _ refl failed failed_read),
       )
 
   -- the items of an inner list, their end and the parameters
-  pub inner_list_reads : (before between after : Cursor) (from middle end to : S)
-      (r : Result (Unit {0}) (ParseError E))
+  pub inner_list_reads : (before between after : Cursor) (from middle end to : S) (r : Result (Unit {0}) (ParseError E))
       → Reads (λ is. flat_map inner_item_events is) before between from middle (Ok tt) inner_items_at
       → v.takes middle inner_list_end end → v.takes_read middle event.InnerListEnd end
-      → Reads parameters_events between after end to r parameters_at
-      → Reads after_begin before after from to r inner_at
+      → Reads parameters_events between after end to r parameters_at → Reads after_begin before after from to r inner_at
   inner_list_reads before between after from middle end to r items taken taken_read h t pass =
       let i = items t pass in
       let k = h i.0 i.1 in (
         k.0,
         k.1,
-        inner_list_visits (Next (version before)) (Stop (version before)) (version before) (rest before) (rest between)
-            i.2.0 (from, t) (middle, i.0) (end, i.0) (to, k.0) (kept before) after r i.2.1 i.2.2
-            (step (version before) event.InnerListEnd middle end i.0 refl taken taken_read)
-            (kept_next parameters_events parameters_at between after (end, i.0) (to, k.0) (kept before) r i.2.3 k.2),
+        inner_list_visits _
+            (Stop _) _ _ _ _ _ _ _ (to, k.0) (kept before) after _ i.2.1 i.2.2 (step _ _ _ _ _ refl taken taken_read)
+            (kept_next parameters_events parameters_at between after (end, i.0) (to, k.0) (kept before) _ i.2.3 k.2),
       )
 
-  pub list_member_reads : (before between after : Cursor) (from middle to : S)
-      (r : Result (Unit {0}) (ParseError E)) → kept between ≡ kept before
-      → TakesIf (byte left_parenthesis) true (rest before) (rest between)
+  pub list_member_reads : (before between after : Cursor) (from middle to : S) (r : Result (Unit {0}) (ParseError E))
+      → kept between ≡ kept before → TakesIf (byte left_parenthesis) true (rest before) (rest between)
       → v.takes from begins_inner_list middle → v.takes_read from event.InnerList middle
       → Reads after_begin between after middle to r inner_at → Reads member_events before after from to r member_at
   list_member_reads before between after from middle to r same m taken taken_read h t pass =
-      let k = h t (then_if (byte left_parenthesis) true t (rest before) (rest between) refl pass m) in (
+      let k = h t (then_if (byte left_parenthesis) true _ _ _ refl pass m) in (
         k.0,
         k.1,
-        list_member_visits (Next (version before)) (Stop (version before)) (version before) (rest before) (rest between)
-            (from, t) (middle, t) (to, k.0) (kept before) after r m
-            (step (version before) event.InnerList from middle t refl taken taken_read)
-            (kept_next after_begin inner_at between after (middle, t) (to, k.0) (kept before) r same k.2),
+        list_member_visits (Next _) (Stop _) (version before) (rest before) (rest between) (from, t)
+            (middle, t) (to, k.0) (kept before) after r m (step (version before) _ _ _ t refl taken taken_read)
+            (kept_next after_begin inner_at between after (middle, t) (to, k.0) (kept before) _ same k.2),
       )
 
   -- the visitor fails at the start of an inner list
@@ -601,24 +534,20 @@ module _ {S O E : Type 0} (v : Ghosts S O E) where
   list_member_stops before between after from to error m failed failed_read t pass = (
     t,
     tt,
-    list_begin_fails (Next (version before)) (Stop (version before)) (version before) (rest before) (rest between)
-        (from, t) (to, t) (kept before) after error m
-        (stop (version before) event.InnerList from t error refl failed failed_read),
+    list_begin_fails _ _ _ _ _ _ _ (kept before) after _ m (stop _ _ _ _ _ refl failed failed_read),
   )
 
-  pub item_member_reads : (before between after : Cursor) (from middle to : S)
-      (r : Result (Unit {0}) (ParseError E)) → kept between ≡ kept before
-      → TakesIf (byte left_parenthesis) false (rest before) (rest between)
+  pub item_member_reads : (before between after : Cursor) (from middle to : S) (r : Result (Unit {0}) (ParseError E))
+      → kept between ≡ kept before → TakesIf (byte left_parenthesis) false (rest before) (rest between)
       → v.takes from begins_item middle → v.takes_read from event.Item middle
       → Reads item_events between after middle to r item_at → Reads member_events before after from to r member_at
   item_member_reads before between after from middle to r same m taken taken_read h t pass =
-      let k = h t (then_if (byte left_parenthesis) false t (rest before) (rest between) refl pass m) in (
+      let k = h t (then_if (byte left_parenthesis) false _ _ _ refl pass m) in (
         k.0,
         k.1,
-        item_member_visits (Next (version before)) (Stop (version before)) (version before) (rest before) (rest between)
-            (from, t) (middle, t) (to, k.0) (kept before) after r m
-            (step (version before) event.Item from middle t refl taken taken_read)
-            (kept_next item_events item_at between after (middle, t) (to, k.0) (kept before) r same k.2),
+        item_member_visits (Next _) (Stop _) (version before) (rest before) (rest between) (from, t)
+            (middle, t) (to, k.0) (kept before) after r m (step (version before) _ _ _ t refl taken taken_read)
+            (kept_next item_events item_at between after (middle, t) (to, k.0) (kept before) _ same k.2),
       )
 
   -- the visitor fails at the start of an item
@@ -629,9 +558,7 @@ module _ {S O E : Type 0} (v : Ghosts S O E) where
   item_member_stops before between after from to error m failed failed_read t pass = (
     t,
     tt,
-    item_begin_fails (Next (version before)) (Stop (version before)) (version before) (rest before) (rest between)
-        (from, t) (to, t) (kept before) after error m
-        (stop (version before) event.Item from t error refl failed failed_read),
+    item_begin_fails _ _ _ _ _ _ _ (kept before) after _ m (stop _ _ _ _ _ refl failed failed_read),
   )
 
   pub value_reads : (before between after : Cursor) (from to : S) (r : Result (Unit {0}) (ParseError E))
@@ -651,9 +578,8 @@ module _ {S O E : Type 0} (v : Ghosts S O E) where
   true_event version t = ([], [], refl, refl, (inr (refl, refl), tt))
 
   -- the item true, with its parameters
-  pub true_reads : (before between after : Cursor) (from middle next to : S)
-      (r : Result (Unit {0}) (ParseError E)) → kept between ≡ kept before
-      → TakesIf (byte equals_sign) false (rest before) (rest between)
+  pub true_reads : (before between after : Cursor) (from middle next to : S) (r : Result (Unit {0}) (ParseError E))
+      → kept between ≡ kept before → TakesIf (byte equals_sign) false (rest before) (rest between)
       → v.takes from begins_item middle → v.takes_read from event.Item middle
       → v.takes middle (bare_item (boolean true)) next → v.takes_read middle (event.BareItem (bare.Boolean true)) next
       → Reads parameters_events between after next to r parameters_at
@@ -662,11 +588,10 @@ module _ {S O E : Type 0} (v : Ghosts S O E) where
       let k = h t (then_if (byte equals_sign) false t (rest before) (rest between) refl pass m) in (
         k.0,
         k.1,
-        true_visits (Next (version before)) (Stop (version before)) (version before) (rest before) (rest between) (from, t)
-            (middle, t) (next, t) (to, k.0) (kept before) after r m
-            (step (version before) event.Item from middle t refl taken taken_read)
-            (step_next (version before) (event.BareItem (bare.Boolean true)) middle next t t
-            (true_event (version before) t) bare_taken bare_read)
+        true_visits (Next (version before)) (Stop (version before)) (version before)
+            (rest before) (rest between) (from, t) (middle, t) (next, t) (to, k.0) (kept before) after r m
+            (step (version before) event.Item from middle t refl taken taken_read) (step_next (version before)
+            (event.BareItem (bare.Boolean true)) middle next t t (true_event (version before) t) bare_taken bare_read)
             (kept_next parameters_events parameters_at between after (next, t) (to, k.0) (kept before) r same k.2),
       )
 
@@ -678,26 +603,22 @@ module _ {S O E : Type 0} (v : Ghosts S O E) where
   true_begin_stops before between after from to error m failed failed_read t pass = (
     t,
     tt,
-    true_begin_fails (Next (version before)) (Stop (version before)) (version before) (rest before) (rest between)
-        (from, t) (to, t) (kept before) after error m
-        (stop (version before) event.Item from t error refl failed failed_read),
+    true_begin_fails _ _ _ _ _ _ _ (kept before) after _ m (stop _ _ _ _ _ refl failed failed_read),
   )
 
   -- the visitor fails at its bare item
   pub true_bare_stops : (before between after : Cursor) (from middle to : S) (error : ParseError E)
-      → TakesIf (byte equals_sign) false (rest before) (rest between)
-      → v.takes from begins_item middle → v.takes_read from event.Item middle
-      → IsOfVisitor (v.fails middle (bare_item (boolean true))) error
+      → TakesIf (byte equals_sign) false (rest before) (rest between) → v.takes from begins_item middle
+      → v.takes_read from event.Item middle → IsOfVisitor (v.fails middle (bare_item (boolean true))) error
       → IsOfVisitor (v.fails_read middle (event.BareItem (bare.Boolean true))) error
       → Reads member_events before after from to (Err error) member_value_at
   true_bare_stops before between after from middle to error m taken taken_read failed failed_read t pass = (
     t,
     tt,
-    true_bare_fails (Next (version before)) (Stop (version before)) (version before) (rest before) (rest between)
-        (from, t) (middle, t) (to, t) (kept before) after error m
-        (step (version before) event.Item from middle t refl taken taken_read)
-        (stop_next (version before) (event.BareItem (bare.Boolean true)) middle t t error (true_event (version before) t)
-        failed failed_read),
+    true_bare_fails (Next (version before)) (Stop (version before)) (version before)
+        (rest before) (rest between) (from, t) (middle, t) (to, t) (kept before) after error m
+        (step (version before) event.Item from middle t refl taken taken_read) (stop_next (version before)
+        (event.BareItem (bare.Boolean true)) middle t t error (true_event (version before) t) failed failed_read),
   )
 
   -- the text of a key that was just consumed, as that of an event
@@ -741,8 +662,7 @@ module _ {S O E : Type 0} (v : Ghosts S O E) where
   pub keyed_reads : (before between after : Cursor) (key : KeyRef) (from middle to : S)
       (r : Result (Unit {0}) (ParseError E)) → kept between ≡ kept before
       → key_at (rest before) ≡ Ok (text_of key, rest between) → v.takes from (keyed_entry (text_of key)) middle
-      → v.takes_read from (event.KeyedEntry key) middle
-      → Reads member_events between after middle to r member_value_at
+      → v.takes_read from (event.KeyedEntry key) middle → Reads member_events between after middle to r member_value_at
       → Reads keyed_events before after from to r keyed_at
   keyed_reads before between after key from middle to r same keyed taken taken_read h t pass =
       let k = h (rest between) (passes_none (rest between)) in (
@@ -813,9 +733,8 @@ module _ {S O E : Type 0} (v : Ghosts S O E) (p : Parser) (alloc : Global) (from
   module _ (before after : Cursor) (s : List ℕ) (to : S) (same : kept before ≡ (p, alloc))
       (skipped : span is_space t ≡ Ok (s, rest before)) where
     item_read : (r : Result (Unit {0}) (ParseError E)) → VisitsAsRead v item_events before after from to r item_at
-        → (q : List ℕ) × OnOk r (Passes q (rest after))
-        × VisitsAnswer (TakesNext v w) (FailsNext v w) item_events (p, alloc) after (from, t) (to, q) r
-        (item_at w (rest before))
+        → (q : List ℕ) × OnOk r (Passes q (rest after)) × VisitsAnswer (TakesNext v w)
+        (FailsNext v w) item_events (p, alloc) after (from, t) (to, q) r (item_at w (rest before))
     item_read r h =
         let k = h t (passes_spaces t s (rest before) skipped) in (
           k.0,
@@ -835,8 +754,7 @@ module _ {S O E : Type 0} (v : Ghosts S O E) (p : Parser) (alloc : Global) (from
           → FieldIs item_field (Err error)
       item_field_unfinished error failed =
           let k = item_read (Ok tt) h in
-          finish_failed (TakesNext v w) (FailsNext v w) Finishes FinishFails w t s (rest before) (rest after) k.2.0
-          (from, t) (to, k.0) error skipped k.2.1 k.2.2 failed
+          finish_failed _ _ _ _ _ _ _ _ _ _ _ _ _ skipped k.2.1 k.2.2 failed
 
       pub item_field_trailing : (end : Cursor) (s' : List ℕ) (out : O) → kept end ≡ kept after
           → span is_space (rest after) ≡ Ok (s', rest end) → is_some (first (rest end)) ≡ true → v.finishes to out
@@ -844,12 +762,10 @@ module _ {S O E : Type 0} (v : Ghosts S O E) (p : Parser) (alloc : Global) (from
       item_field_trailing end s' out keeps spaces some finished =
           let k = item_read (Ok tt) h in
           let error = error_of TrailingCharactersAfterParsedValue (Some end.index) in (
-            field_trailing_error w t s (rest before) (rest after) s' end (p, alloc) k.2.0 (keeps ∙ k.2.3) skipped k.2.1
-                spaces some,
+            field_trailing_error _ _ _ _ _ _ end _ _ (keeps ∙ k.2.3) skipped k.2.1 spaces some,
             finished_at (TakesNext v w) Finishes w t s (rest before) (rest after) k.2.0 (from, t) (to, k.0) out error
                 skipped k.2.1 k.2.2 finished,
-            took_whole (TakesNext v w) w t s (rest before) (rest after) k.2.0 (from, t) (to, k.0) error skipped k.2.1
-                k.2.2,
+            took_whole _ _ _ _ _ _ _ _ _ error skipped k.2.1 k.2.2,
           )
 
       module _ (s' q : List ℕ) (out : O) (spaces : span is_space (rest after) ≡ Ok (s', q))
@@ -865,10 +781,8 @@ module _ {S O E : Type 0} (v : Ghosts S O E) (p : Parser) (alloc : Global) (from
         pub item_field_read : ReceivesAsReadBy v p item_field from out
         item_field_read =
             let k = item_read (Ok tt) h in
-            in_words item_field k.2.0 (to, k.0) out
-            (field_done w t s (rest before) (rest after) s' q k.2.0 skipped k.2.1 spaces none) k.2.2
-            (ended k.0 q (passes_then k.0 (rest after) q k.1 (passes_spaces (rest after) s' q spaces)) (at_end q none))
-            finished
+            in_words _ k.2.0 (to, k.0) _ (field_done _ _ _ _ _ _ _ _ skipped k.2.1 spaces none) k.2.2
+            (ended _ _ (passes_then _ _ _ k.1 (passes_spaces _ _ _ spaces)) (at_end _ none)) finished
 
   -- members, up to the end of the input
   module _ (keyed : Bool) (start after : Cursor) (to : S) (same : kept start ≡ (p, alloc))
@@ -894,16 +808,14 @@ module _ {S O E : Type 0} (v : Ghosts S O E) (p : Parser) (alloc : Global) (from
         → FieldIs (field_of keyed) (Err error)
     members_field_fails error h =
         let k = members_read (Err error) h in
-        members_fail (TakesNext v w) (FailsNext v w) Finishes FinishFails keyed w (p, alloc) (from, t) (to, k.0) after
-        error k.2
+        members_fail _ _ _ _ _ _ (p, alloc) _ (to, k.0) after _ k.2
 
     module _ (end : rest after ≡ []) (h : VisitsAsRead v All start after from to (Ok tt) Members) where
       pub members_field_ends : (r : Result O (ParseError E)) → IfOk r (v.finishes to)
           → IfErr r (IsOfVisitor (v.finish_fails to)) → FieldIs (field_of keyed) r
       members_field_ends r finished failed =
           let k = members_read (Ok tt) h in
-          members_finish (TakesNext v w) (FailsNext v w) Finishes FinishFails keyed w t (rest after) (from, t) (to, k.0) r
-          k.2.0 k.2.1 end k.2.2 finished failed
+          members_finish _ _ _ _ _ _ _ _ _ _ _ _ k.2.1 end k.2.2 finished failed
 
       pub members_field_read : (out : O) → v.finishes to out → ReceivesAsReadBy v p (field_of keyed) from out
       members_field_read out finished =

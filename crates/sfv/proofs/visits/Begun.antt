@@ -1,43 +1,27 @@
 -- The first events of items and members, whatever follows.
-use Rattle.std.proofs.Common.{◌≡◌, ℕ, ◌≤◌, eqb, true, false, List, [], ◌∷◌, ◌++◌, length, Some, None, Ok, Err, refl}
-use Rattle.std.proofs.Common.{sym, ap, subst, ◌∙◌, append_assoc, arith, inl, inr}
-use Rattle.std.proofs.lemmas.List.{append-nil, length-append}
-use Rattle.std.proofs.lemmas.Bool.{or_parts, and_parts, or_cases, eqb-true, not-true, true≢false, cases_Bool}
-use Rattle.std.specs.Prelude.{Bool, map, flat_map, ◌||◌, codes, not, ◌==◌}
-use Rattle.std.specs.List.{list_all}
-use Rattle.sfv_spec.proofs.Marks.{space, tab, equals_sign, semicolon, left_parenthesis, right_parenthesis, true_with}
-use Rattle.sfv_spec.proofs.Marks.{is_space, is_space_or_tab}
-use Rattle.sfv_spec.proofs.Bare.{is_bare_start}
-use Rattle.sfv_spec.specs.Texts.{RunOf}
-use Rattle.sfv_spec.specs.Classes.{is_key_inner, is_token_inner, is_one_of}
-use Rattle.sfv_spec.specs.Values.{BareValue, boolean, RawParameters, RawItem, RawMember, RawInnerList, item, inner_list}
-use Rattle.sfv_spec.specs.declared.version.Version.{Version}
-use Rattle.sfv_spec.specs.Grammar.{IsKeyText, IsValueText, IsEnded, IsItemText}
-use Rattle.sfv_spec.proofs.Marks.{IsParameterText}
-use Rattle.sfv_spec.specs.Grammar.{IsMemberText, IsDictionaryMemberText, IsParametersText, IsMemberValueText}
-use Rattle.sfv_spec.specs.Events.{TreeEvent, entry, keyed_entry, begins_item, begins_inner_list, bare_item, parameter}
-use Rattle.sfv_spec.specs.Events.{parameters_end, inner_list_end, parameters_events, item_events, inner_item_events}
-use Rattle.sfv_spec.specs.Events.{member_events, entry_events, keyed_events}
-use Rattle.sfv_spec.proofs.Settled.{joining-nil, joining-cons}
-use Rattle.sfv_model.specs.Reader.{Answer, Apart, visited, and_then, give, ◌>>=◌, bind, led, led_answer, many}
-use Rattle.sfv_model.specs.Reader.{branch, go_on}
-use Rattle.sfv_model.specs.Items.{value_at, parameter_at, parameter_event, parameters_at, item_of, item_at}
-use Rattle.sfv_model.specs.Members.{inner_item_at, next_item_at, inner_items_at, inner_at, inner_of, closed_events}
-use Rattle.sfv_model.specs.Members.{member_at, entry_at, member_value_at, keyed_at}
-use Rattle.sfv_model.proofs.sound.Combinators.{Begins, begins_after, begins_longer, run_head, run_tail}
-use Rattle.sfv_model.proofs.sound.Items.{Consumes-parameter}
-use Rattle.sfv_model.proofs.sound.Many.{many_is, many_complete}
-use Rattle.sfv_model.proofs.sound.Members.{IsClosed, IsNextItem, IsItems, Consumes-next_item}
-use Rattle.sfv_model.proofs.complete.Combinators.{Apart-nil, Apart-cons, Apart-part, branch_past, branch_take}
-use Rattle.sfv_model.proofs.complete.Combinators.{ahead_any, bind_complete, led_complete, span_complete}
-use Rattle.sfv_model.proofs.complete.Bare.{bare_complete}
-use Rattle.sfv_model.proofs.complete.Items.{lengthens, lengthens_item, key_complete, item_no, item_begun, begun_some}
-use Rattle.sfv_model.proofs.complete.Items.{key_apart, equals_apart, space_ends}
-use Rattle.sfv_model.proofs.texts.Joining.{joining_none}
-use Rattle.sfv_model.proofs.complete.Members.{inner_item_complete, next_item_complete, inner_parts, keyed_fresh}
-use Rattle.sfv_model.proofs.visits.EventsBeforeRuleAlike.{begins_all}
-use Rattle.sfv.proofs.visits.Chained.{put_events}
-use Rattle.sfv.specs.Parsers.{first_event}
+use Rattle.std.proofs.Common.{◌≡◌, ℕ, eqb, true, false, List, [], ◌∷◌, ◌++◌, Some, Ok, Err, refl, sym, ap, subst, ◌∙◌}
+use Rattle.std.proofs.Common.{append_assoc, inl, inr, append-nil, eqb-true, true≢false, Bool, map, flat_map, codes, not}
+use Rattle.std.{proofs.Common.◌==◌, specs.List.list_all}
+use Rattle.std.proofs.lemmas.Bool.{or_parts, and_parts, or_cases, not-true, cases_Bool}
+use Rattle.sfv_spec.specs.{Classes.{is_key_inner, is_token_inner, is_one_of}, Events.{item_events, inner_item_events}}
+use Rattle.sfv_spec.specs.Grammar.{IsKeyText, IsEnded, IsItemText, IsMemberText, IsDictionaryMemberText}
+use Rattle.sfv_spec.specs.Grammar.{IsParametersText, IsMemberValueText}
+use Rattle.sfv_spec.proofs.Marks.{tab, equals_sign, left_parenthesis, true_with, is_space, is_space_or_tab}
+use Rattle.sfv_spec.proofs.{Marks.IsParameterText, Settled.{joining-nil, joining-cons}}
+use Rattle.sfv_model.specs.Items.{parameter_at, parameter_event, parameters_at, item_of, item_at}
+use Rattle.sfv_model.specs.Members.{inner_item_at, inner_items_at, inner_at, inner_of, closed_events, member_at}
+use Rattle.sfv_model.specs.Members.{entry_at, member_value_at, keyed_at}
+use Rattle.sfv_model.specs.Reader.{Answer, Apart, visited, and_then, give, ◌>>=◌, bind, led, led_answer, many, branch}
+use Rattle.sfv_model.{specs.Reader.go_on, proofs.complete.Bare.bare_complete}
+use Rattle.sfv_model.proofs.complete.Combinators.{Apart-nil, Apart-cons, branch_past, branch_take, bind_complete}
+use Rattle.sfv_model.proofs.complete.Items.{token_apart, parameter_complete, lengthens, key_complete, item_no}
+use Rattle.sfv_model.proofs.complete.{Items.{key_apart, equals_apart}, Members.{items_complete, inner_parts}}
+use Rattle.sfv_model.proofs.sound.{Combinators.{Begins, begins_after, begins_longer}, Items.Consumes-parameter}
+use Rattle.sfv_model.proofs.{sound.Many.many_is, texts.Joining.joining_none, visits.EventsBeforeRuleAlike.begins_all}
+use Rattle.sfv.specs.Field.{BareValue, boolean, RawParameters, RawItem, RawMember, RawInnerList, item, inner_list}
+use Rattle.sfv.specs.Field.{Version, TreeEvent, entry, keyed_entry, begins_item, begins_inner_list, bare_item}
+use Rattle.sfv.specs.Field.{parameter, parameters_end, inner_list_end, parameters_events, member_events, entry_events}
+use Rattle.sfv.{specs.Field.keyed_events, specs.Parsers.first_event, proofs.visits.Chained.put_events}
 
 pub no_space : (q : List ℕ) → Apart is_space_or_tab q → Apart is_space q
 no_space q h = record { apart = λ c e. (or_parts (is_space c) (eqb c tab) (h.apart c e)).0 }
@@ -56,8 +40,7 @@ unfolding entry_at led
 entry_told version t = led_events (entry ∷ []) entry_events member_events (member_at version t) (λ m. refl)
 
 key_read : (version : Version) (key t q : List ℕ) → IsKeyText key t → Apart is_key_inner q
-    → keyed_at version (t ++ q)
-    ≡ led (keyed_entry key ∷ []) (member_value_at version >>= λ m. give (key, m)) q
+    → keyed_at version (t ++ q) ≡ led (keyed_entry key ∷ []) (member_value_at version >>= λ m. give (key, m)) q
 unfolding keyed_at
 key_read version key t q k h = bind_complete _ _ _ _ _ (key_complete key t q k h)
 
@@ -66,8 +49,7 @@ pub keyed_told : (version : Version) (key t q : List ℕ) → IsKeyText key t �
     → visited keyed_events (keyed_at version (t ++ q))
     ≡ keyed_entry key ∷ visited member_events (member_value_at version q)
 unfolding led bind give
-keyed_told version key t q k h =
-    ap (visited keyed_events) (key_read version key t q k h) ∙ on (member_value_at version q)
+keyed_told version key t q k h = ap (visited keyed_events) (key_read _ _ _ _ k h) ∙ on (member_value_at version q)
   where
     on : (a : Answer RawMember)
         → visited keyed_events (led_answer (keyed_entry key ∷ []) (and_then a (λ m. give (key, m))))
@@ -93,10 +75,6 @@ pub ended_of : (class : ℕ → Bool) (q : List ℕ) → list_all (λ b. not (cl
 ended_of class [] none ended = Apart-nil class
 ended_of class (c ∷ q) none ended = Apart-cons class c q (none_of class (codes "; \t,)") c none ended)
 
-pub token_apart : (q : List ℕ) → Apart lengthens q → Apart is_token_inner q
-token_apart q h = Apart-part is_token_inner lengthens q
-    (λ c e. (or_parts (is_token_inner c) (is_key_inner c || eqb c equals_sign) e).0) h
-
 -- a dictionary member of this key, with nothing after it
 pub true_of_key : (version : Version) (key t : List ℕ) → IsKeyText key t
     → IsDictionaryMemberText version (key, true_with []) t
@@ -107,45 +85,6 @@ true_of_key version key t k = record {
   first = k;
   second = inr ([], refl, joining_none (IsParameterText version));
 }
-
--- the text after a key does not extend it
-value_apart : (version : Version) (value : BareValue) (t q : List ℕ) → IsValueText version value t
-    → Apart is_key_inner q → Apart is_key_inner (t ++ q)
-value_apart version value t q (inl none) h = subst (λ (l : List ℕ). Apart is_key_inner (l ++ q)) (sym none.1) h
-value_apart version value t q (inr v) h =
-    subst (λ (l : List ℕ). Apart is_key_inner (l ++ q)) (sym (v.text ∙ ap (λ (l : List ℕ). l ++ v.back) v.first))
-    (Apart-cons is_key_inner equals_sign (v.back ++ q) refl)
-
-value_read : (version : Version) (value : BareValue) (t q : List ℕ) → IsValueText version value t → Apart lengthens q
-    → value_at version (t ++ q) ≡ Ok (value, q)
-unfolding value_at give
-value_read version value t q (inl none) h = ap (λ (l : List ℕ). value_at version (l ++ q)) none.1
-    ∙ branch_past _ _ _ q (equals_apart q h) ∙ ap (λ (v : BareValue). Ok (v, q)) (sym none.0)
-value_read version value t q (inr v) h =
-    let all : t ++ q ≡ equals_sign ∷ (v.back ++ q) =
-    ap (λ (l : List ℕ). l ++ q) (v.text ∙ ap (λ (l : List ℕ). l ++ v.back) v.first) in
-    ap (value_at version) all ∙ branch_take _ _ _ equals_sign (v.back ++ q) refl
-    ∙ bare_complete version value v.back q v.second (token_apart q h)
-
-parameter_read : (version : Version) (p : List ℕ × BareValue) (t q : List ℕ) → IsParameterText version p t
-    → Apart lengthens q → (parameter_at version (t ++ q) ≡ Ok (Some p, q)) × Apart lengthens (t ++ q)
-unfolding parameter_at give
-parameter_read version p t q i h =
-    let s = i.second in
-    let k = s.second in
-    let all : t ++ q ≡ semicolon ∷ (s.front ++ (k.front ++ (k.back ++ q))) =
-    ap (λ (l : List ℕ). l ++ q) (i.text ∙ ap (λ (l : List ℕ). l ++ i.back) i.first
-    ∙ ap (λ (l : List ℕ). semicolon ∷ l) (s.text ∙ ap (λ (l : List ℕ). s.front ++ l) k.text)) ∙ simp append_assoc in
-    let member = true_of_key version p.0 k.front k.first in
-    let fresh = keyed_fresh version (p.0, true_with []) k.front (k.back ++ q) member in (
-      ap (parameter_at version) all ∙ branch_take _ _ _ semicolon (s.front ++ (k.front ++ (k.back ++ q))) refl
-          ∙ bind_complete _ _ _ _ _ (span_complete is_space s.front (k.front ++ (k.back ++ q)) s.first
-          (no_space _ fresh.0))
-          ∙ bind_complete _ _ _ _ _ (key_complete p.0 k.front (k.back ++ q) k.first
-          (value_apart version p.1 k.back q k.second (key_apart q h)))
-          ∙ bind_complete _ _ _ _ _ (value_read version p.1 k.back q k.second h),
-      subst (Apart lengthens) (sym all) (Apart-cons lengthens semicolon _ refl),
-    )
 
 abbrev Given : RawParameters → List TreeEvent
 Given ps = flat_map parameter_event ps
@@ -160,10 +99,9 @@ given_is (p ∷ ps) = ap (λ (l : List TreeEvent). parameter p.0 p.1 ∷ l) (giv
 one_more : (version : Version) (p : List ℕ × BareValue) (t q : List ℕ) → parameter_at version t ≡ Ok (Some p, q)
     → visited Given (parameters_at version t) ≡ parameter_event p ++ visited Given (parameters_at version q)
 unfolding parameters_at bind led
-one_more version p t q e =
-    ap (visited Given) (many_is parameter_event (parameter_at version) (Consumes-parameter version) t
-    ∙ ap (λ a. and_then a (go_on parameter_event (many parameter_event (parameter_at version)))) e)
-    ∙ put_events parameter_event p (many parameter_event (parameter_at version) q)
+one_more version p t q e = ap (visited Given) (many_is parameter_event (parameter_at version)
+    (Consumes-parameter version) t ∙ ap (λ a. and_then a (go_on parameter_event (many parameter_event
+    (parameter_at version)))) e) ∙ put_events parameter_event p (many parameter_event (parameter_at version) q)
 
 -- parameters, whatever follows them
 parameters_told : (version : Version) (ps : RawParameters) (t q : List ℕ) → IsParametersText version ps t
@@ -173,38 +111,29 @@ parameters_told version [] t q i h =
 parameters_told version (p ∷ ps) t q i h =
     let j = joining-cons i in
     let more = parameters_told version ps j.back q j.second h in
-    let one = parameter_read version p j.front (j.back ++ q) j.first more.1 in
+    let one = parameter_complete version p j.front (j.back ++ q) j.first more.1 in
     let all : t ++ q ≡ j.front ++ (j.back ++ q) =
     ap (λ (l : List ℕ). l ++ q) j.text ∙ append_assoc j.front j.back q in (
-      subst (λ (l : List ℕ). Begins (visited Given (parameters_at version l)) (Given (p ∷ ps))) (sym all)
-          (subst (λ (l : List TreeEvent). Begins l (Given (p ∷ ps)))
-          (sym (one_more version p (j.front ++ (j.back ++ q)) (j.back ++ q) one.0))
-          (begins_after (parameter_event p) _ (Given ps) more.0)),
+      subst (λ (l : List ℕ). Begins (visited Given (parameters_at version l)) (Given (p ∷ ps)))
+          (sym all) (subst (λ (l : List TreeEvent). Begins l (Given (p ∷ ps))) (sym (one_more version p
+          (j.front ++ (j.back ++ q)) (j.back ++ q) one.0)) (begins_after (parameter_event p) _ (Given ps) more.0)),
       subst (Apart lengthens) (sym all) one.1,
     )
 
 -- parameters, with these events before them
-given_after : (es : List TreeEvent) (ps : RawParameters) (a : Answer RawParameters)
-    → Begins (visited Given a) (Given ps)
-    → Begins (visited (λ qs. es ++ parameters_events qs) (led_answer es a)) (es ++ Pairs ps)
-given_after es ps (Ok x) b =
-    begins_after es (parameters_events x.0) (Pairs ps)
-    (subst (λ (l : List TreeEvent). Begins (parameters_events x.0) l) (given_is ps)
-    (begins_longer (Pairs x.0) (Given ps) (parameters_end ∷ [])
-    (subst (λ (l : List TreeEvent). Begins l (Given ps)) (given_is x.0) b)))
-given_after es ps (Err e) b =
-    begins_after es e.events (Pairs ps)
-    (subst (λ (l : List TreeEvent). Begins e.events l) (given_is ps) b)
+given_after : (es : List TreeEvent) (ps : RawParameters) (a : Answer RawParameters) → Begins (visited Given a)
+    (Given ps) → Begins (visited (λ qs. es ++ parameters_events qs) (led_answer es a)) (es ++ Pairs ps)
+given_after es ps (Ok x) b = begins_after _ _ _ (subst (λ (l : List TreeEvent). Begins (parameters_events x.0) l)
+    (given_is _) (begins_longer _ _ _ (subst (λ (l : List TreeEvent). Begins l (Given ps)) (given_is _) b)))
+given_after es ps (Err e) b = begins_after _ _ _ (subst (λ (l : List TreeEvent). Begins e.events l) (given_is _) b)
 
 -- ---- items
 
 item_read : (version : Version) (i : RawItem) (t q : List ℕ) (h : IsItemText version i t)
-    → Apart is_token_inner (h.back ++ q)
-    → item_at version (t ++ q)
-    ≡ led (bare_item i.bare ∷ []) (parameters_at version >>= λ ps. give (item_of i.bare ps)) (h.back ++ q)
+    → Apart is_token_inner (h.back ++ q) → item_at version (t ++ q) ≡ led (bare_item i.bare ∷ [])
+    (parameters_at version >>= λ ps. give (item_of i.bare ps)) (h.back ++ q)
 unfolding item_at
-item_read version i t q h f =
-    ap (item_at version) (ap (λ (l : List ℕ). l ++ q) h.text ∙ append_assoc h.front h.back q)
+item_read version i t q h f = ap (item_at version) (ap (λ (l : List ℕ). l ++ q) h.text ∙ append_assoc h.front h.back q)
     ∙ bind_complete _ _ _ _ _ (bare_complete version i.bare h.front (h.back ++ q) h.first f)
 
 -- an item up to these parameters, whatever follows them
@@ -212,10 +141,9 @@ pub item_told : (version : Version) (i : RawItem) (t q : List ℕ) → IsItemTex
     → Begins (visited item_events (item_at version (t ++ q))) (bare_item i.bare ∷ Pairs i.parameters)
 unfolding led bind give
 item_told version i t q h ended =
-    let ps = parameters_told version i.parameters h.back q h.second (ended_of lengthens q refl ended) in
-    subst (λ a. Begins (visited item_events a) (bare_item i.bare ∷ Pairs i.parameters))
-    (sym (item_read version i t q h (token_apart (h.back ++ q) ps.1)))
-    (on (parameters_at version (h.back ++ q)) (given_after (bare_item i.bare ∷ []) i.parameters _ ps.0))
+    let ps = parameters_told _ _ _ _ h.second (ended_of _ _ refl ended) in
+    subst (λ a. Begins (visited item_events a) (bare_item i.bare ∷ Pairs i.parameters)) (sym (item_read _ i t q h
+    (token_apart _ ps.1))) (on (parameters_at version (h.back ++ q)) (given_after (bare_item i.bare ∷ []) _ _ ps.0))
   where
     on : (a : Answer RawParameters)
         → Begins (visited (λ qs. (bare_item i.bare ∷ []) ++ parameters_events qs)
@@ -240,51 +168,6 @@ inner_item_told version i t q h ended =
     )
 
 -- ---- the items of an inner list, with the closing parenthesis
-
-closed_on : (version : Version) (spaces q : List ℕ) → RunOf is_space spaces
-    → (next_item_at version (spaces ++ right_parenthesis ∷ q) ≡ Ok (None, q))
-    × Apart lengthens_item (spaces ++ right_parenthesis ∷ q)
-unfolding next_item_at give
-closed_on version [] q each = (
-  branch_past _ _ _ (right_parenthesis ∷ q) (Apart-cons is_space right_parenthesis q refl)
-      ∙ branch_take _ _ _ right_parenthesis q refl,
-  Apart-cons lengthens_item right_parenthesis q refl,
-)
-closed_on version (c ∷ s) q each = (
-  branch_take _ _ _ c (s ++ right_parenthesis ∷ q) (run_head is_space c s each)
-      ∙ bind_complete _ _ _ _ _ (span_complete is_space s (right_parenthesis ∷ q) (run_tail is_space c s each)
-      (Apart-cons is_space right_parenthesis q refl)) ∙ branch_take _ _ _ right_parenthesis q refl,
-  rw (eqb-true c space (run_head is_space c s each)) (space_ends (s ++ right_parenthesis ∷ q)),
-)
-
-closed_whole : (e q : List ℕ) (h : IsClosed e) → e ++ q ≡ h.front ++ right_parenthesis ∷ q
-closed_whole e q h = simp (h.text, h.second, append_assoc)
-
-items_read : (version : Version) (is : List RawItem) (t q : List ℕ) → IsItems version is t
-    → inner_items_at version (t ++ q) ≡ Ok (is, q)
-unfolding inner_items_at give
-items_read version [] t q h =
-    ap (inner_items_at version) (closed_whole t q h)
-    ∙ ahead_any _ _ (h.front ++ right_parenthesis ∷ q) (omega (arith, length-append {A = ℕ}))
-    ∙ bind_complete _ _ _ _ _ (span_complete is_space h.front (right_parenthesis ∷ q) h.first
-    (Apart-cons is_space right_parenthesis q refl)) ∙ branch_take _ _ _ right_parenthesis q refl
-items_read version (i ∷ is) t q h =
-    let o = h.second in
-    let more = many_complete inner_item_events (next_item_at version) (Consumes-next_item version) (IsNextItem version)
-    IsClosed (Apart lengthens_item) q (λ v a q p f. next_item_complete version v a q p f)
-    (λ e c. rw (closed_whole e q c) (closed_on version c.front q c.first)) is o.back o.second in
-    let all : t ++ q ≡ h.front ++ (o.front ++ (o.back ++ q)) =
-    ap (λ (l : List ℕ). l ++ q) (h.text ∙ ap (λ (l : List ℕ). h.front ++ l) o.text) ∙ simp append_assoc in
-    let some : 1 ≤ length (o.front ++ (o.back ++ q)) =
-    begun_some is_bare_start (o.front ++ (o.back ++ q)) (item_begun version i o.front (o.back ++ q) o.first) in
-    ap (inner_items_at version) all ∙ ahead_any _ _ (h.front ++ (o.front ++ (o.back ++ q)))
-    (omega (arith, length-append {A = ℕ}))
-    ∙ bind_complete _ _ _ _ _ (span_complete is_space h.front (o.front ++ (o.back ++ q)) h.first
-    (item_no space version i o.front (o.back ++ q) refl o.first))
-    ∙ branch_past _ _ _ (o.front ++ (o.back ++ q))
-    (item_no right_parenthesis version i o.front (o.back ++ q) refl o.first)
-    ∙ bind_complete _ _ _ _ _ (inner_item_complete version i o.front (o.back ++ q) o.first more.1)
-    ∙ led_complete _ _ _ _ _ (bind_complete _ _ _ _ _ more.0)
 
 -- ---- members
 
@@ -313,17 +196,14 @@ list_told : (version : Version) (l : RawInnerList) (t q : List ℕ) → IsMember
     → Begins (visited member_events (member_at version (t ++ q))) (open_events (inner_list l))
 unfolding member_at inner_at led bind give
 list_told version l t q h ended =
-    let p = inner_parts version l.items l.parameters t h in
+    let p = inner_parts _ _ _ _ h in
     let all : t ++ q ≡ left_parenthesis ∷ (p.items ++ (p.rest ++ q)) =
     ap (λ (l : List ℕ). l ++ q) p.text ∙ ap (λ (l : List ℕ). left_parenthesis ∷ l) (append_assoc p.items p.rest q) in
-    let ps = parameters_told version l.parameters p.rest q p.are_parameters (ended_of lengthens q refl ended) in
-    subst (λ a. Begins (visited member_events a) (open_events (inner_list l)))
-    (sym (ap (member_at version) all ∙ branch_take _ _ _ left_parenthesis (p.items ++ (p.rest ++ q)) refl
-    ∙ ap (λ a. led_answer (begins_inner_list ∷ []) (and_then a (λ is. led (closed_events is)
-    (parameters_at version >>= λ ps. give (inner_of is ps)))))
-    (items_read version l.items p.items (p.rest ++ q) p.are_items)))
-    (on (parameters_at version (p.rest ++ q))
-    (given_after (begins_inner_list ∷ closed_events l.items) l.parameters _ ps.0))
+    let ps = parameters_told _ _ _ _ p.are_parameters (ended_of _ _ refl ended) in
+    subst (λ a. Begins (visited member_events a) (open_events (inner_list l))) (sym (ap (member_at version) all
+    ∙ branch_take _ _ _ _ _ refl ∙ ap (λ a. led_answer (begins_inner_list ∷ []) (and_then a (λ is. led
+    (closed_events is) (parameters_at version >>= λ ps. give (inner_of is ps))))) (items_complete _ _ _ _ p.are_items)))
+    (on (parameters_at version (p.rest ++ q)) (given_after (begins_inner_list ∷ closed_events l.items) _ _ ps.0))
   where
     on : (a : Answer RawParameters)
         → Begins (visited (λ qs. (begins_inner_list ∷ closed_events l.items) ++ parameters_events qs)
@@ -357,21 +237,18 @@ unfolding member_value_at led bind give
 value_told version m t q (inl h) ended =
     let all : t ++ q ≡ equals_sign ∷ (h.back ++ q) =
     ap (λ (l : List ℕ). l ++ q) (h.text ∙ ap (λ (l : List ℕ). l ++ h.back) h.first) in (
-      subst (λ a. Begins (visited member_events a) (open_events m))
-          (sym (ap (member_value_at version) all ∙ branch_take _ _ _ equals_sign (h.back ++ q) refl))
-          (member_told version m h.back q h.second ended),
+      subst (λ a. Begins (visited member_events a) (open_events m)) (sym (ap (member_value_at version) all
+          ∙ branch_take _ _ _ equals_sign (h.back ++ q) refl)) (member_told version m h.back q h.second ended),
       subst (Apart is_key_inner) (sym all) (Apart-cons is_key_inner equals_sign (h.back ++ q) refl),
     )
 value_told version m t q (inr h) ended =
     let ps = parameters_told version h.0 t q h.2 (ended_of lengthens q refl ended) in
     let is : open_events m ≡ begins_item ∷ bare_item (boolean true) ∷ Pairs h.0 = ap open_events h.1 in (
       subst (λ a. Begins (visited member_events a) (open_events m))
-          (sym (branch_past _ _ _ (t ++ q) (equals_apart (t ++ q) ps.1)))
-          (subst (λ (l : List TreeEvent). Begins (visited member_events
-          (led_answer (begins_item ∷ bare_item (boolean true) ∷ [])
-          (and_then (parameters_at version (t ++ q)) (λ ps. give (true_with ps))))) l) (sym is)
-          (on h.0 (parameters_at version (t ++ q))
-          (given_after (begins_item ∷ bare_item (boolean true) ∷ []) h.0 _ ps.0))),
+          (sym (branch_past _ _ _ (t ++ q) (equals_apart (t ++ q) ps.1))) (subst (λ (l : List TreeEvent). Begins
+          (visited member_events (led_answer (begins_item ∷ bare_item (boolean true) ∷ [])
+          (and_then (parameters_at version (t ++ q)) (λ ps. give (true_with ps))))) l) (sym is) (on h.0
+          (parameters_at version (t ++ q)) (given_after (begins_item ∷ bare_item (boolean true) ∷ []) h.0 _ ps.0))),
       key_apart (t ++ q) ps.1,
     )
   where

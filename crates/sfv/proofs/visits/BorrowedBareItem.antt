@@ -1,36 +1,20 @@
 -- The text of a bare item that a visitor received as it was parsed.
 use Rattle.std.proofs.Common.{◌≡◌, ℕ, List, [], ◌∷◌, ◌++◌, map, drop, Ok, refl, sym, ap, subst, ◌∙◌, append_assoc, Bool}
-use Rattle.std.proofs.Common.{inl, inr}
-use Rattle.std.specs.Prelude.{not, ◌==◌}
-use Rattle.std.specs.Cow.{cow_str_bytes}
-use Rattle.std.proofs.lemmas.List.{append_cancel_right}
-use Rattle.std.specs.List.{FoldsTo}
-use Rattle.sfv_spec.specs.Ascii.{byte}
+use Rattle.std.proofs.Common.{inl, inr, not, ◌==◌}
+use Rattle.std.{specs.Cow.cow_str_bytes, specs.List.FoldsTo, proofs.lemmas.List.append_cancel_right}
+use Rattle.sfv_spec.specs.{Ascii.byte, Events.item_events, Grammar.{IsBareText, BeginsWithLongest}, Texts.RunOf}
 use Rattle.sfv_spec.proofs.Marks.{double_quote, percent_sign, is_space}
-use Rattle.sfv_spec.specs.Texts.{RunOf}
-use Rattle.sfv_spec.specs.Values.{BareValue, RawItem}
-use Rattle.sfv_spec.specs.Grammar.{IsBareText, IsFieldText, BeginsWithLongest}
-use Rattle.sfv_spec.specs.declared.field_kind.FieldKind.TheVariants.{Item as item_field}
-use Rattle.sfv_spec.specs.declared.version.Version.{Version}
-use Rattle.sfv_spec.specs.Events.{TreeEvent, bare_item, parameters_events, item_events, events}
-use Rattle.sfv_values.specs.BareItems.{input_value, read_text}
-use Rattle.sfv_values.specs.declared.bare.GenericBareItem.TheVariants as bare
-use Rattle.sfv_tree.specs.declared.visitor.Event.{Event}
-use Rattle.sfv_tree.specs.declared.visitor.Event.TheVariants as event
-use Rattle.sfv_tree.specs.Events.{event_of}
-use Rattle.sfv_tree.specs.ProvidedVisitors.{ReadBareItem}
-use Rattle.sfv_model.specs.Reader.{Answer, Apart, span, visited}
-use Rattle.sfv_model.specs.Quoted.{string_at, display_at}
-use Rattle.sfv_model.proofs.complete.Combinators.{span_complete, Apart-cons}
+use Rattle.sfv_model.specs.{Quoted.{string_at, display_at}, Reader.{Answer, Apart, span, visited}}
+use Rattle.sfv_model.proofs.{Types.{item_field, Version}, complete.Combinators.{span_complete, Apart-cons}}
 use Rattle.sfv_model.proofs.complete.Quoted.{string_complete, display_complete}
-use Rattle.sfv.specs.declared.parser.cursor.Cursor.{Cursor}
-use Rattle.sfv.specs.parser.Cursor.{rest}
-use Rattle.sfv.specs.parser.Quoted.{IsBorrowedUnlessEscaped}
-use Rattle.sfv.specs.Parsers.{HasNoQuote, IsBorrowedIfPlain, IsReadAs, AreReadFrom}
+use Rattle.sfv_tree.specs.{Events.event_of, ProvidedVisitors.ReadBareItem, declared.visitor.Event.Event}
+use Rattle.sfv.specs.Field.{BareValue, RawItem, IsFieldText, TreeEvent, bare_item, parameters_events, events}
+use Rattle.sfv.specs.{Field.{input_value, read_text}, Parsers.{HasNoQuote, IsBorrowedIfPlain, IsReadAs, AreReadFrom}}
+use Rattle.sfv.specs.{declared.parser.cursor.Cursor.Cursor, parser.Cursor.rest, parser.Quoted.IsBorrowedUnlessEscaped}
 use Rattle.sfv.proofs.Relations.{folded, HasBorrowed, HasEventsRead}
-use Rattle.sfv.proofs.visits.Fields.{whole_accepted}
-use Rattle.sfv.proofs.visits.First.{visited_first, same_rest}
-use Rattle.sfv.proofs.visits.Passed.{run_apart, both_apart}
+use Rattle.sfv.proofs.visits.{Fields.whole_accepted, First.{visited_first, same_rest}, Passed.{run_apart, both_apart}}
+use Rattle.sfv_values.specs.declared.bare.GenericBareItem.TheVariants as bare
+use Rattle.sfv_tree.specs.declared.visitor.Event.TheVariants as event
 
 abbrev no_quote_byte : ℕ → Bool
 no_quote_byte c = not (c == byte "\"")
@@ -74,11 +58,9 @@ lent_front version item before after front split means h = tt
 -- two texts without a quote, and a quote after each
 same_quote : (a b x y : List ℕ) → HasNoQuote a → HasNoQuote b → a ++ double_quote ∷ x ≡ b ++ double_quote ∷ y → x ≡ y
 same_quote a b x y h k e =
-    let stops : (z : List ℕ) → Apart no_quote_byte (double_quote ∷ z) = λ z. Apart-cons no_quote_byte double_quote z refl in
-    let same : double_quote ∷ x ≡ double_quote ∷ y =
-    same_rest (span no_quote_byte (b ++ double_quote ∷ y)) a b (double_quote ∷ x) (double_quote ∷ y)
-    (ap (span no_quote_byte) (sym e) ∙ span_complete no_quote_byte a (double_quote ∷ x) h (stops x))
-    (span_complete no_quote_byte b (double_quote ∷ y) k (stops y)) in
+    let stops : (z : List ℕ) → Apart no_quote_byte (double_quote ∷ z) = λ z. Apart-cons _ _ _ refl in
+    let same : double_quote ∷ x ≡ double_quote ∷ y = same_rest _ _ _ _ _
+    (ap (span no_quote_byte) (sym e) ∙ span_complete _ _ _ h (stops x)) (span_complete _ _ _ k (stops y)) in
     cc
 
 -- two quoted texts of one value, the first of a text: they are one text
@@ -86,10 +68,9 @@ same_quoted : (reads : List ℕ → Answer (List ℕ)) (opening s a b u v x y : 
     → HasNoQuote a → HasNoQuote b → reads (u ++ x) ≡ Ok (s, x) → reads (v ++ y) ≡ Ok (s, y)
     → a ++ (opening ++ double_quote ∷ u) ++ x ≡ b ++ (opening ++ double_quote ∷ v) ++ y → u ≡ v
 same_quoted reads opening s a b u v x y quiet h k m n e =
-    let grouped : (c w z : List ℕ) → c ++ (opening ++ double_quote ∷ w) ++ z ≡ (c ++ opening) ++ double_quote ∷ (w ++ z) =
-    λ c w z. append_assoc c (opening ++ double_quote ∷ w) z
-    ∙ ap (λ (l : List ℕ). c ++ l) (append_assoc opening (double_quote ∷ w) z)
-    ∙ sym (append_assoc c opening (double_quote ∷ (w ++ z))) in
+    let grouped : (c w z : List ℕ) → c ++ (opening ++ double_quote ∷ w) ++ z ≡ (c ++ opening)
+    ++ double_quote ∷ (w ++ z) = λ c w z. append_assoc c (opening ++ double_quote ∷ w) z ∙ ap (λ (l : List ℕ). c ++ l)
+    (append_assoc opening (double_quote ∷ w) z) ∙ sym (append_assoc c opening (double_quote ∷ (w ++ z))) in
     let tails : u ++ x ≡ v ++ y = same_quote (a ++ opening) (b ++ opening) (u ++ x) (v ++ y)
     (both_apart a opening h quiet) (both_apart b opening k quiet) (sym (grouped a u x) ∙ e ∙ grouped b v y) in
     let ends : x ≡ y = same_rest (reads (v ++ y)) s s x y (ap reads (sym tails) ∙ m) n in

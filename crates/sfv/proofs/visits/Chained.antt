@@ -1,18 +1,12 @@
 -- Values with separators: the events of complete values, and the first events of the next one.
 use Rattle.std.proofs.Common.{◌≡◌, ℕ, List, [], ◌∷◌, ◌++◌, Option, Some, Ok, Err, refl, sym, ap, subst, ◌∙◌}
-use Rattle.std.proofs.Common.{append_assoc}
-use Rattle.std.proofs.lemmas.List.{append-nil}
-use Rattle.std.specs.Prelude.{flat_map}
-use Rattle.sfv_spec.specs.Texts.{◌⨾◌, IsJoining, IsSeparated}
-use Rattle.sfv_spec.specs.Events.{TreeEvent}
+use Rattle.std.proofs.Common.{append_assoc, append-nil, flat_map}
+use Rattle.sfv_spec.specs.{Events.TreeEvent, Texts.{◌⨾◌, IsJoining, IsSeparated}}
 use Rattle.sfv_spec.proofs.Settled.{joining-nil, joining-cons}
 use Rattle.sfv_model.specs.Reader.{Answer, Reader, Apart, visited, and_then, give, ◌>>=◌, bind, led, led_answer, many}
-use Rattle.sfv_model.specs.Reader.{go_on, one_and_more}
-use Rattle.sfv_model.proofs.sound.Combinators.{Begins, begins_after}
-use Rattle.sfv_model.proofs.sound.Many.{Consumes, many_is}
-use Rattle.sfv_model.proofs.complete.Combinators.{bind_complete}
-use Rattle.sfv_model.proofs.complete.Items.{lengthens_item}
-use Rattle.sfv_model.proofs.texts.Joining.{joining_none, joining_into, in_turn}
+use Rattle.sfv_model.{specs.Reader.{go_on, one_and_more}, proofs.complete.Combinators.bind_complete}
+use Rattle.sfv_model.proofs.{complete.Items.lengthens_item, sound.Combinators.{Begins, begins_after}}
+use Rattle.sfv_model.proofs.{sound.Many.{Consumes, many_is}, texts.Joining.{joining_none, joining_into, in_turn}}
 
 pub put_events : {A : Type 0} (parts : A → List TreeEvent) (m : A) (a : Answer (List A))
     → visited (λ ms. flat_map parts ms) (led_answer (parts m) (and_then a (λ vs. give (m ∷ vs))))
@@ -36,9 +30,8 @@ module _ {A : Type 0} (P : A → List ℕ → Type 0) (S F : List ℕ → Type 0
   abbrev Members : Reader (List A)
   Members = one_and_more parts one next
 
-  another : (a : Answer A)
-      → and_then (and_then a (λ m. give (Some m))) (go_on parts More)
-      ≡ and_then a (λ v. led (parts v) (More >>= λ vs. give (v ∷ vs)))
+  another : (a : Answer A) → and_then (and_then a (λ m. give (Some m)))
+      (go_on parts More) ≡ and_then a (λ v. led (parts v) (More >>= λ vs. give (v ∷ vs)))
   unfolding give
   another (Ok x) = refl
   another (Err e) = refl
@@ -46,8 +39,7 @@ module _ {A : Type 0} (P : A → List ℕ → Type 0) (S F : List ℕ → Type 0
   -- after a separator, the values continue as they begin
   after_separator : (c y : List ℕ) → S c → F y → More (c ++ y) ≡ Members y
   unfolding bind
-  after_separator c y h f =
-      many_is parts next takes (c ++ y) ∙ ap (λ a. and_then a (go_on parts More)) (next_is c y h f) ∙ another (one y)
+  after_separator c y h f = many_is _ _ takes _ ∙ ap (λ a. and_then a (go_on parts More)) (next_is c y h f) ∙ another _
 
   read_first : (m : A) (t q : List ℕ) → P m t → Apart lengthens_item q
       → Members (t ++ q) ≡ led (parts m) (More >>= λ vs. give (m ∷ vs)) q
@@ -78,10 +70,9 @@ module _ {A : Type 0} (P : A → List ℕ → Type 0) (S F : List ℕ → Type 0
       let y : List ℕ = j.back ++ rest in
       let all : u ++ rest ≡ j.first.front ++ (j.first.back ++ y) =
       ap (λ (l : List ℕ). l ++ rest) (j.text ∙ ap (λ (l : List ℕ). l ++ j.back) j.first.text) ∙ simp append_assoc in
-      ap (λ (l : List ℕ). visited All (Members l)) all
-      ∙ events_first m j.first.front (j.first.back ++ y) j.first.first (parted j.first.back y j.first.second)
-      ∙ ap (λ a. parts m ++ visited All a) (after_separator j.first.back y j.first.second
-      (fresh_after ms j.back rest j.second f))
+      ap (λ (l : List ℕ). visited All (Members l)) all ∙ events_first m j.first.front
+      (j.first.back ++ y) j.first.first (parted j.first.back y j.first.second) ∙ ap (λ a. parts m ++ visited All a)
+      (after_separator j.first.back y j.first.second (fresh_after ms j.back rest j.second f))
       ∙ ap (λ (l : List TreeEvent). parts m ++ l) (after_each ms j.back rest j.second f)
       ∙ sym (append_assoc (parts m) (All ms) (visited All (Members rest)))
 
@@ -99,8 +90,7 @@ module _ {A : Type 0} (P : A → List ℕ → Type 0) (S F : List ℕ → Type 0
   pub each_begun : (ms : List A) (u rest : List ℕ) → Each ms u → F rest
       → Begins (visited All (Members (u ++ rest))) (All ms ++ visited parts (one rest))
   each_begun ms u rest h f = subst (λ (l : List TreeEvent). Begins l (All ms ++ visited parts (one rest)))
-      (sym (after_each ms u rest h f))
-      (begins_after (All ms) (visited All (Members rest)) (visited parts (one rest)) (first_begins rest))
+      (sym (after_each _ _ _ h f)) (begins_after _ _ _ (first_begins _))
 
 -- values with separators between them: each but the last has one after it
 pub record Parted {A : Type 0} (S : List ℕ → Type 0) (P : A → List ℕ → Type 0) (ms : List A) (t : List ℕ) : Type 0 where

@@ -1,33 +1,17 @@
 -- The errors of a visitor, with the events as read.
-use Rattle.std.proofs.Common.{◌≡◌, ℕ, List, [], ◌∷◌, ◌++◌, take, Option, Some, None, Result, Ok, Err, refl, sym, ap, ap₂}
-use Rattle.std.proofs.Common.{subst, ◌∙◌, append_assoc, inl, inr}
-use Rattle.std.specs.Prelude.{⊤, IfErr, MatchOption, map}
-use Rattle.std.proofs.lemmas.List.{append-nil}
-use Rattle.std.specs.List.{FoldsTo}
-use Rattle.sfv_spec.specs.Texts.{◌⨾◌}
-use Rattle.sfv_spec.specs.Values.{RawField, IsFieldValue}
-use Rattle.sfv_spec.specs.declared.field_kind.FieldKind.{FieldKind}
-use Rattle.sfv_spec.specs.declared.field_kind.FieldKind.TheVariants.{Item as item_field}
-use Rattle.sfv_spec.specs.declared.version.Version.{Version}
-use Rattle.sfv_spec.specs.Grammar.{IsFieldText, IsAccepted}
-use Rattle.sfv_spec.specs.Reach.{IsReach}
+use Rattle.std.proofs.Common.{◌≡◌, ℕ, List, [], ◌∷◌, ◌++◌, take, Option, Some, None, Result, Ok, Err, refl, sym, ap}
+use Rattle.std.proofs.Common.{ap₂, subst, ◌∙◌, append_assoc, inl, inr, IfErr, MatchOption, map, append-nil}
+use Rattle.std.specs.{List.FoldsTo, Prelude.⊤}
 use Rattle.sfv_spec.specs.Events.{TreeEvent, events}
-use Rattle.sfv_base.specs.declared.error.ParseError.{ParseError}
-use Rattle.sfv_base.specs.declared.error.ParseError.TheVariants.{Syntax, Visitor}
-use Rattle.sfv_base.specs.Errors.{index_of}
-use Rattle.sfv_tree.specs.declared.visitor.Event.{Event}
-use Rattle.sfv_tree.specs.declared.visitor.Visitor.{Ghosts}
-use Rattle.sfv_tree.specs.Events.{event_of}
-use Rattle.sfv_model.specs.Reader.{visited}
-use Rattle.sfv_model.specs.Fields.{whole_field_at}
-use Rattle.sfv_model.specs.Visits.{VisitorFails}
+use Rattle.sfv_spec.specs.{Grammar.{IsFieldText, IsAccepted}, Reach.IsReach, Texts.◌⨾◌, Values.{RawField, IsFieldValue}}
+use Rattle.sfv_model.specs.{Fields.whole_field_at, Reader.visited, Visits.VisitorFails}
 use Rattle.sfv_model.proofs.Theorems.{read_is_accepted}
-use Rattle.sfv_model.proofs.visits.Fields.{visited_begins}
-use Rattle.sfv_model.proofs.visits.EventsBeforeReach.{visited_reach}
-use Rattle.sfv.specs.declared.parser.Parser.{Parser}
+use Rattle.sfv_model.proofs.visits.{EventsBeforeReach.visited_reach, Fields.visited_begins}
+use Rattle.sfv_base.specs.{Errors.index_of, declared.error.ParseError.TheVariants.{Syntax, Visitor}}
+use Rattle.sfv_tree.specs.{Events.event_of, declared.visitor.Event.Event, declared.visitor.Visitor.Ghosts}
 use Rattle.sfv.specs.Parsers.{version_of, input_of, AreReadFrom, Receives, FailsOn, at_event, at_end, IsVisitorErrorBy}
-use Rattle.sfv.specs.parser.AsRead.{TakesNext, FailsNext, VisitsFieldAsRead}
-use Rattle.sfv.specs.parser.Visits.{VisitsField, ReturnsAfter}
+use Rattle.sfv.specs.{Types.{FieldKind, item_field, Version, ParseError}, declared.parser.Parser.Parser}
+use Rattle.sfv.specs.parser.{AsRead.{TakesNext, FailsNext, VisitsFieldAsRead}, Visits.{VisitsField, ReturnsAfter}}
 use Rattle.sfv.proofs.visits.Fields.{asked_of_item, text_before, whole_value, whole_read, whole_accepted, same_value}
 
 module _ {S O E : Type 0} (v : Ghosts S O E) where
@@ -144,9 +128,8 @@ module _ {S O E : Type 0} (v : Ghosts S O E) (p : Parser) (kind : FieldKind) (fr
       → all ≡ r.before ++ r.e ∷ after → FailsOn v p from all may_finish f
   fails_on all after may_finish f r split =
       let k = failed_read v version r.before (from, t) r.s r.e f r.taken r.failed in
-      at_event k.read k.last after r.s.0
-      (split ∙ ap₂ (λ (l : List TreeEvent) (e : TreeEvent). l ++ e ∷ after) (sym k.before) (sym k.at)) k.text k.received
-      k.failed k.failed_read
+      at_event k.read k.last after r.s.0 (split ∙ ap₂ (λ (l : List TreeEvent) (e : TreeEvent). l ++ e ∷ after)
+      (sym k.before) (sym k.at)) k.text k.received k.failed k.failed_read
 
   failed_on_accepted : (f : E) → Visits (Err (Visitor f)) → (raw : RawField kind) → IsFieldText version kind raw t
       → FailsOn v p from (events kind raw) ⊤ f

@@ -1,55 +1,32 @@
 -- What is visited of a whole field.
 use Rattle.std.proofs.Common.{◌≡◌, ℕ, ◌≤◌, List, [], ◌∷◌, ◌++◌, length, take, drop, Option, Some, None, Result, Ok, Err}
-use Rattle.std.proofs.Common.{refl, sym, ap, subst, ◌∙◌, append_assoc, inl, inr}
-use Rattle.std.proofs.lemmas.List.{append_cancel_right, take-append-drop}
-use Rattle.std.specs.Prelude.{⊤, Bool, true, false, MatchOption, IfOk, IfErr, flat_map, ◌⊎◌, codes}
-use Rattle.std.specs.declared.alloc.Global.{Global}
-use Rattle.sfv_spec.proofs.Marks.{is_space}
-use Rattle.sfv_spec.specs.Values.{RawField, RawItem, IsFieldValue}
-use Rattle.sfv_spec.specs.declared.field_kind.FieldKind.{FieldKind}
-use Rattle.sfv_spec.specs.declared.field_kind.FieldKind.TheVariants.{Item as item_field, List as list_field}
-use Rattle.sfv_spec.specs.declared.field_kind.FieldKind.TheVariants.{Dictionary as dictionary_field}
-use Rattle.sfv_spec.specs.declared.version.Version.{Version}
-use Rattle.sfv_spec.specs.declared.error_kind.ErrorKind.{ErrorKind}
-use Rattle.sfv_spec.specs.declared.error_kind.ErrorKind.TheVariants.{TrailingCharactersAfterParsedValue}
-use Rattle.sfv_spec.specs.Grammar.{IsFieldText, IsAccepted, HasField}
-use Rattle.sfv_spec.specs.Reach.{IsReach}
+use Rattle.std.proofs.Common.{refl, sym, ap, subst, ◌∙◌, append_assoc, inl, inr, take-append-drop, Bool, true, false}
+use Rattle.std.{proofs.Common.{MatchOption, IfOk, IfErr, flat_map, ◌⊎◌, codes}, specs.List.FoldsTo}
+use Rattle.std.{specs.Prelude.⊤, specs.declared.alloc.Global.Global, proofs.lemmas.List.append_cancel_right}
 use Rattle.sfv_spec.specs.Events.{TreeEvent, events, item_events}
-use Rattle.std.specs.List.{FoldsTo}
-use Rattle.sfv_spec.proofs.Valid.{accepted_is_value_lem}
-use Rattle.sfv_spec.proofs.Structure.{one_field_lem}
-use Rattle.sfv_spec.proofs.Versions.{one_reach_lem}
-use Rattle.sfv_base.specs.declared.error.Error.{Error}
-use Rattle.sfv_base.specs.Errors.{error_of, kind_of, index_of, out_of_memory}
-use Rattle.sfv_base.specs.declared.error.ParseError.{ParseError}
-use Rattle.sfv_base.specs.declared.error.ParseError.TheVariants.{Syntax, Visitor}
-use Rattle.sfv_model.specs.Reader.{Answer, Fault, and_then, bind, give, span, visited, ◌>>=◌}
-use Rattle.sfv_model.specs.Items.{item_at}
-use Rattle.sfv_model.specs.Fields.{members_at, whole_field_at, ending, read_field}
-use Rattle.sfv_model.specs.Judgements.{Reached}
-use Rattle.sfv_model.specs.Visits.{VisitorFails}
-use Rattle.sfv_model.proofs.complete.Combinators.{bind_complete}
-use Rattle.sfv_model.proofs.sound.Combinators.{Somewhere, Begins}
-use Rattle.sfv_model.proofs.sound.Fields.{FieldGoes, Sound-field}
-use Rattle.sfv_model.proofs.Theorems.{read_is_accepted, fault_is_placed}
-use Rattle.sfv_model.proofs.TrailingBytes.{read_before}
+use Rattle.sfv_spec.specs.{Faults.IsWantedAt, Grammar.{IsFieldText, IsAccepted, HasField}, Reach.IsReach}
+use Rattle.sfv_spec.{specs.Values.{RawField, RawItem, IsFieldValue}, proofs.Marks.is_space}
+use Rattle.sfv_spec.proofs.{Structure.one_field_lem, Valid.accepted_is_value_lem, Versions.one_reach_lem}
+use Rattle.sfv_model.specs.{Fields.{members_at, whole_field_at, ending, read_field}, Items.item_at, Judgements.Reached}
+use Rattle.sfv_model.specs.{Reader.{Answer, Fault, and_then, bind, give, span, visited, ◌>>=◌}, Visits.VisitorFails}
+use Rattle.sfv_model.proofs.{Theorems.{read_is_accepted, fault_is_placed}, TrailingBytes.read_before}
+use Rattle.sfv_model.proofs.Types.{FieldKind, item_field, list_field, dictionary_field, Version, ErrorKind}
+use Rattle.sfv_model.proofs.{Types.TrailingCharactersAfterParsedValue, complete.Combinators.bind_complete}
+use Rattle.sfv_model.proofs.sound.{Combinators.{Somewhere, Begins}, Fields.{FieldGoes, Sound-field}}
 use Rattle.sfv_model.proofs.visits.EventsExpected.{expected_events, delimited_events}
-use Rattle.sfv.specs.declared.parser.Parser.{Parser}
-use Rattle.sfv.specs.declared.parser.cursor.Cursor.{Cursor}
+use Rattle.sfv_base.specs.Errors.{error_of, kind_of, index_of, out_of_memory}
+use Rattle.sfv_base.specs.declared.error.{Error.Error, ParseError.ParseError, ParseError.TheVariants.{Syntax, Visitor}}
+use Rattle.sfv_tree.specs.declared.visitor.Visitor.{Ghosts}
+use Rattle.sfv.specs.Memory.{IsRefusal}
+use Rattle.sfv.specs.Parsers.{version_of, input_of, IsParseError, Returns, IsAnswerBy, IsSyntaxErrorBy, HasEvents}
+use Rattle.sfv.specs.Parsers.{AreBefore, Takes, ReceivesUpTo, ReceivesBeforeErrorBy}
+use Rattle.sfv.specs.declared.parser.{Parser.Parser, cursor.Cursor.Cursor}
 use Rattle.sfv.specs.parser.Cursor.{kept_input, located, IsErrorOf, located_whole}
 use Rattle.sfv.specs.parser.Members.{MemberValue, member_parts, one_member_at, field_of}
-use Rattle.sfv_tree.specs.declared.visitor.Visitor.{Ghosts}
 use Rattle.sfv.specs.parser.Visits.{VisitsAnswer, IsOfVisitor, VisitsField, IsFinishedAt, IsAskedThere, ReturnsAfter}
-use Rattle.sfv.specs.parser.Visits.{TookAllOf, TookAll}
-use Rattle.sfv.specs.Parsers.{version_of, input_of, IsParseError, Returns, IsAnswerBy, IsSyntaxErrorBy}
-use Rattle.sfv_spec.specs.Faults.{IsWantedAt}
-use Rattle.sfv.specs.Parsers.{HasEvents, AreBefore, Takes, ReceivesUpTo, ReceivesBeforeErrorBy}
-use Rattle.sfv.proofs.visits.Whole.{spaced, field_error, ending_located}
-use Rattle.sfv.proofs.Parsed.{located_fault, parse_error}
-use Rattle.sfv.proofs.reads.Delimiters.{span_total}
-use Rattle.sfv.proofs.visits.Taken.{split_run}
-use Rattle.sfv.proofs.visits.Received.{visited_whole, visited_open_list, visited_begun}
-use Rattle.sfv.specs.Memory.{IsRefusal}
+use Rattle.sfv.{specs.parser.Visits.{TookAllOf, TookAll}, proofs.Parsed.{located_fault, parse_error}}
+use Rattle.sfv.proofs.{reads.Delimiters.span_total, visits.Received.{visited_whole, visited_open_list, visited_begun}}
+use Rattle.sfv.proofs.visits.{Taken.split_run, Whole.{spaced, field_error, ending_located}}
 
 whole_is : (version : Version) (t s r : List ℕ) → span is_space t ≡ Ok (s, r)
     → whole_field_at version item_field t ≡ spaced version r
@@ -60,11 +37,7 @@ whole_some : (version : Version) (t s r q : List ℕ) (raw : RawItem) → span i
     → item_at version r ≡ Ok (raw, q) → (w : List ℕ) × (whole_field_at version item_field t ≡ Ok (raw, w))
 unfolding spaced give
 whole_some version t s r q raw e k =
-    let h = span_total is_space q in (
-      h.1,
-      whole_is version t s r e ∙ bind_complete (item_at version) _ r q raw k
-          ∙ bind_complete (span is_space) _ q h.1 h.0 h.2,
-    )
+    let h = span_total _ _ in (h.1, whole_is _ _ _ _ e ∙ bind_complete _ _ _ _ _ k ∙ bind_complete _ _ _ _ _ h.2)
 
 whole_fault : (version : Version) (t s r : List ℕ) (f : Fault) → span is_space t ≡ Ok (s, r) → item_at version r ≡ Err f
     → whole_field_at version item_field t ≡ Err f
@@ -189,10 +162,9 @@ took_field {S} takes version kind t from to e h = on (index_of e) h
     on (Some n) m = (to, m)
 
 -- an error within the item: a fault, or the visitor fails
-pub item_fails : {S O E : Type 0} (takes : S → TreeEvent → S → Type 0) (fails : S → TreeEvent
-    → E → Type 0) (finishes : S → O → Type 0) (finish_fails : S
-    → E → Type 0) (version : Version) (k : Parser × Global) (s r : List ℕ) (from to : S) (after : Cursor)
-    (error : ParseError E) → span is_space (kept_input k) ≡ Ok (s, r)
+pub item_fails : {S O E : Type 0} (takes : S → TreeEvent → S → Type 0) (fails : S → TreeEvent → E → Type 0)
+    (finishes : S → O → Type 0) (finish_fails : S → E → Type 0) (version : Version) (k : Parser × Global)
+    (s r : List ℕ) (from to : S) (after : Cursor) (error : ParseError E) → span is_space (kept_input k) ≡ Ok (s, r)
     → VisitsAnswer takes fails item_events k after from to (Err error) (item_at version r)
     → VisitsField takes fails finishes finish_fails version item_field (kept_input k) from (Err error)
 item_fails takes fails finishes finish_fails version k s r from to after (Syntax e) skipped h = (
@@ -204,11 +176,10 @@ item_fails takes fails finishes finish_fails version k s r from to after (Visito
     inl (whole_failed takes fails version (kept_input k) s r from f skipped h)
 
 -- the visitor fails to answer after the item
-pub finish_failed : {S O E : Type 0} (takes : S → TreeEvent → S → Type 0) (fails : S → TreeEvent
-    → E → Type 0) (finishes : S → O → Type 0) (finish_fails : S
-    → E → Type 0) (version : Version) (t s r q : List ℕ) (raw : RawItem) (from to : S) (error : ParseError E)
-    → span is_space t ≡ Ok (s, r) → item_at version r ≡ Ok (raw, q) → FoldsTo takes from (item_events raw) to
-    → IsOfVisitor (finish_fails to) error
+pub finish_failed : {S O E : Type 0} (takes : S → TreeEvent → S → Type 0)
+    (fails : S → TreeEvent → E → Type 0) (finishes : S → O → Type 0) (finish_fails : S → E → Type 0) (version : Version)
+    (t s r q : List ℕ) (raw : RawItem) (from to : S) (error : ParseError E) → span is_space t ≡ Ok (s, r)
+    → item_at version r ≡ Ok (raw, q) → FoldsTo takes from (item_events raw) to → IsOfVisitor (finish_fails to) error
     → VisitsField takes fails finishes finish_fails version item_field t from (Err error)
 finish_failed takes fails finishes finish_fails version t s r q raw from to (Syntax e) skipped k run failed =
     absurd failed
@@ -219,10 +190,9 @@ finish_failed takes fails finishes finish_fails version t s r q raw from to (Vis
 -- ---- members, up to the end
 
 -- an error within the field: a fault, or the visitor fails
-pub field_fails : {S O E : Type 0} (takes : S → TreeEvent → S → Type 0) (fails : S → TreeEvent
-    → E → Type 0) (finishes : S → O → Type 0) (finish_fails : S
-    → E → Type 0) (version : Version) (kind : FieldKind) (k : Parser
-    × Global) (from to : S) (after : Cursor) (error : ParseError E)
+pub field_fails : {S O E : Type 0} (takes : S → TreeEvent → S → Type 0)
+    (fails : S → TreeEvent → E → Type 0) (finishes : S → O → Type 0) (finish_fails : S → E → Type 0)
+    (version : Version) (kind : FieldKind) (k : Parser × Global) (from to : S) (after : Cursor) (error : ParseError E)
     → VisitsAnswer takes fails (events kind) k after from to (Err error) (whole_field_at version kind (kept_input k))
     → VisitsField takes fails finishes finish_fails version kind (kept_input k) from (Err error)
 field_fails {S} {O} takes fails finishes finish_fails version kind k from to after (Visitor f) h = inl h
@@ -250,13 +220,11 @@ field_fails {S} {O} takes fails finishes finish_fails version kind k from to aft
     never raw q whole (Some n) m = absurd (no_fault (whole_field_at version kind t) raw q _ _ whole m.0)
 
 -- the visitor fails to answer at the end
-pub end_failed : {S O E : Type 0} (takes : S → TreeEvent → S → Type 0) (fails : S → TreeEvent
-    → E → Type 0) (finishes : S → O → Type 0) (finish_fails : S
-    → E → Type 0) (version : Version) (kind : FieldKind) (t q : List ℕ) (raw : RawField kind) (from to : S)
-    (error : ParseError E) → whole_field_at version kind t ≡ Ok (raw, q) → IsAskedThere kind q
-    → FoldsTo takes from (events kind raw) to
-    → IsOfVisitor (finish_fails to) error → VisitsField takes fails finishes finish_fails version kind t from
-    (Err error)
+pub end_failed : {S O E : Type 0} (takes : S → TreeEvent → S → Type 0) (fails : S → TreeEvent → E → Type 0)
+    (finishes : S → O → Type 0) (finish_fails : S → E → Type 0) (version : Version) (kind : FieldKind) (t q : List ℕ)
+    (raw : RawField kind) (from to : S) (error : ParseError E) → whole_field_at version kind t ≡ Ok (raw, q)
+    → IsAskedThere kind q → FoldsTo takes from (events kind raw) to → IsOfVisitor (finish_fails to) error
+    → VisitsField takes fails finishes finish_fails version kind t from (Err error)
 end_failed takes fails finishes finish_fails version kind t q raw from to (Syntax e) read asked run failed =
     absurd failed
 end_failed takes fails finishes finish_fails version kind t q raw from to (Visitor fault) read asked run failed =
@@ -268,10 +236,9 @@ unfolding read_field
 whole_read version kind t q raw e end = ap (ending (events kind)) (e ∙ ap (λ (l : List ℕ). Ok (raw, l)) end)
 
 -- the members of a field are what it is read as
-pub members_fail : {S O E : Type 0} (takes : S → TreeEvent → S → Type 0) (fails : S → TreeEvent
-    → E → Type 0) (finishes : S → O → Type 0) (finish_fails : S
-    → E → Type 0) (keyed : Bool) (version : Version) (k : Parser
-    × Global) (from to : S) (after : Cursor) (error : ParseError E)
+pub members_fail : {S O E : Type 0} (takes : S → TreeEvent → S → Type 0)
+    (fails : S → TreeEvent → E → Type 0) (finishes : S → O → Type 0) (finish_fails : S → E → Type 0)
+    (keyed : Bool) (version : Version) (k : Parser × Global) (from to : S) (after : Cursor) (error : ParseError E)
     → VisitsAnswer takes fails (λ members. flat_map (member_parts keyed) members) k after from to (Err error)
     (members_at (member_parts keyed) (one_member_at keyed version) (kept_input k))
     → VisitsField takes fails finishes finish_fails version (field_of keyed) (kept_input k) from (Err error)
@@ -282,14 +249,12 @@ members_fail takes fails finishes finish_fails false version k from to after err
     field_fails takes fails finishes finish_fails version list_field k from to after error h
 
 -- what the visitor answers at the end
-pub members_finish : {S O E : Type 0} (takes : S → TreeEvent → S → Type 0) (fails : S → TreeEvent
-    → E → Type 0) (finishes : S → O → Type 0) (finish_fails : S
-    → E → Type 0) (keyed : Bool) (version : Version) (t q : List ℕ) (from to : S) (r : Result O (ParseError E))
-    (ms : List (MemberValue keyed))
-    → members_at (member_parts keyed) (one_member_at keyed version) t ≡ Ok (ms, q) → q ≡ []
-    → FoldsTo takes from (flat_map (member_parts keyed) ms) to → IfOk r (finishes to)
-    → IfErr r (IsOfVisitor (finish_fails to)) → VisitsField takes fails finishes finish_fails version
-    (field_of keyed) t from r
+pub members_finish : {S O E : Type 0} (takes : S → TreeEvent → S → Type 0) (fails : S → TreeEvent → E → Type 0)
+    (finishes : S → O → Type 0) (finish_fails : S → E → Type 0) (keyed : Bool) (version : Version) (t q : List ℕ)
+    (from to : S) (r : Result O (ParseError E)) (ms : List (MemberValue keyed)) → members_at (member_parts keyed)
+    (one_member_at keyed version) t ≡ Ok (ms, q) → q ≡ [] → FoldsTo takes from (flat_map (member_parts keyed) ms) to
+    → IfOk r (finishes to) → IfErr r (IsOfVisitor (finish_fails to))
+    → VisitsField takes fails finishes finish_fails version (field_of keyed) t from r
 unfolding whole_field_at
 members_finish takes fails finishes finish_fails true version t q from to (Ok out) ms read end run answered failed =
     (ms, whole_read version dictionary_field t q ms read end, (to, run, answered))
@@ -310,8 +275,7 @@ ending_ok parts (Err f) v e = absurd cc
 pub whole_accepted : (version : Version) (kind : FieldKind) (t : List ℕ) (raw : RawField kind)
     → IsFieldText version kind raw t → whole_field_at version kind t ≡ Ok (raw, [])
 unfolding read_field
-whole_accepted version kind t raw h = ending_ok (events kind) (whole_field_at version kind t) raw
-    ((read_is_accepted version kind t raw).1 h)
+whole_accepted version kind t raw h = ending_ok _ _ _ ((read_is_accepted version kind t raw).1 h)
 
 -- what was read of a text is a value
 pub whole_value : (version : Version) (kind : FieldKind) (t q : List ℕ) (raw : RawField kind)
@@ -340,8 +304,7 @@ after_field kind raw rest = record {
   events = events kind raw;
 }
 
-trailing_kind : (k : ErrorKind) → k ≡ TrailingCharactersAfterParsedValue
-    → k ≡ TrailingCharactersAfterParsedValue
+trailing_kind : (k : ErrorKind) → k ≡ TrailingCharactersAfterParsedValue → k ≡ TrailingCharactersAfterParsedValue
 trailing_kind TrailingCharactersAfterParsedValue e = refl
 trailing_kind _ e = absurd cc
 
@@ -420,9 +383,8 @@ module _ {S O E : Type 0} (v : Ghosts S O E) (p : Parser) (kind : FieldKind) (fr
 
   has_expected : (es : List TreeEvent) (fault : ErrorKind) (n : ℕ) → IsWantedAt version kind t fault n
       → HasEvents version kind es (take n t) → Begins (visited (events kind) (whole_field_at version kind t)) es
-  has_expected es fault n w (raw, inl (h, same)) =
-      subst (Begins (visited (events kind) (whole_field_at version kind t))) same
-      (expected_events version kind t fault n w raw h)
+  has_expected es fault n w (raw, inl (h, same)) = subst (Begins
+      (visited (events kind) (whole_field_at version kind t))) same (expected_events version kind t fault n w raw h)
   has_expected es fault n w (raw, inr (h, e)) = elim (visited_open_list version kind raw (take n t) (drop n t) es h e).1 [
     | inl b ↦ subst (λ (l : List ℕ). Begins (visited (events kind) (whole_field_at version kind l)) es)
         (take-append-drop n t) b

@@ -1,36 +1,21 @@
 -- What a visitor was told of the bare item that stands first in the text of an item.
 use Rattle.std.proofs.Common.{◌≡◌, ℕ, List, [], ◌∷◌, ◌++◌, Result, Ok, Err, refl, sym, ap, subst, ◌∙◌, inl, inr}
-use Rattle.std.proofs.Common.{append_assoc, eqb}
-use Rattle.std.specs.Prelude.{⊤, IfErr}
-use Rattle.std.proofs.lemmas.Bool.{cases_Bool}
-use Rattle.std.proofs.lemmas.List.{append-nil}
+use Rattle.std.{proofs.Common.{append_assoc, eqb, IfErr, append-nil}, specs.Prelude.⊤, proofs.lemmas.Bool.cases_Bool}
+use Rattle.sfv_spec.specs.{Events.item_events, Grammar.{IsBareText, IsEnded, BeginsWithLongest}, Texts.{RunOf, ◌⨾◌}}
 use Rattle.sfv_spec.proofs.Marks.{semicolon, is_space}
-use Rattle.sfv_spec.specs.Values.{BareValue, RawItem, RawParameters}
-use Rattle.sfv_spec.specs.declared.field_kind.FieldKind.TheVariants.{Item as item_field}
-use Rattle.sfv_spec.specs.declared.version.Version.{Version}
-use Rattle.sfv_spec.specs.Texts.{RunOf, ◌⨾◌}
-use Rattle.sfv_spec.specs.Grammar.{IsFieldText, IsBareText, IsEnded, BeginsWithLongest}
-use Rattle.sfv_spec.specs.Events.{TreeEvent, bare_item, parameters_end, parameters_events, item_events, events}
-use Rattle.sfv_base.specs.declared.error.ParseError.{ParseError}
-use Rattle.sfv_base.specs.declared.error.ParseError.TheVariants.{Syntax, Visitor}
+use Rattle.sfv_model.specs.{Bare.bare_at, Fields.whole_field_at, Items.{parameters_at, item_at}, Judgements.Reached}
 use Rattle.sfv_model.specs.Reader.{Answer, Fault, bind, give, led, visited}
-use Rattle.sfv_model.specs.Bare.{bare_at}
-use Rattle.sfv_model.specs.Items.{parameters_at, item_at}
-use Rattle.sfv_model.specs.Fields.{whole_field_at}
-use Rattle.sfv_model.specs.Judgements.{Reached}
-use Rattle.sfv_model.proofs.sound.Bare.{BareGoes, Sound-bare}
-use Rattle.sfv_model.proofs.sound.Combinators.{Somewhere, IsSpan, Steady-span}
-use Rattle.sfv_model.proofs.LongestBareItem.{bare_is_exact}
 use Rattle.sfv_model.proofs.FirstBareItem.{BeginsWithComplete, first_bare, longest_read, complete_is_longest}
-use Rattle.sfv_model.proofs.visits.Fields.{visited_begins}
+use Rattle.sfv_model.proofs.{LongestBareItem.bare_is_exact, sound.Bare.{BareGoes, Sound-bare}}
+use Rattle.sfv_model.proofs.{sound.Combinators.{Somewhere, IsSpan, Steady-span}, visits.Fields.visited_begins}
+use Rattle.sfv_base.specs.declared.error.ParseError.{ParseError, TheVariants.{Syntax, Visitor}}
 use Rattle.sfv_tree.specs.declared.visitor.Visitor.{Ghosts}
-use Rattle.sfv.specs.declared.parser.Parser.{Parser}
-use Rattle.sfv.specs.parser.AsRead.{VisitsFieldAsRead}
+use Rattle.sfv.specs.Field.{BareValue, RawItem, RawParameters, item_field, Version, IsFieldText, TreeEvent, bare_item}
+use Rattle.sfv.specs.Field.{parameters_end, parameters_events, events}
 use Rattle.sfv.specs.Parsers.{version_of, input_of, Takes, AreBefore, ReceivesUpTo, ReceivesBeforeErrorBy}
-use Rattle.sfv.specs.Parsers.{ReceivesFirstBy, at_end}
+use Rattle.sfv.specs.{Parsers.{ReceivesFirstBy, at_end}, declared.parser.Parser.Parser, parser.AsRead.VisitsFieldAsRead}
 use Rattle.sfv.proofs.Relations.{HasFirst, fails_in}
-use Rattle.sfv.proofs.visits.Fields.{whole_visited, whole_accepted}
-use Rattle.sfv.proofs.visits.Failed.{run_of, fails_on}
+use Rattle.sfv.proofs.visits.{Failed.{run_of, fails_on}, Fields.{whole_visited, whole_accepted}}
 
 pub same_rest : {A : Type 0} (a : Answer A) (v w : A) (q r : List ℕ) → a ≡ Ok (v, q) → a ≡ Ok (w, r) → q ≡ r
 same_rest {A} a v w q r e h =
@@ -135,10 +120,8 @@ module _ {S O E : Type 0} (v : Ghosts S O E) (p : Parser) (from : S) where
       → visited (events item_field) (whole_field_at version item_field t) ≡ e ∷ es → item_events raw ≡ (e ∷ es) ++ more
       → BeginsWithLongest version raw.bare t
   its_bare raw e es more begins all =
-      let first = visited_first version t e es begins in
-      let same : raw.bare ≡ first.0 =
-      same_head raw.bare first.0 (parameters_events raw.parameters) (es ++ more)
-      (all ∙ ap (λ (e : TreeEvent). e ∷ (es ++ more)) first.1) in
+      let first = visited_first _ _ _ _ begins in
+      let same : raw.bare ≡ first.0 = same_head _ _ _ _ (all ∙ ap (λ (e : TreeEvent). e ∷ (es ++ more)) first.1) in
       subst (λ (b : BareValue). BeginsWithLongest version b t) (sym same) first.2
 
   failed_first : (f : E) → Visits (Err (Visitor f)) → ReceivesFirstBy v p from (Visitor f)
@@ -147,12 +130,11 @@ module _ {S O E : Type 0} (v : Ghosts S O E) (p : Parser) (from : S) where
       let all : item_events some.raw ≡ (r.before ++ r.e ∷ r.after) ++ some.more =
       some.all ∙ ap (λ (l : List TreeEvent). l ++ some.more) r.all in
       let split = first_of r.before r.e r.after in
-      let bare = its_bare some.raw split.0 split.1 some.more (r.all ∙ split.2)
+      let bare = its_bare _ _ _ _ (r.all ∙ split.2)
       (all ∙ ap (λ (l : List TreeEvent). l ++ some.more) split.2) in (
         some.raw,
         bare,
-        fails_on v p item_field from (item_events some.raw) (r.after ++ some.more) ⊤ f r
-            (all ∙ append_assoc r.before (r.e ∷ r.after) some.more),
+        fails_on _ _ item_field _ _ _ _ _ r (all ∙ append_assoc r.before (r.e ∷ r.after) some.more),
       )
   failed_first f (inr x) =
       let events_of = parameters_events x.0.parameters in

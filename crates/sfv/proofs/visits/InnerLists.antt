@@ -1,30 +1,19 @@
 -- An inner list and its parameters, and how they are visited.
 use Rattle.std.proofs.Common.{◌≡◌, ℕ, true, false, List, [], ◌∷◌, ◌++◌, Ok, Err, refl, sym, ap, subst, ◌∙◌}
-use Rattle.std.proofs.Common.{append_assoc, flat_map}
-use Rattle.std.specs.Prelude.{Result}
-use Rattle.std.specs.declared.alloc.Global.{Global}
-use Rattle.sfv_spec.proofs.Marks.{left_parenthesis}
-use Rattle.sfv_spec.specs.Values.{RawParameters, RawItem, RawMember, item, inner_list}
-use Rattle.sfv_spec.specs.declared.version.Version.{Version}
-use Rattle.sfv_spec.specs.Events.{TreeEvent, begins_item, begins_inner_list, inner_list_end, parameters_events}
-use Rattle.sfv_spec.specs.Events.{item_events, member_events, inner_item_events}
-use Rattle.std.specs.List.{FoldsTo}
-use Rattle.sfv_base.specs.declared.error.ParseError.{ParseError}
-use Rattle.sfv_base.specs.declared.error.ParseError.TheVariants.{Syntax, Visitor}
-use Rattle.sfv_model.specs.Reader.{Answer, Reader, byte, led_answer, led, give, and_then, bind, ◌>>=◌}
+use Rattle.std.{proofs.Common.{append_assoc, flat_map, Result}, specs.List.FoldsTo, specs.declared.alloc.Global.Global}
+use Rattle.sfv_spec.{specs.Events.{item_events, inner_item_events}, proofs.Marks.left_parenthesis}
 use Rattle.sfv_model.specs.Items.{parameters_at, item_at}
 use Rattle.sfv_model.specs.Members.{inner_items_at, inner_of, closed_events, inner_at, member_at}
+use Rattle.sfv_model.specs.Reader.{Answer, Reader, byte, led_answer, led, give, and_then, bind, ◌>>=◌}
 use Rattle.sfv_model.specs.Visits.{VisitorFails}
-use Rattle.sfv.specs.declared.parser.Parser.{Parser}
-use Rattle.sfv.specs.declared.parser.cursor.Cursor.{Cursor}
-use Rattle.sfv.specs.parser.Cursor.{TakesIf, kept_input}
-use Rattle.sfv.specs.parser.Members.{after_begin}
-use Rattle.sfv.specs.parser.Visits.{VisitsAnswer, IsOfVisitor}
-use Rattle.sfv.proofs.reads.Steps.{branch_true, branch_false}
-use Rattle.sfv.proofs.visits.Taken.{runs_on, took_part}
-use Rattle.sfv.proofs.visits.Parameters.{of_visitor}
+use Rattle.sfv_base.specs.declared.error.ParseError.{ParseError, TheVariants.{Syntax, Visitor}}
+use Rattle.sfv.specs.Field.{RawParameters, RawItem, RawMember, item, inner_list, Version, TreeEvent, begins_item}
+use Rattle.sfv.specs.Field.{begins_inner_list, inner_list_end, parameters_events, member_events}
+use Rattle.sfv.specs.declared.parser.{Parser.Parser, cursor.Cursor.Cursor}
+use Rattle.sfv.specs.parser.{Cursor.TakesIf, Members.after_begin, Visits.{VisitsAnswer, IsOfVisitor}}
+use Rattle.sfv.proofs.{reads.Steps.{branch_true, branch_false}, visits.Parameters.of_visitor}
 use Rattle.sfv.proofs.visits.Parts.{visits_as, map_visits, then_visits, first_failed, failed_longer, failed_after}
-use Rattle.sfv.proofs.visits.Parts.{led_visits, led_fails}
+use Rattle.sfv.proofs.visits.{Parts.{led_visits, led_fails}, Taken.{runs_on, took_part}}
 
 -- the parameters after the items
 list_parameters : RawMember → List TreeEvent
@@ -57,20 +46,16 @@ module _ {S E : Type 0} (takes : S → TreeEvent → S → Type 0) (fails : S �
       → VisitorFails takes fails closed_events (inner_items_at version t) from fault
       → VisitorFails takes fails after_begin (inner_at version t) from fault
   unfolding inner_at
-  whole_failed t from fault h = first_failed takes fails (inner_items_at version) (closing version) closed_events
-      after_begin list_parameters t from fault (λ v q w r e k. closing_events version v q w r k) h
+  whole_failed t from fault h = first_failed _ _ _ _ _ _ _ _ _ _ (λ v q w r e k. closing_events _ _ _ _ _ k) h
 
   -- the items are not read whole
   pub items_fail : (t : List ℕ) (from to : S) (k : Parser × Global) (after : Cursor) (error : ParseError E)
       → VisitsAnswer takes fails (λ is. flat_map inner_item_events is) k after from to (Err error)
-      (inner_items_at version t) → VisitsAnswer takes fails after_begin k after from to (Err error)
-      (inner_at version t)
+      (inner_items_at version t) → VisitsAnswer takes fails after_begin k after from to (Err error) (inner_at version t)
   unfolding inner_at
-  items_fail t from to k after (Syntax e) h = took_part takes (λ is. flat_map inner_item_events is) after_begin
-      (kept_input k) e (inner_items_at version) (λ is. led (closed_events is) (closing version is)) t _ from to refl h
+  items_fail t from to k after (Syntax e) h = took_part _ _ _ _ _ _ _ _ _ _ _ refl h
   items_fail t from to k after (Visitor fault) h =
-      whole_failed t from fault (failed_longer takes fails (λ is. flat_map inner_item_events is) closed_events
-      (inner_items_at version t) from fault (λ is. (inner_list_end ∷ [], refl)) h)
+      whole_failed _ _ _ (failed_longer _ _ _ _ _ _ _ (λ is. (inner_list_end ∷ [], refl)) h)
 
   -- the visitor fails at their end
   pub end_fails : (t q : List ℕ) (is : List RawItem) (from middle to : S) (k : Parser
@@ -78,9 +63,8 @@ module _ {S E : Type 0} (takes : S → TreeEvent → S → Type 0) (fails : S �
       → FoldsTo takes from (flat_map inner_item_events is) middle → IsOfVisitor (fails middle inner_list_end) error
       → VisitsAnswer takes fails after_begin k after from to (Err error) (inner_at version t)
   end_fails t q is from middle to k after error read run h =
-      of_visitor takes fails after_begin k after from to (fails middle inner_list_end) error (inner_at version t) h
-      (λ fault failed. whole_failed t from fault (failed_after takes fails (λ is. flat_map inner_item_events is)
-      closed_events inner_list_end (inner_items_at version t) is q from middle fault read refl run failed))
+      of_visitor _ _ _ k after _ _ _ _ _ h (λ fault failed. whole_failed _ _ _
+      (failed_after _ _ (λ is. flat_map inner_item_events is) _ _ _ _ _ _ _ _ read refl run failed))
 
   -- the items, their end and the parameters
   pub inner_list_visits : (t q : List ℕ) (is : List RawItem) (from middle end to : S) (k : Parser
@@ -124,9 +108,8 @@ module _ {S E : Type 0} (takes : S → TreeEvent → S → Type 0) (fails : S �
       subst (λ (p : RawMember × List ℕ). member_events p.0 ≡ begins_inner_list ∷ after_begin p.0) same refl
   given_list is (Err f) v r h = absurd cc
 
-  begins_as_list : (q : List ℕ) (v : RawMember) (r : List ℕ)
-      → led (begins_inner_list ∷ []) (inner_at version) q ≡ Ok (v, r)
-      → member_events v ≡ begins_inner_list ∷ after_begin v
+  begins_as_list : (q : List ℕ) (v : RawMember) (r : List ℕ) → led (begins_inner_list ∷ [])
+      (inner_at version) q ≡ Ok (v, r) → member_events v ≡ begins_inner_list ∷ after_begin v
   unfolding inner_at led bind
   begins_as_list q v r e = on (inner_items_at version q) e
     where
@@ -155,10 +138,9 @@ module _ {S E : Type 0} (takes : S → TreeEvent → S → Type 0) (fails : S �
       → takes from begins_inner_list middle
       → VisitsAnswer takes fails after_begin k after middle to r (inner_at version q)
       → VisitsAnswer takes fails member_events k after from to r (member_at version t)
-  list_member_visits t q from middle to k after r m taken h =
-      visits_as takes fails (λ v. begins_inner_list ∷ after_begin v) member_events
-      (led (begins_inner_list ∷ []) (inner_at version) q) (member_at version t) from to k after r
-      (member_list t q m) (begins_as_list q)
+  list_member_visits t q from middle to k after r m taken h = visits_as takes fails
+      (λ v. begins_inner_list ∷ after_begin v) member_events (led (begins_inner_list ∷ []) (inner_at version) q)
+      (member_at version t) from to k after r (member_list t q m) (begins_as_list q)
       (led_visits takes fails begins_inner_list after_begin (inner_at version) q from middle to k after r taken h)
 
   -- an item as a member
@@ -172,36 +154,30 @@ module _ {S E : Type 0} (takes : S → TreeEvent → S → Type 0) (fails : S �
       on (Ok x) = refl
       on (Err f) = refl
 
-  pub item_member_visits : (t q : List ℕ) (from middle to : S) (k : Parser
-      × Global) (after : Cursor) (r : Result (Unit {0}) (ParseError E)) → TakesIf (byte left_parenthesis) false t q
-      → takes from begins_item middle
-      → VisitsAnswer takes fails item_events k after middle to r (item_at version q)
+  pub item_member_visits : (t q : List ℕ) (from middle to : S) (k : Parser × Global)
+      (after : Cursor) (r : Result (Unit {0}) (ParseError E)) → TakesIf (byte left_parenthesis) false t q
+      → takes from begins_item middle → VisitsAnswer takes fails item_events k after middle to r (item_at version q)
       → VisitsAnswer takes fails member_events k after from to r (member_at version t)
-  item_member_visits t q from middle to k after r m taken h =
-      visits_as takes fails member_events member_events
+  item_member_visits t q from middle to k after r m taken h = visits_as takes fails member_events member_events
       ((led (begins_item ∷ []) (item_at version) >>= λ i. give (item i)) q) (member_at version t) from to k after r
-      (member_item t q m ∙ item_first q) (λ v s e. refl)
-      (map_visits takes fails (λ i. item i) (λ i. begins_item ∷ item_events i) member_events
-      (led (begins_item ∷ []) (item_at version)) q from to k after r (λ i. refl)
-      (led_visits takes fails begins_item item_events (item_at version) q from middle to k after r taken h))
+      (member_item t q m ∙ item_first q) (λ v s e. refl) (map_visits takes fails (λ i. item i)
+      (λ i. begins_item ∷ item_events i) member_events (led (begins_item ∷ []) (item_at version)) q from to k after r
+      (λ i. refl) (led_visits takes fails begins_item item_events (item_at version) q from middle to k after r taken h))
 
   -- the visitor fails at the beginning of a member
   pub list_begin_fails : (t q : List ℕ) (from to : S) (k : Parser × Global) (after : Cursor) (error : ParseError E)
       → TakesIf (byte left_parenthesis) true t q → IsOfVisitor (fails from begins_inner_list) error
       → VisitsAnswer takes fails member_events k after from to (Err error) (member_at version t)
-  list_begin_fails t q from to k after error m h =
-      visits_as takes fails (λ v. begins_inner_list ∷ after_begin v) member_events
-      (led (begins_inner_list ∷ []) (inner_at version) q) (member_at version t) from to k after (Err error)
-      (member_list t q m) (begins_as_list q)
+  list_begin_fails t q from to k after error m h = visits_as takes fails
+      (λ v. begins_inner_list ∷ after_begin v) member_events (led (begins_inner_list ∷ []) (inner_at version) q)
+      (member_at version t) from to k after (Err error) (member_list t q m) (begins_as_list q)
       (led_fails takes fails begins_inner_list after_begin (inner_at version) q from to k after error h)
 
   pub item_begin_fails : (t q : List ℕ) (from to : S) (k : Parser × Global) (after : Cursor) (error : ParseError E)
       → TakesIf (byte left_parenthesis) false t q → IsOfVisitor (fails from begins_item) error
       → VisitsAnswer takes fails member_events k after from to (Err error) (member_at version t)
-  item_begin_fails t q from to k after error m h =
-      visits_as takes fails member_events member_events
-      ((led (begins_item ∷ []) (item_at version) >>= λ i. give (item i)) q) (member_at version t) from to k after
-      (Err error) (member_item t q m ∙ item_first q) (λ v s e. refl)
-      (map_visits takes fails (λ i. item i) (λ i. begins_item ∷ item_events i) member_events
-      (led (begins_item ∷ []) (item_at version)) q from to k after (Err error) (λ i. refl)
-      (led_fails takes fails begins_item item_events (item_at version) q from to k after error h))
+  item_begin_fails t q from to k after error m h = visits_as takes fails member_events member_events ((led
+      (begins_item ∷ []) (item_at version) >>= λ i. give (item i)) q) (member_at version t) from to k after (Err error)
+      (member_item t q m ∙ item_first q) (λ v s e. refl) (map_visits takes fails (λ i. item i) (λ i. begins_item
+      ∷ item_events i) member_events (led (begins_item ∷ []) (item_at version)) q from to k after (Err error)
+      (λ i. refl) (led_fails takes fails begins_item item_events (item_at version) q from to k after error h))

@@ -1,26 +1,18 @@
 -- A member of a dictionary, and how it is visited.
-use Rattle.std.proofs.Common.{◌≡◌, ℕ, true, false, List, [], ◌∷◌, ◌++◌, Ok, Err, refl, sym, ap, ◌∙◌}
-use Rattle.std.specs.Prelude.{Result}
+use Rattle.std.proofs.Common.{◌≡◌, ℕ, true, false, List, [], ◌∷◌, ◌++◌, Ok, Err, refl, sym, ap, ◌∙◌, Result}
 use Rattle.std.specs.declared.alloc.Global.{Global}
-use Rattle.sfv_spec.proofs.Marks.{equals_sign, true_with}
-use Rattle.sfv_spec.specs.Values.{boolean, RawParameters, RawMember}
-use Rattle.sfv_spec.specs.declared.version.Version.{Version}
 use Rattle.sfv_spec.specs.Events.{TreeEvent, keyed_entry, begins_item, bare_item, parameters_events, member_events}
-use Rattle.sfv_spec.specs.Events.{keyed_events}
-use Rattle.sfv_base.specs.declared.error.Error.{Error}
-use Rattle.sfv_base.specs.declared.error.ParseError.{ParseError}
+use Rattle.sfv_spec.specs.{Events.keyed_events, Values.{boolean, RawParameters, RawMember}}
+use Rattle.sfv_spec.proofs.Marks.{equals_sign, true_with}
+use Rattle.sfv_model.specs.{Items.{key_at, parameters_at}, Members.{member_at, member_value_at, keyed_at}}
 use Rattle.sfv_model.specs.Reader.{Answer, Reader, byte, visited, led_answer, led, give, and_then, bind, ◌>>=◌}
-use Rattle.sfv_model.specs.Items.{key_at, parameters_at}
-use Rattle.sfv_model.specs.Members.{member_at, member_value_at, keyed_at}
 use Rattle.sfv_model.proofs.visits.Parts.{visited_then}
-use Rattle.sfv.specs.declared.parser.Parser.{Parser}
-use Rattle.sfv.specs.declared.parser.cursor.Cursor.{Cursor}
-use Rattle.sfv.specs.parser.Cursor.{TakesIf, kept_input, IsErrorOf}
-use Rattle.sfv.specs.parser.Visits.{VisitsAnswer, TookAll, IsOfVisitor}
+use Rattle.sfv.specs.Types.{Version, Error, ParseError}
+use Rattle.sfv.specs.declared.parser.{Parser.Parser, cursor.Cursor.Cursor}
+use Rattle.sfv.specs.parser.{Cursor.{TakesIf, kept_input, IsErrorOf}, Visits.{VisitsAnswer, TookAll, IsOfVisitor}}
 use Rattle.sfv.proofs.reads.Steps.{branch_true, branch_false}
+use Rattle.sfv.proofs.visits.{Parameters.of_visitor, Parts.{visits_as, map_visits, then_visits, led_visits, led_fails}}
 use Rattle.sfv.proofs.visits.Taken.{took_part, took_none, key_quiet}
-use Rattle.sfv.proofs.visits.Parameters.{of_visitor}
-use Rattle.sfv.proofs.visits.Parts.{visits_as, map_visits, then_visits, led_visits, led_fails}
 
 -- the pair of a key and what stands after it
 abbrev pair_at : Version → List ℕ → Reader (List ℕ × RawMember)
@@ -78,9 +70,8 @@ module _ {S E : Type 0} (takes : S → TreeEvent → S → Type 0) (fails : S �
   as_true : (t q : List ℕ) (from to : S) (k : Parser × Global) (after : Cursor) (r : Result (Unit {0}) (ParseError E))
       → TakesIf (byte equals_sign) false t q → VisitsAnswer takes fails true_events k after from to r (true_at q)
       → VisitsAnswer takes fails member_events k after from to r (member_value_at version t)
-  as_true t q from to k after r m h =
-      visits_as takes fails member_events member_events ((true_at >>= λ ps. give (true_with ps)) q)
-      (member_value_at version t) from to k after r (true_is t q m) (λ v s e. refl)
+  as_true t q from to k after r m h = visits_as takes fails member_events member_events ((true_at
+      >>= λ ps. give (true_with ps)) q) (member_value_at version t) from to k after r (true_is t q m) (λ v s e. refl)
       (map_visits takes fails (λ ps. true_with ps) true_events member_events true_at q from to k after r (λ ps. refl) h)
 
   abbrev bare_true : Reader RawParameters
@@ -92,65 +83,56 @@ module _ {S E : Type 0} (takes : S → TreeEvent → S → Type 0) (fails : S �
   pub true_begin_fails : (t q : List ℕ) (from to : S) (k : Parser × Global) (after : Cursor) (error : ParseError E)
       → TakesIf (byte equals_sign) false t q → IsOfVisitor (fails from begins_item) error
       → VisitsAnswer takes fails member_events k after from to (Err error) (member_value_at version t)
-  true_begin_fails t q from to k after error m h =
-      as_true t q from to k after (Err error) m (led_fails takes fails begins_item bare_true_events bare_true q from to
-      k after error h)
+  true_begin_fails t q from to k after error m h = as_true t q from to k after
+      (Err error) m (led_fails takes fails begins_item bare_true_events bare_true q from to k after error h)
 
   pub true_bare_fails : (t q : List ℕ) (from middle to : S) (k : Parser
       × Global) (after : Cursor) (error : ParseError E) → TakesIf (byte equals_sign) false t q
       → takes from begins_item middle → IsOfVisitor (fails middle (bare_item (boolean true))) error
       → VisitsAnswer takes fails member_events k after from to (Err error) (member_value_at version t)
-  true_bare_fails t q from middle to k after error m taken h =
-      as_true t q from to k after (Err error) m
-      (led_visits takes fails begins_item bare_true_events bare_true q from middle to k after (Err error) taken
-      (led_fails takes fails (bare_item (boolean true)) parameters_events (parameters_at version) q middle to k after
-      error h))
+  true_bare_fails t q from middle to k after error m taken h = as_true t q from to k after
+      (Err error) m (led_visits takes fails begins_item bare_true_events bare_true q from middle to k after
+      (Err error) taken (led_fails takes fails (bare_item (boolean true)) parameters_events
+      (parameters_at version) q middle to k after error h))
 
   pub true_visits : (t q : List ℕ) (from middle next to : S) (k : Parser
       × Global) (after : Cursor) (r : Result (Unit {0}) (ParseError E)) → TakesIf (byte equals_sign) false t q
       → takes from begins_item middle → takes middle (bare_item (boolean true)) next
       → VisitsAnswer takes fails parameters_events k after next to r (parameters_at version q)
       → VisitsAnswer takes fails member_events k after from to r (member_value_at version t)
-  true_visits t q from middle next to k after r m taken bare h =
-      as_true t q from to k after r m
+  true_visits t q from middle next to k after r m taken bare h = as_true t q from to k after r m
       (led_visits takes fails begins_item bare_true_events bare_true q from middle to k after r taken
-      (led_visits takes fails (bare_item (boolean true)) parameters_events (parameters_at version) q middle next to k
-      after r bare h))
+      (led_visits takes fails (bare_item (boolean true)) parameters_events
+      (parameters_at version) q middle next to k after r bare h))
 
   -- ---- the key
 
   pub key_fails : (t : List ℕ) (k : Parser × Global) (e : Error) (from : S) → IsErrorOf (kept_input k) e (key_at t)
       → IsErrorOf (kept_input k) e (keyed_at version t) × TookAll takes keyed_events e (keyed_at version t) from from
   unfolding keyed_at
-  key_fails t k e from h = took_part takes (λ _. []) keyed_events (kept_input k) e key_at
-      (λ key. led (keyed_entry key ∷ []) (pair_at version key)) t _ from from refl
-      (took_none takes (λ _. []) (kept_input k) e (key_at t) from (key_quiet t) h)
+  key_fails t k e from h = took_part _ (λ _. []) _ _ _ _ _ _ _ _ _ refl (took_none _ _ _ _ _ _ (key_quiet _) h)
 
   pub keyed_fails : (t q key : List ℕ) (from to : S) (k : Parser × Global) (after : Cursor) (error : ParseError E)
       → key_at t ≡ Ok (key, q) → IsOfVisitor (fails from (keyed_entry key)) error
       → VisitsAnswer takes fails keyed_events k after from to (Err error) (keyed_at version t)
   unfolding keyed_at
-  keyed_fails t q key from to k after error read h =
-      of_visitor takes fails keyed_events k after from to (fails from (keyed_entry key)) error (keyed_at version t) h
+  keyed_fails t q key from to k after error read h = of_visitor _ _ _ k after _ _ _ _ _ h
       (λ fault failed. record {
         before = [];
         e = keyed_entry key;
         after = visited after_key (pair_at version key q);
         s = from;
-        all = visited_then key_at (pair_at version) (λ key. keyed_entry key ∷ []) keyed_events after_key t q key read
-            (λ w r e. pair_events version key q w r e);
+        all = visited_then _ _ _ _ _ _ _ _ read (λ w r e. pair_events _ _ _ _ _ e);
         taken = refl;
         failed = failed;
       })
 
-  pub keyed_visits : (t q key : List ℕ) (from middle to : S) (k : Parser
-      × Global) (after : Cursor) (r : Result (Unit {0}) (ParseError E)) → key_at t ≡ Ok (key, q)
-      → takes from (keyed_entry key) middle
+  pub keyed_visits : (t q key : List ℕ) (from middle to : S) (k : Parser × Global) (after : Cursor)
+      (r : Result (Unit {0}) (ParseError E)) → key_at t ≡ Ok (key, q) → takes from (keyed_entry key) middle
       → VisitsAnswer takes fails member_events k after middle to r (member_value_at version q)
       → VisitsAnswer takes fails keyed_events k after from to r (keyed_at version t)
   unfolding keyed_at
-  keyed_visits t q key from middle to k after r read taken h =
-      then_visits takes fails key_at (pair_at version) (λ key. keyed_entry key ∷ []) keyed_events after_key t q key
-      from middle to k after r read (middle, taken, refl) (λ w r e. pair_events version key q w r e)
-      (map_visits takes fails (λ m. (key, m)) member_events after_key (member_value_at version) q middle to k after r
-      (λ m. refl) h)
+  keyed_visits t q key from middle to k after r read taken h = then_visits takes fails key_at
+      (pair_at version) (λ key. keyed_entry key ∷ []) keyed_events after_key t q key from middle to k after r read
+      (middle, taken, refl) (λ w r e. pair_events version key q w r e) (map_visits takes fails
+      (λ m. (key, m)) member_events after_key (member_value_at version) q middle to k after r (λ m. refl) h)

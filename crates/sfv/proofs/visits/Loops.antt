@@ -1,39 +1,26 @@
 -- Readings one by one, each after a delimiter: the loops of inner lists and of members.
 use Rattle.std.proofs.Common.{◌≡◌, ℕ, ◌<◌, Bool, true, false, List, [], ◌∷◌, ◌++◌, length, Option, Some, None, Ok, Err}
-use Rattle.std.proofs.Common.{refl, sym, ap, subst, ◌∙◌, ◌≤◌, ◌+◌, cond, arith, length-append}
-use Rattle.std.specs.Prelude.{flat_map}
-use Rattle.std.specs.declared.alloc.Global.{Global}
-use Rattle.std.proofs.lemmas.List.{append-nil}
-use Rattle.std.proofs.lemmas.List.Concat.{flat_map-append}
-use Rattle.sfv_spec.specs.Values.{RawItem}
-use Rattle.sfv_spec.specs.declared.version.Version.{Version}
-use Rattle.sfv_spec.specs.Grammar.{IsMemberText, IsDictionaryMemberText}
-use Rattle.sfv_spec.specs.Events.{TreeEvent, inner_item_events, entry_events, keyed_events}
-use Rattle.std.specs.List.{FoldsTo}
-use Rattle.sfv_base.specs.declared.error.Error.{Error}
-use Rattle.sfv_model.specs.Reader.{Answer, Reader, Fault, after_events, visited, and_then, bind, give, led, many, ◌>>=◌}
+use Rattle.std.proofs.Common.{refl, sym, ap, subst, ◌∙◌, ◌≤◌, ◌+◌, cond, arith, length-append, flat_map, append-nil}
+use Rattle.std.{specs.List.FoldsTo, specs.declared.alloc.Global.Global, proofs.lemmas.List.Concat.flat_map-append}
+use Rattle.sfv_spec.specs.Events.{inner_item_events}
+use Rattle.sfv_model.specs.{Fields.next_at, Judgements.{Sound, Reached}}
 use Rattle.sfv_model.specs.Members.{inner_item_at, next_item_at, entry_at, keyed_at}
-use Rattle.sfv_model.specs.Fields.{next_at}
+use Rattle.sfv_model.specs.Reader.{Answer, Reader, Fault, after_events, visited, and_then, bind, give, led, many, ◌>>=◌}
 use Rattle.sfv_model.specs.Visits.{VisitorFails}
-use Rattle.sfv_model.proofs.sound.Members.{Consumes-next_item, Sound-entry, Sound-keyed}
-use Rattle.sfv_model.proofs.sound.Separated.{Consumes-next}
-use Rattle.sfv_model.proofs.sound.Combinators.{Sound-give}
-use Rattle.sfv_model.specs.Judgements.{Sound, Reached}
+use Rattle.sfv_model.proofs.{complete.Combinators.bind_complete, sound.Combinators.Sound-give}
 use Rattle.sfv_model.proofs.sound.Many.{Consumes, put, in_front, starts, regroup, many_is, goes_on, is_done, is_faulty}
+use Rattle.sfv_model.proofs.sound.{Members.{Consumes-next_item, Sound-entry, Sound-keyed}, Separated.Consumes-next}
 use Rattle.sfv_model.proofs.visits.Parts.{failed_within}
-use Rattle.sfv_model.proofs.complete.Combinators.{bind_complete}
-use Rattle.sfv_base.specs.declared.error.ParseError.{ParseError}
-use Rattle.sfv_base.specs.declared.error.ParseError.TheVariants.{Syntax, Visitor}
-use Rattle.sfv.specs.declared.parser.Parser.{Parser}
-use Rattle.sfv.specs.declared.parser.cursor.Cursor.{Cursor}
+use Rattle.sfv_base.specs.declared.error.{Error.Error, ParseError.ParseError, ParseError.TheVariants.{Syntax, Visitor}}
+use Rattle.sfv.specs.Field.{RawItem, Version, TreeEvent}
+use Rattle.sfv.specs.declared.parser.{Parser.Parser, cursor.Cursor.Cursor}
 use Rattle.sfv.specs.parser.Cursor.{kept, kept_input, version, input, rest, IsFaultOf, IsErrorOf}
 use Rattle.sfv.specs.parser.Members.{item_delimiter_at, member_delimiter_at, MemberValue, member_parts, one_member_at}
 use Rattle.sfv.specs.parser.Visits.{VisitsAnswer, Visits, TookAll}
-use Rattle.sfv.proofs.reads.Errors.{ErrorOf-fault, kept_reads}
+use Rattle.sfv.proofs.reads.Delimiters.{one_if, first_of, next_item_is, next_member_is}
+use Rattle.sfv.proofs.{reads.Errors.{ErrorOf-fault, kept_reads}, visits.Parts.{kept_visits, first_failed}}
 use Rattle.sfv.proofs.visits.Taken.{runs_on, took_after, took_part, took_none, IsQuiet, item_delimiter_quiet}
 use Rattle.sfv.proofs.visits.Taken.{member_delimiter_quiet}
-use Rattle.sfv.proofs.reads.Delimiters.{one_if, first_of, next_item_is, next_member_is}
-use Rattle.sfv.proofs.visits.Parts.{kept_visits, first_failed}
 
 -- the values of a front, and then what is read
 visited_in_front : {A : Type 0} (parts : A → List TreeEvent) (front : List A) (a : Answer (List A))
@@ -108,9 +95,8 @@ module _ {A : Type 0} (l : Loop A) (version : Version) where
     begun_at t q v total from to whole e run = record {
       front = v ∷ [];
       so_far = sym (regroup l.parts [] v (many l.parts (l.next version) q))
-          ∙ starts l.parts (put l.parts v (many l.parts (l.next version) q))
-          ∙ sym (ap (λ a. and_then a (λ v. led (l.parts v) (many l.parts (l.next version) >>= λ vs. give (v ∷ vs)))) e)
-          ∙ sym whole;
+          ∙ starts l.parts (put l.parts v (many l.parts (l.next version) q)) ∙ sym (ap (λ a. and_then a
+          (λ v. led (l.parts v) (many l.parts (l.next version) >>= λ vs. give (v ∷ vs)))) e) ∙ sym whole;
       taken = subst (λ es. FoldsTo takes from es to) (sym (append-nil (l.parts v))) run;
     }
 
@@ -135,9 +121,7 @@ module _ {A : Type 0} (l : Loop A) (version : Version) where
         → VisitorFails takes fails l.parts ((l.one version) t) from fault
         → VisitorFails takes fails (all_events l.parts) (first_of l.parts (l.one version) (l.next version) t) from fault
     unfolding first_of
-    first_failure t from fault h = first_failed takes fails (l.one version) (λ v. many l.parts (l.next version)
-        >>= λ vs. give (v ∷ vs)) l.parts (all_events l.parts) (λ w. all_events l.parts (past w)) t from fault
-        (first_parts t) h
+    first_failure t from fault h = first_failed _ _ _ _ _ _ _ _ _ _ (first_parts _) h
 
     -- the first is not read whole
     first_fails_at : (t : List ℕ) (total : Answer (List A)) (from to : S) (i : Parser
@@ -145,12 +129,9 @@ module _ {A : Type 0} (l : Loop A) (version : Version) where
         → VisitsAnswer takes fails l.parts i after from to (Err error) ((l.one version) t)
         → VisitsAnswer takes fails (all_events l.parts) i after from to (Err error) total
     unfolding first_of
-    first_fails_at t total from to i after (Syntax e) whole h =
-        took_part takes l.parts (all_events l.parts) (kept_input i) e (l.one version)
-        (λ v. led (l.parts v) (many l.parts (l.next version) >>= λ vs. give (v ∷ vs))) t total from to whole h
-    first_fails_at t total from to i after (Visitor fault) whole h =
-        subst (λ total. VisitorFails takes fails (all_events l.parts) total from fault) (sym whole)
-        (first_failure t from fault h)
+    first_fails_at t total from to i after (Syntax e) whole h = took_part _ _ _ _ _ _ _ _ _ _ _ whole h
+    first_fails_at t total from to i after (Visitor fault) whole h = subst (λ total. VisitorFails takes fails
+        (all_events l.parts) total from fault) (sym whole) (first_failure t from fault h)
 
     -- after one more
     unfoldable pub more_at : (t r q : List ℕ) (v : A) (total : Answer (List A)) (from middle to : S)
@@ -167,30 +148,23 @@ module _ {A : Type 0} (l : Loop A) (version : Version) where
 
     pub ended_at : (t r : List ℕ) (total : Answer (List A)) (from to : S) → (h : SoFar takes l version total t from to)
         → l.delimiter t ≡ Ok (false, r) → total ≡ Ok (h.front, r)
-    ended_at t r total from to h e = is_done l.parts (l.next version) (l.consumes version) h.front t r total
-        (next_none t r e) h.so_far
+    ended_at t r total from to h e = is_done _ _ (l.consumes version) _ _ _ _ (next_none _ _ e) h.so_far
 
     delimiter_error : (t : List ℕ) (total : Answer (List A)) (from to : S) (i : Parser × Global) (e : Error)
         → SoFar takes l version total t from to → IsErrorOf (kept_input i) e (l.delimiter t)
         → IsErrorOf (kept_input i) e total × TookAll takes (all_events l.parts) e total from to
     unfolding bind
-    delimiter_error t total from to i e h error =
-        took_after takes (λ _. []) (all_events l.parts) (kept_input i) e (l.delimiter t) total
-        (all_events l.parts h.front) from to to
-        (λ f k. faulty h.front t total f h.so_far (l.is_next version t
-        ∙ ap (λ a. and_then a (one_if (l.one version))) k)) h.taken
-        (took_none takes (λ _. []) (kept_input i) e (l.delimiter t) to (l.quiet t) error)
+    delimiter_error t total from to i e h error = took_after _ (λ _. []) _ _ _ _ _ _ _ _ _
+        (λ f k. faulty _ _ _ _ h.so_far (l.is_next version t ∙ ap (λ a. and_then a (one_if (l.one version))) k)) h.taken
+        (took_none _ _ _ _ _ _ (l.quiet t) error)
 
     one_error : (t r : List ℕ) (total : Answer (List A)) (from middle to : S) (i : Parser × Global) (e : Error)
         → SoFar takes l version total t from middle → l.delimiter t ≡ Ok (true, r)
         → IsErrorOf (kept_input i) e ((l.one version) r) × TookAll takes l.parts e ((l.one version) r) middle to
         → IsErrorOf (kept_input i) e total × TookAll takes (all_events l.parts) e total from to
     unfolding bind
-    one_error t r total from middle to i e h k error =
-        took_after takes l.parts (all_events l.parts) (kept_input i) e ((l.one version) r) total
-        (all_events l.parts h.front) from middle to
-        (λ f m. faulty h.front t total f h.so_far (next_one t r k
-        ∙ ap (λ a. and_then a (λ v. give (Some v))) m)) h.taken error
+    one_error t r total from middle to i e h k error = took_after _ _ _ _ _ _ _ _ _ _ _
+        (λ f m. faulty _ _ _ _ h.so_far (next_one _ _ k ∙ ap (λ a. and_then a (λ v. give (Some v))) m)) h.taken error
 
     -- what is visited after a delimiter
     after_visited : (t r : List ℕ) → l.delimiter t ≡ Ok (true, r)
@@ -221,25 +195,19 @@ module _ {A : Type 0} (l : Loop A) (version : Version) where
         → VisitorFails takes fails l.parts ((l.one version) r) middle fault
         → VisitorFails takes fails (all_events l.parts) total from fault
     one_failure t r total from middle fault h e k =
-        let w = after_visited t r e in
-        failed_within takes fails l.parts ((l.one version) r) (all_events l.parts) total (all_events l.parts h.front)
-        w.0
-        (ap (visited (all_events l.parts)) (sym h.so_far)
+        let w = after_visited _ _ e in
+        failed_within _ _ _ _ _ _ _ _ (ap (visited (all_events l.parts)) (sym h.so_far)
         ∙ visited_in_front l.parts h.front (many l.parts (l.next version) t)
-        ∙ ap (λ (es : List TreeEvent). all_events l.parts h.front ++ es) w.1)
-        from middle fault h.taken (λ es to run. runs_on takes (all_events l.parts h.front) es from middle to h.taken
-        run) k
+        ∙ ap (λ (es : List TreeEvent). all_events l.parts h.front ++ es) w.1) _ _ _ h.taken
+        (λ es to run. runs_on _ _ _ _ _ _ h.taken run) k
 
     -- one more is not read whole
-    one_fails_at : (t r : List ℕ) (total : Answer (List A)) (from middle to : S) (i : Parser
-        × Global) (after : Cursor) (error : ParseError E) → SoFar takes l version total t from middle
-        → l.delimiter t ≡ Ok (true, r)
+    one_fails_at : (t r : List ℕ) (total : Answer (List A)) (from middle to : S) (i : Parser × Global) (after : Cursor)
+        (error : ParseError E) → SoFar takes l version total t from middle → l.delimiter t ≡ Ok (true, r)
         → VisitsAnswer takes fails l.parts i after middle to (Err error) ((l.one version) r)
         → VisitsAnswer takes fails (all_events l.parts) i after from to (Err error) total
-    one_fails_at t r total from middle to i after (Syntax e) h k error =
-        one_error t r total from middle to i e h k error
-    one_fails_at t r total from middle to i after (Visitor fault) h k failed =
-        one_failure t r total from middle fault h k failed
+    one_fails_at t r total from middle to i after (Syntax e) h k error = one_error _ _ _ _ _ _ i _ h k error
+    one_fails_at t r total from middle to i after (Visitor fault) h k failed = one_failure _ _ _ _ _ _ h k failed
 
 -- the same of a cursor, which has kept its parser
 pub record VisitedSoFar {A S : Type 0} (takes : S → TreeEvent
@@ -254,8 +222,7 @@ Wants l b now middle = (l.delimiter (rest now) ≡ Ok (b, rest middle)) × (kept
 pub shorter : {A S E : Type 0} (takes : S → TreeEvent → S → Type 0) (fails : S → TreeEvent
     → E → Type 0) (l : Loop A) (now middle after : Cursor) (at to : S) → Wants l true now middle
     → Visits takes fails l.parts middle after at to (Ok tt) l.one → length (rest after) < length (rest now)
-shorter takes fails l now middle after at to wanted one =
-    shorter_at l (version middle) (rest now) (rest middle) (rest after) one.0 wanted.0 one.1
+shorter takes fails l now middle after at to wanted one = shorter_at l (version middle) _ _ _ _ wanted.0 one.1
 
 module _ {A S E : Type 0} (takes : S → TreeEvent → S → Type 0) (fails : S → TreeEvent
     → E → Type 0) (l : Loop A) (start : Cursor) (total : Answer (List A)) where
@@ -285,9 +252,8 @@ module _ {A S E : Type 0} (takes : S → TreeEvent → S → Type 0) (fails : S 
   pub delimiter_fails : (now after : Cursor) (from to : S) (e : Error)
       → VisitedSoFar takes l start total now from to → IsFaultOf (input now) e (l.delimiter (rest now))
       → VisitsAnswer takes fails (all_events l.parts) (kept start) after from to (Err (Syntax e)) total
-  delimiter_fails now after from to e h fault =
-      delimiter_error l (version start) takes fails (rest now) total from to (kept start) e h.read
-      (subst (λ (k : Parser × Global). IsErrorOf (kept_input k) e (l.delimiter (rest now))) h.same
+  delimiter_fails now after from to e h fault = delimiter_error l (version start) takes fails (rest now) total from to
+      (kept start) e h.read (subst (λ (k : Parser × Global). IsErrorOf (kept_input k) e (l.delimiter (rest now))) h.same
       (ErrorOf-fault (input now) e (l.delimiter (rest now)) fault))
 
   -- after one more
@@ -305,10 +271,9 @@ module _ {A S E : Type 0} (takes : S → TreeEvent → S → Type 0) (fails : S 
       → VisitedSoFar takes l start total now from at → Wants l true now middle
       → Visits takes fails l.parts middle after at to (Err error) l.one
       → VisitsAnswer takes fails (all_events l.parts) (kept start) after from to (Err error) total
-  one_fails now middle after from at to error h wanted one =
-      one_fails_at l (version start) takes fails (rest now) (rest middle) total from at to (kept start) after error
-      h.read wanted.0 (kept_visits takes fails l.parts l.one middle after at to (kept start) (Err error) (wanted.1
-      ∙ h.same) one)
+  one_fails now middle after from at to error h wanted one = one_fails_at l
+      (version start) takes fails (rest now) (rest middle) total from at to (kept start) after error h.read wanted.0
+      (kept_visits takes fails l.parts l.one middle after at to (kept start) (Err error) (wanted.1 ∙ h.same) one)
 
   -- none is wanted
   unfoldable pub ended : (now after : Cursor) (from to : S) → VisitedSoFar takes l start total now from to
@@ -334,10 +299,8 @@ items_loop = record {
 }
 
 pub consumes_member : (keyed : Bool) (version : Version) → Consumes (next_at (one_member_at keyed version))
-consumes_member true version = Consumes-next (IsDictionaryMemberText version) keyed_events (keyed_at version)
-    (Sound-keyed version)
-consumes_member false version = Consumes-next (IsMemberText version) entry_events (entry_at version)
-    (Sound-entry version)
+consumes_member true version = Consumes-next _ _ _ (Sound-keyed _)
+consumes_member false version = Consumes-next _ _ _ (Sound-entry _)
 
 abbrev pub members_loop : (keyed : Bool) → Loop (MemberValue keyed)
 members_loop keyed = record {

@@ -1,30 +1,19 @@
 -- The loop over parameters: the visitor has taken those that were read.
 use Rattle.std.proofs.Common.{◌≡◌, ℕ, List, [], ◌∷◌, ◌++◌, Some, None, Result, Ok, Err, refl, sym, ap, subst, ◌∙◌}
-use Rattle.std.proofs.Common.{append_assoc}
-use Rattle.std.specs.Prelude.{OnOk, IfErr, map, flat_map}
-use Rattle.std.specs.declared.alloc.Global.{Global}
-use Rattle.std.proofs.lemmas.List.{map-append}
-use Rattle.sfv_spec.specs.Values.{BareValue, RawParameters, RawItem}
-use Rattle.sfv_spec.specs.declared.version.Version.{Version}
+use Rattle.std.proofs.Common.{append_assoc, OnOk, IfErr, map, flat_map}
+use Rattle.std.{specs.List.FoldsTo, specs.declared.alloc.Global.Global, proofs.lemmas.List.map-append}
 use Rattle.sfv_spec.specs.Events.{TreeEvent, parameter, parameters_end, parameters_events, bare_item, item_events}
-use Rattle.std.specs.List.{FoldsTo}
-use Rattle.sfv_base.specs.declared.error.Error.{Error}
+use Rattle.sfv_spec.specs.{Values.{BareValue, RawParameters, RawItem}, declared.version.Version.Version}
+use Rattle.sfv_model.specs.{Bare.bare_at, Items.{parameter_event, parameter_at, parameters_at, item_at, item_of}}
 use Rattle.sfv_model.specs.Reader.{Answer, Fault, after_events, visited, and_then, bind, give, led, led_answer, ◌>>=◌}
-use Rattle.sfv_model.proofs.complete.Combinators.{bind_complete}
-use Rattle.sfv_model.specs.Bare.{bare_at}
-use Rattle.sfv_model.specs.Items.{parameter_event, parameter_at, parameters_at, item_at, item_of}
 use Rattle.sfv_model.specs.Visits.{VisitorFails}
-use Rattle.sfv_model.proofs.sound.Many.{in_front, starts, goes_on, is_done, is_faulty}
-use Rattle.sfv_model.proofs.sound.Items.{Consumes-parameter}
-use Rattle.sfv_model.proofs.visits.Parts.{visited_then}
-use Rattle.sfv_base.specs.declared.error.ParseError.{ParseError}
-use Rattle.sfv_base.specs.declared.error.ParseError.TheVariants.{Syntax, Visitor}
-use Rattle.sfv.specs.declared.parser.Parser.{Parser}
-use Rattle.sfv.specs.declared.parser.cursor.Cursor.{Cursor}
+use Rattle.sfv_model.proofs.{complete.Combinators.bind_complete, sound.Items.Consumes-parameter}
+use Rattle.sfv_model.proofs.{sound.Many.{in_front, starts, goes_on, is_done, is_faulty}, visits.Parts.visited_then}
+use Rattle.sfv_base.specs.declared.error.{Error.Error, ParseError.ParseError, ParseError.TheVariants.{Syntax, Visitor}}
+use Rattle.sfv.specs.declared.parser.{Parser.Parser, cursor.Cursor.Cursor}
 use Rattle.sfv.specs.parser.Cursor.{kept, kept_input, kept_version, rest, IsErrorOf}
-use Rattle.sfv.specs.parser.Visits.{VisitsAnswer, TookAll, IsOfVisitor}
+use Rattle.sfv.{specs.parser.Visits.{VisitsAnswer, TookAll, IsOfVisitor}, proofs.reads.Steps.item_some}
 use Rattle.sfv.proofs.visits.Taken.{runs_on, took_after, took_part, took_none, bare_quiet, parameter_quiet}
-use Rattle.sfv.proofs.reads.Steps.{item_some}
 
 -- an error of the visitor, which fails at one of the events
 pub of_visitor : {A S E : Type 0} (takes : S → TreeEvent → S → Type 0) (fails : S → TreeEvent → E → Type 0) (parts : A
@@ -65,21 +54,18 @@ visited_more takes version start now r k v from middle to h read taken = record 
     k,
     v,
   ) now r (parameters_at version start) read h.so_far;
-  taken = subst (λ es. FoldsTo takes from es to) (sym
-      (map-append (λ (p : List ℕ × BareValue). parameter p.0 p.1) h.raw ((k, v) ∷ [])))
-      (runs_on takes (pair_events h.raw) (parameter k v ∷ []) from middle to h.taken (to, taken, refl));
+  taken = subst (λ es. FoldsTo takes from es to) (sym (map-append (λ (p : List ℕ × BareValue). parameter p.0 p.1) h.raw
+      ((k, v) ∷ []))) (runs_on takes (pair_events h.raw) (parameter k v ∷ []) from middle to h.taken (to, taken, refl));
 }
 
-pub visited_all : {S : Type 0} (takes : S → TreeEvent
-    → S → Type 0) (version : Version) (start now r : List ℕ) (from middle to : S)
-    (h : VisitedParameters takes version start now from middle) → parameter_at version now ≡ Ok (None, r)
-    → takes middle parameters_end to → (parameters_at version start ≡ Ok (h.raw, r))
-    × FoldsTo takes from (parameters_events h.raw) to
+pub visited_all : {S : Type 0} (takes : S → TreeEvent → S → Type 0) (version : Version)
+    (start now r : List ℕ) (from middle to : S) (h : VisitedParameters takes version start now from middle)
+    → parameter_at version now ≡ Ok (None, r) → takes middle parameters_end to
+    → (parameters_at version start ≡ Ok (h.raw, r)) × FoldsTo takes from (parameters_events h.raw) to
 unfolding parameters_at
 visited_all takes version start now r from middle to h read taken = (
-  is_done parameter_event (parameter_at version) (Consumes-parameter version) h.raw now r (parameters_at version start)
-      read h.so_far,
-  runs_on takes (pair_events h.raw) (parameters_end ∷ []) from middle to h.taken (to, taken, refl),
+  is_done _ _ (Consumes-parameter _) _ _ _ _ read h.so_far,
+  runs_on _ _ _ _ _ _ h.taken (to, taken, refl),
 )
 
 -- what is visited after parameters that stand in front
@@ -106,18 +92,14 @@ pub parameter_failed : {S E : Type 0} (takes : S → TreeEvent → S → Type 0)
     fault
 unfolding parameters_at
 parameter_failed takes fails version start now r k v from middle fault h read failed =
-    let whole = goes_on parameter_event (parameter_at version) (Consumes-parameter version) h.raw (
-      k,
-      v,
-    ) now r (parameters_at version start) read h.so_far in
-    let more = front_visited (h.raw ++ (k, v) ∷ []) (parameters_at version r) in
+    let whole = goes_on _ _ (Consumes-parameter _) _ _ _ _ _ read h.so_far in
+    let more = front_visited _ _ in
     record {
       before = pair_events h.raw;
       e = parameter k v;
       after = more.0;
       s = middle;
-      all = ap (visited parameters_events) (sym whole) ∙ more.1
-          ∙ ap (λ (es : List TreeEvent). es ++ more.0)
+      all = ap (visited parameters_events) (sym whole) ∙ more.1 ∙ ap (λ (es : List TreeEvent). es ++ more.0)
           (map-append (λ (p : List ℕ × BareValue). parameter p.0 p.1) h.raw ((k, v) ∷ []))
           ∙ append_assoc (pair_events h.raw) (parameter k v ∷ []) more.0;
       taken = h.taken;
@@ -136,26 +118,22 @@ end_failed takes fails version start now r from middle fault h read failed = rec
   e = parameters_end;
   after = [];
   s = middle;
-  all = ap (visited parameters_events) (is_done parameter_event (parameter_at version) (Consumes-parameter version)
-      h.raw now r (parameters_at version start) read h.so_far);
+  all = ap (visited parameters_events) (is_done _ _ (Consumes-parameter _) _ _ _ _ read h.so_far);
   taken = h.taken;
   failed = failed;
 }
 
 -- after the last parameter, their end is visited
-pub end_visits : {S E : Type 0} (takes : S → TreeEvent → S → Type 0) (fails : S → TreeEvent
-    → E → Type 0) (version : Version) (start now : List ℕ) (from middle to : S) (k : Parser
-    × Global) (after : Cursor) (r : Result (Unit {0}) (ParseError E))
-    → VisitedParameters takes version start now from middle → parameter_at version now ≡ Ok (None, rest after)
-    → kept after ≡ k
+pub end_visits : {S E : Type 0} (takes : S → TreeEvent → S → Type 0) (fails : S → TreeEvent → E → Type 0)
+    (version : Version) (start now : List ℕ) (from middle to : S) (k : Parser × Global)
+    (after : Cursor) (r : Result (Unit {0}) (ParseError E)) → VisitedParameters takes version start now from middle
+    → parameter_at version now ≡ Ok (None, rest after) → kept after ≡ k
     → OnOk r (takes middle parameters_end to) → IfErr r (IsOfVisitor (fails middle parameters_end))
     → VisitsAnswer takes fails parameters_events k after from to r (parameters_at version start)
 end_visits takes fails version start now from middle to k after (Ok u) h read same taken failed = let all =
     visited_all takes version start now (rest after) from middle to h read taken in (h.raw, all.0, all.1, same)
 end_visits takes fails version start now from middle to k after (Err e) h read same taken failed =
-    of_visitor takes fails parameters_events k after from to (fails middle parameters_end) e
-    (parameters_at version start) failed (λ fault failed.
-    end_failed takes fails version start now (rest after) from middle fault h read failed)
+    of_visitor _ _ _ k after _ _ _ _ _ failed (λ fault failed. end_failed _ _ _ _ _ _ _ _ _ h read failed)
 
 -- a fault of one parameter is the fault of the loop
 pub visited_error : {S : Type 0} (takes : S → TreeEvent
@@ -167,19 +145,15 @@ pub visited_error : {S : Type 0} (takes : S → TreeEvent
 unfolding parameters_at
 visited_error takes start now from middle i j e same h error =
     let version = kept_version j in
-    took_after takes (λ _. []) parameters_events (kept_input j) e (parameter_at version now) (parameters_at version start)
-    (flat_map parameter_event h.raw) from middle middle
-    (λ f k. is_faulty parameter_event (parameter_at version) (Consumes-parameter version) h.raw now f
-    (parameters_at version start) k h.so_far)
-    (subst (λ (es : List TreeEvent). FoldsTo takes from es middle) (sym (front_events h.raw)) h.taken)
-    (took_none takes (λ _. []) (kept_input j) e (parameter_at version now) middle (parameter_quiet version now)
+    took_after _ (λ _. []) _ _ _ _ _ _ _ _ _ (λ f k. is_faulty _ _ (Consumes-parameter _) _ _ _ _ k h.so_far)
+    (subst (λ (es : List TreeEvent). FoldsTo takes from es middle) (sym (front_events _)) h.taken)
+    (took_none _ _ _ _ _ _ (parameter_quiet _ _)
     (subst (λ (k : Parser × Global). IsErrorOf (kept_input k) e (parameter_at (kept_version k) now)) same error))
 
 -- ---- items
 
-given_visited : (b : BareValue) (a : Answer RawParameters)
-    → visited (λ (i : RawItem). parameters_events i.parameters) (and_then a (λ ps. give (item_of b ps)))
-    ≡ visited parameters_events a
+given_visited : (b : BareValue) (a : Answer RawParameters) → visited (λ (i : RawItem). parameters_events i.parameters)
+    (and_then a (λ ps. give (item_of b ps))) ≡ visited parameters_events a
 unfolding give
 given_visited b (Ok x) = refl
 given_visited b (Err e) = refl
@@ -198,16 +172,14 @@ given_events b (Err f) w r e = absurd cc
 item_visited : (version : Version) (t q : List ℕ) (b : BareValue) → bare_at version t ≡ Ok (b, q)
     → visited item_events (item_at version t) ≡ bare_item b ∷ visited parameters_events (parameters_at version q)
 unfolding item_at bind
-item_visited version t q b e =
-    visited_then (bare_at version) (λ bare. parameters_at version
-    >>= λ ps. give (item_of bare ps)) (λ bare. bare_item bare ∷ []) item_events
+item_visited version t q b e = visited_then (bare_at version)
+    (λ bare. parameters_at version >>= λ ps. give (item_of bare ps)) (λ bare. bare_item bare ∷ []) item_events
     (λ i. parameters_events i.parameters) t q b e (given_events b (parameters_at version q))
     ∙ ap (λ (es : List TreeEvent). bare_item b ∷ es) (given_visited b (parameters_at version q))
 
 -- the visitor fails at the bare item
-pub bare_failed : {S E : Type 0} (takes : S → TreeEvent → S → Type 0) (fails : S → TreeEvent
-    → E → Type 0) (version : Version) (t q : List ℕ) (b : BareValue) (from : S) (fault : E)
-    → bare_at version t ≡ Ok (b, q)
+pub bare_failed : {S E : Type 0} (takes : S → TreeEvent → S → Type 0) (fails : S → TreeEvent → E → Type 0)
+    (version : Version) (t q : List ℕ) (b : BareValue) (from : S) (fault : E) → bare_at version t ≡ Ok (b, q)
     → fails from (bare_item b) fault → VisitorFails takes fails item_events (item_at version t) from fault
 bare_failed takes fails version t q b from fault e failed = record {
   before = [];
@@ -248,15 +220,12 @@ pub bare_faulty : {S : Type 0} (takes : S → TreeEvent → S → Type 0) (versi
     → IsErrorOf i e (item_at version t) × TookAll takes item_events e (item_at version t) from from
 unfolding item_at
 bare_faulty takes version t i e from h =
-    took_part takes (λ _. []) item_events i e (bare_at version)
-    (λ b. led (bare_item b ∷ []) (parameters_at version >>= λ ps. give (item_of b ps))) t _ from from refl
-    (took_none takes (λ _. []) i e (bare_at version t) from (bare_quiet version t) h)
+    took_part _ (λ _. []) _ _ _ _ _ _ _ _ _ refl (took_none _ _ _ _ _ _ (bare_quiet _ _) h)
 
 -- an item, by its bare item and the parameters after it
-pub item_visits : {S E : Type 0} (takes : S → TreeEvent → S → Type 0) (fails : S → TreeEvent
-    → E → Type 0) (version : Version) (t q : List ℕ) (b : BareValue) (from middle to : S) (k : Parser
-    × Global) (after : Cursor) (r : Result (Unit {0}) (ParseError E)) → bare_at version t ≡ Ok (b, q)
-    → takes from (bare_item b) middle
+pub item_visits : {S E : Type 0} (takes : S → TreeEvent → S → Type 0) (fails : S → TreeEvent → E → Type 0)
+    (version : Version) (t q : List ℕ) (b : BareValue) (from middle to : S) (k : Parser × Global) (after : Cursor)
+    (r : Result (Unit {0}) (ParseError E)) → bare_at version t ≡ Ok (b, q) → takes from (bare_item b) middle
     → VisitsAnswer takes fails parameters_events k after middle to r (parameters_at version q)
     → VisitsAnswer takes fails item_events k after from to r (item_at version t)
 item_visits takes fails version t q b from middle to k after (Ok u) e taken h =

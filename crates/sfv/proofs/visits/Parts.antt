@@ -1,23 +1,13 @@
 -- Visiting the events of a reading, by the parts of the reading.
-use Rattle.std.proofs.Common.{◌≡◌, ℕ, List, [], ◌∷◌, ◌++◌, Ok, Err, refl, sym, ap, subst, ◌∙◌, append_assoc}
-use Rattle.std.specs.Prelude.{Result}
-use Rattle.std.specs.declared.alloc.Global.{Global}
-use Rattle.std.proofs.lemmas.List.{append-nil}
-use Rattle.sfv_spec.specs.declared.version.Version.{Version}
-use Rattle.sfv_spec.specs.Events.{TreeEvent}
-use Rattle.std.specs.List.{FoldsTo}
-use Rattle.sfv_base.specs.declared.error.ParseError.{ParseError}
-use Rattle.sfv_base.specs.declared.error.ParseError.TheVariants.{Syntax, Visitor}
+use Rattle.std.proofs.Common.{◌≡◌, ℕ, List, [], ◌∷◌, ◌++◌, Ok, Err, refl, sym, ap, subst, ◌∙◌, append_assoc, Result}
+use Rattle.std.{proofs.Common.append-nil, specs.List.FoldsTo, specs.declared.alloc.Global.Global}
 use Rattle.sfv_model.specs.Reader.{Answer, Reader, visited, and_then, bind, give, led_answer, led, ◌>>=◌}
-use Rattle.sfv_model.specs.Visits.{VisitorFails}
+use Rattle.sfv_model.{specs.Visits.VisitorFails, proofs.complete.Combinators.{bind_complete, led_complete}}
 use Rattle.sfv_model.proofs.visits.Parts.{visited_then, visited_first, failed_within}
-use Rattle.sfv_model.proofs.complete.Combinators.{bind_complete, led_complete}
-use Rattle.sfv.specs.declared.parser.Parser.{Parser}
-use Rattle.sfv.specs.declared.parser.cursor.Cursor.{Cursor}
-use Rattle.sfv.specs.parser.Cursor.{kept, kept_input, kept_version, rest}
-use Rattle.sfv.specs.parser.Visits.{Visits, VisitsAnswer, IsOfVisitor}
-use Rattle.sfv.proofs.visits.Taken.{runs_on, took_after, took_part, took_same}
-use Rattle.sfv.proofs.visits.Parameters.{of_visitor}
+use Rattle.sfv_base.specs.declared.error.ParseError.{ParseError, TheVariants.{Syntax, Visitor}}
+use Rattle.sfv.specs.{Field.{Version, TreeEvent}, declared.parser.Parser.Parser, declared.parser.cursor.Cursor.Cursor}
+use Rattle.sfv.specs.parser.{Cursor.{kept, kept_input, kept_version, rest}, Visits.{Visits, VisitsAnswer, IsOfVisitor}}
+use Rattle.sfv.proofs.visits.{Parameters.of_visitor, Taken.{runs_on, took_after, took_part, took_same}}
 
 visited_as : {A : Type 0} (parts parts' : A → List TreeEvent) (a : Answer A)
     → ((v : A) (s : List ℕ) → a ≡ Ok (v, s) → parts' v ≡ parts v) → visited parts' a ≡ visited parts a
@@ -26,20 +16,17 @@ visited_as parts parts' (Err x) each = refl
 
 module _ {S E : Type 0} (takes : S → TreeEvent → S → Type 0) (fails : S → TreeEvent → E → Type 0) where
   -- a reading by a cursor that has kept its parser
-  pub kept_visits : {A : Type 0} (parts : A → List TreeEvent) (f : Version
-      → Reader A) (middle after : Cursor) (from to : S) (j : Parser × Global) (r : Result (Unit {0}) (ParseError E))
-      → kept middle ≡ j
-      → Visits takes fails parts middle after from to r f
+  pub kept_visits : {A : Type 0} (parts : A → List TreeEvent) (f : Version → Reader A)
+      (middle after : Cursor) (from to : S) (j : Parser × Global) (r : Result (Unit {0}) (ParseError E))
+      → kept middle ≡ j → Visits takes fails parts middle after from to r f
       → VisitsAnswer takes fails parts j after from to r (f (kept_version j) (rest middle))
-  kept_visits parts f middle after from to j r same h =
-      subst (λ (k : Parser × Global). VisitsAnswer takes fails parts k after from to r
-      (f (kept_version k) (rest middle))) same h
+  kept_visits parts f middle after from to j r same h = subst (λ (k : Parser
+      × Global). VisitsAnswer takes fails parts k after from to r (f (kept_version k) (rest middle))) same h
 
   -- a reading from the start of the input
-  pub start_visits : {A : Type 0} (parts : A → List TreeEvent) (f : Version
-      → Reader A) (start after : Cursor) (from to : S) (j : Parser × Global) (r : Result (Unit {0}) (ParseError E))
-      → kept start ≡ j → rest start ≡ kept_input j
-      → Visits takes fails parts start after from to r f
+  pub start_visits : {A : Type 0} (parts : A → List TreeEvent) (f : Version → Reader A)
+      (start after : Cursor) (from to : S) (j : Parser × Global) (r : Result (Unit {0}) (ParseError E))
+      → kept start ≡ j → rest start ≡ kept_input j → Visits takes fails parts start after from to r f
       → VisitsAnswer takes fails parts j after from to r (f (kept_version j) (kept_input j))
   start_visits parts f start after from to j r same whole h =
       subst (λ (t : List ℕ). VisitsAnswer takes fails parts j after from to r (f (kept_version j) t)) whole
@@ -52,16 +39,14 @@ module _ {S E : Type 0} (takes : S → TreeEvent → S → Type 0) (fails : S �
       → VisitsAnswer takes fails parts k after from to r a → VisitsAnswer takes fails parts' k after from to r b
   visits_as parts parts' a b from to k after (Ok u) eq each h =
       (h.0, eq ∙ h.1, subst (λ es. FoldsTo takes from es to) (sym (each h.0 (rest after) h.1)) h.2, h.3)
-  visits_as parts parts' a b from to k after (Err (Syntax e)) eq each h =
-      took_same takes parts parts' (kept_input k) e a b from to eq h
+  visits_as parts parts' a b from to k after (Err (Syntax e)) eq each h = took_same _ _ _ _ _ _ _ _ _ eq h
   visits_as parts parts' a b from to k after (Err (Visitor f)) eq each h =
       record {
         before = h.before;
         e = h.e;
         after = h.after;
         s = h.s;
-        all = ap (visited parts') eq
-            ∙ visited_as parts parts' a each ∙ h.all;
+        all = ap (visited parts') eq ∙ visited_as parts parts' a each ∙ h.all;
         taken = h.taken;
         failed = h.failed;
       }
@@ -72,9 +57,8 @@ module _ {S E : Type 0} (takes : S → TreeEvent → S → Type 0) (fails : S �
   led_visited e parts (Ok x) = refl
   led_visited e parts (Err f) = refl
 
-  led_failed : {A : Type 0} (e : TreeEvent) (parts : A
-      → List TreeEvent) (f : Reader A) (t : List ℕ) (from : S) (fault : E) → fails from e fault
-      → VisitorFails takes fails (λ v. e ∷ parts v) (led (e ∷ []) f t) from fault
+  led_failed : {A : Type 0} (e : TreeEvent) (parts : A → List TreeEvent) (f : Reader A) (t : List ℕ) (from : S)
+      (fault : E) → fails from e fault → VisitorFails takes fails (λ v. e ∷ parts v) (led (e ∷ []) f t) from fault
   unfolding led
   led_failed e parts f t from fault h = record {
     before = [];
@@ -87,17 +71,14 @@ module _ {S E : Type 0} (takes : S → TreeEvent → S → Type 0) (fails : S �
   }
 
   -- the visitor fails at the event
-  pub led_fails : {A : Type 0} (e : TreeEvent) (parts : A
-      → List TreeEvent) (f : Reader A) (t : List ℕ) (from to : S) (k : Parser
-      × Global) (after : Cursor) (error : ParseError E) → IsOfVisitor (fails from e) error
+  pub led_fails : {A : Type 0} (e : TreeEvent) (parts : A → List TreeEvent) (f : Reader A) (t : List ℕ)
+      (from to : S) (k : Parser × Global) (after : Cursor) (error : ParseError E) → IsOfVisitor (fails from e) error
       → VisitsAnswer takes fails (λ v. e ∷ parts v) k after from to (Err error) (led (e ∷ []) f t)
-  led_fails e parts f t from to k after error h = of_visitor takes fails (λ v. e ∷ parts v) k after from to
-      (fails from e) error (led (e ∷ []) f t) h (led_failed e parts f t from)
+  led_fails e parts f t from to k after error h = of_visitor _ _ _ k after _ _ _ _ _ h (led_failed _ _ _ _ _)
 
-  pub led_visits : {A : Type 0} (e : TreeEvent) (parts : A
-      → List TreeEvent) (f : Reader A) (t : List ℕ) (from middle to : S) (k : Parser
-      × Global) (after : Cursor) (r : Result (Unit {0}) (ParseError E)) → takes from e middle
-      → VisitsAnswer takes fails parts k after middle to r (f t)
+  pub led_visits : {A : Type 0} (e : TreeEvent) (parts : A → List TreeEvent) (f : Reader A)
+      (t : List ℕ) (from middle to : S) (k : Parser × Global) (after : Cursor) (r : Result (Unit {0}) (ParseError E))
+      → takes from e middle → VisitsAnswer takes fails parts k after middle to r (f t)
       → VisitsAnswer takes fails (λ v. e ∷ parts v) k after from to r (led (e ∷ []) f t)
   unfolding led
   led_visits e parts f t from middle to k after (Ok u) taken h =
@@ -116,10 +97,9 @@ module _ {S E : Type 0} (takes : S → TreeEvent → S → Type 0) (fails : S �
   }
 
   -- a value in another form
-  pub map_visits : {A B : Type 0} (g : A → B) (parts : A → List TreeEvent) (parts' : B
-      → List TreeEvent) (f : Reader A) (t : List ℕ) (from to : S) (k : Parser
-      × Global) (after : Cursor) (r : Result (Unit {0}) (ParseError E)) → ((v : A) → parts' (g v) ≡ parts v)
-      → VisitsAnswer takes fails parts k after from to r (f t)
+  pub map_visits : {A B : Type 0} (g : A → B) (parts : A → List TreeEvent) (parts' : B → List TreeEvent) (f : Reader A)
+      (t : List ℕ) (from to : S) (k : Parser × Global) (after : Cursor) (r : Result (Unit {0}) (ParseError E))
+      → ((v : A) → parts' (g v) ≡ parts v) → VisitsAnswer takes fails parts k after from to r (f t)
       → VisitsAnswer takes fails parts' k after from to r ((f >>= λ v. give (g v)) t)
   unfolding give bind
   map_visits g parts parts' f t from to k after (Ok u) each h = (
@@ -149,24 +129,21 @@ module _ {S E : Type 0} (takes : S → TreeEvent → S → Type 0) (fails : S �
       mapped = on (f t)
 
   -- one reading after another, whose events were visited
-  pub then_visits : {A B : Type 0} (f : Reader A) (g : A → Reader B) (first : A → List TreeEvent) (parts more : B
-      → List TreeEvent) (t q : List ℕ) (v : A) (from middle to : S) (k : Parser
-      × Global) (after : Cursor) (r : Result (Unit {0}) (ParseError E))
-      → f t ≡ Ok (v, q) → FoldsTo takes from (first v) middle
-      → ((w : B) (s : List ℕ) → g v q ≡ Ok (w, s) → parts w ≡ first v ++ more w)
+  pub then_visits : {A B : Type 0} (f : Reader A) (g : A → Reader B) (first : A → List TreeEvent)
+      (parts more : B → List TreeEvent) (t q : List ℕ) (v : A) (from middle to : S)
+      (k : Parser × Global) (after : Cursor) (r : Result (Unit {0}) (ParseError E)) → f t ≡ Ok (v, q)
+      → FoldsTo takes from (first v) middle → ((w : B) (s : List ℕ) → g v q ≡ Ok (w, s) → parts w ≡ first v ++ more w)
       → VisitsAnswer takes fails more k after middle to r (g v q)
       → VisitsAnswer takes fails parts k after from to r ((f >>= λ v. led (first v) (g v)) t)
   unfolding led
   then_visits f g first parts more t q v from middle to k after (Ok u) e run each h = (
     h.0,
-    bind_complete f (λ v. led (first v) (g v)) t q v e ∙ led_complete (first v) (g v) q (rest after) h.0 h.1,
-    subst (λ es. FoldsTo takes from es to) (sym (each h.0 (rest after) h.1))
-        (runs_on takes (first v) (more h.0) from middle to run h.2),
+    bind_complete _ _ _ _ _ e ∙ led_complete (first v) (g v) q _ _ h.1,
+    subst (λ es. FoldsTo takes from es to) (sym (each h.0 (rest after) h.1)) (runs_on _ _ _ _ _ _ run h.2),
     h.3,
   )
   then_visits {A} {B} f g first parts more t q v from middle to k after (Err (Syntax error)) e run each h =
-      took_after takes more parts (kept_input k) error (g v q) ((f >>= λ v. led (first v) (g v)) t) (first v) from middle
-      to (λ x m. bind_complete f (λ v. led (first v) (g v)) t q v e ∙ ap (led_answer (first v)) m) run h
+      took_after _ _ _ _ _ _ _ _ _ _ _ (λ x m. bind_complete _ _ _ _ _ e ∙ ap (led_answer (first v)) m) run h
   then_visits f g first parts more t q v from middle to k after (Err (Visitor fault)) e run each h = record {
     before = first v ++ h.before;
     e = h.e;
@@ -185,9 +162,8 @@ module _ {S E : Type 0} (takes : S → TreeEvent → S → Type 0) (fails : S �
       → VisitorFails takes fails first (f t) from fault
       → VisitorFails takes fails parts ((f >>= λ v. led (first v) (g v)) t) from fault
   first_failed f g first parts more t from fault each h =
-      let w = visited_first f g first parts more t each in
-      failed_within takes fails first (f t) parts ((f >>= λ v. led (first v) (g v)) t) [] w.0 w.1 from from fault refl
-      (λ es to run. run) h
+      let w = visited_first _ _ _ _ _ _ each in
+      failed_within _ _ _ _ _ _ [] w.0 w.1 _ _ _ refl (λ es to run. run) h
 
   -- a failure, where more is visited after what was read
   pub failed_longer : {A : Type 0} (parts longer : A → List TreeEvent) (a : Answer A) (from : S) (fault : E)
@@ -202,10 +178,9 @@ module _ {S E : Type 0} (takes : S → TreeEvent → S → Type 0) (fails : S �
       on (Err x) = ([], sym (append-nil x.events))
 
   -- a failure after what was read
-  pub failed_after : {A : Type 0} (parts longer : A
-      → List TreeEvent) (e : TreeEvent) (a : Answer A) (v : A) (q : List ℕ) (from middle : S) (fault : E)
-      → a ≡ Ok (v, q) → longer v ≡ parts v ++ e ∷ [] → FoldsTo takes from (parts v) middle → fails middle e fault
-      → VisitorFails takes fails longer a from fault
+  pub failed_after : {A : Type 0} (parts longer : A → List TreeEvent) (e : TreeEvent)
+      (a : Answer A) (v : A) (q : List ℕ) (from middle : S) (fault : E) → a ≡ Ok (v, q) → longer v ≡ parts v ++ e ∷ []
+      → FoldsTo takes from (parts v) middle → fails middle e fault → VisitorFails takes fails longer a from fault
   failed_after parts longer e a v q from middle fault read all run h =
       record {
         before = parts v;

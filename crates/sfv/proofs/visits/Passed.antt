@@ -1,21 +1,14 @@
 -- Which readers pass no double quote: keys, spaces, and the delimiters of items and members.
 use Rattle.std.proofs.Common.{◌≡◌, ℕ, Bool, true, false, not, cond, List, [], ◌∷◌, ◌++◌, Some, None, Option, Ok, Err}
-use Rattle.std.proofs.Common.{refl, sym, ap, subst, ◌∙◌, append_assoc}
-use Rattle.std.specs.Prelude.{⊤, ◌==◌}
-use Rattle.std.specs.List.{list_all}
-use Rattle.std.proofs.lemmas.Bool.{true≢false, eqb-true, and_from}
-use Rattle.std.proofs.lemmas.List.Folds.{list_all-append}
-use Rattle.sfv_spec.proofs.Marks.{double_quote, is_space, is_space_or_tab, comma, right_parenthesis}
-use Rattle.sfv_spec.specs.Texts.{RunOf}
-use Rattle.sfv_spec.specs.declared.error_kind.ErrorKind.{ErrorKind}
-use Rattle.sfv_model.specs.Reader.{Answer, Reader, and_then, give, fail, bind, ◌>>=◌, branch, ahead, at_start, back}
-use Rattle.sfv_model.specs.Reader.{span, byte, any}
+use Rattle.std.proofs.Common.{refl, sym, ap, subst, ◌∙◌, append_assoc, ◌==◌, true≢false, eqb-true}
+use Rattle.std.specs.{List.list_all, Prelude.⊤}
+use Rattle.std.proofs.lemmas.{Bool.and_from, List.Folds.list_all-append}
+use Rattle.sfv_spec.{specs.Texts.RunOf, proofs.Marks.{double_quote, is_space}}
 use Rattle.sfv_model.specs.Fields.{comma_at}
-use Rattle.sfv_model.proofs.sound.Combinators.{Steady-span, run_cons, run_head, run_tail}
-use Rattle.sfv.specs.Parsers.{HasNoQuote}
-use Rattle.sfv.specs.parser.AsRead.{Passes}
-use Rattle.sfv.specs.parser.Cursor.{TakesIf}
-use Rattle.sfv.specs.parser.Members.{item_delimiter_at, member_delimiter_at}
+use Rattle.sfv_model.specs.Reader.{Answer, Reader, and_then, give, fail, bind, ◌>>=◌, branch, ahead, at_start, back}
+use Rattle.sfv_model.{specs.Reader.span, proofs.sound.Combinators.{Steady-span, run_cons, run_head, run_tail}}
+use Rattle.sfv.specs.{Field.ErrorKind, Parsers.HasNoQuote}
+use Rattle.sfv.specs.parser.{AsRead.Passes, Cursor.TakesIf, Members.{item_delimiter_at, member_delimiter_at}}
 
 -- a byte of a class to which the quote does not belong
 pub no_quote : (class : ℕ → Bool) (c : ℕ) → class double_quote ≡ false → class c ≡ true → not (c == double_quote) ≡ true
@@ -27,9 +20,8 @@ no_quote class c apart h = on (c == double_quote) refl
 
 pub run_apart : (class : ℕ → Bool) (s : List ℕ) → class double_quote ≡ false → RunOf class s → HasNoQuote s
 run_apart class [] apart h = refl
-run_apart class (c ∷ s) apart h =
-    run_cons (λ c. not (c == double_quote)) c s (no_quote class c apart (run_head class c s h))
-    (run_apart class s apart (run_tail class c s h))
+run_apart class (c ∷ s) apart h = run_cons (λ c. not (c == double_quote)) c s
+    (no_quote class c apart (run_head class c s h)) (run_apart class s apart (run_tail class c s h))
 
 pub both_apart : (a b : List ℕ) → HasNoQuote a → HasNoQuote b → HasNoQuote (a ++ b)
 both_apart a b h k = list_all-append (λ c. not (c == double_quote)) a b
@@ -56,8 +48,7 @@ passes_byte class c r apart h =
 -- a byte of the class was consumed, or none
 pub passes_if : (class : ℕ → Bool) (b : Bool) (t r : List ℕ) → class double_quote ≡ false → TakesIf class b t r
     → Passes t r
-passes_if class true t r apart h =
-    subst (λ (l : List ℕ). Passes l r) (sym h.1) (passes_byte class h.0 r apart h.2)
+passes_if class true t r apart h = subst (λ (l : List ℕ). Passes l r) (sym h.1) (passes_byte class h.0 r apart h.2)
 passes_if class false t r apart h = passes_same t r h.0
 
 -- the same after other bytes
@@ -111,9 +102,8 @@ Passing-branch {A} class taken other apart h k =
     let at : (t : List ℕ) → Passed t (branch class taken other t) =
     λ t. elim t as (λ (t : List ℕ). Passed t (branch class taken other t)) [
       | [] ↦ k.passing []
-      | c ∷ r ↦ passed_cond (class c) (c ∷ r) (taken c r) (other (c ∷ r))
-          (λ e. passed_after (c ∷ r) r (taken c r) (passes_byte class c r apart e) ((h c).passing r))
-          (k.passing (c ∷ r))
+      | c ∷ r ↦ passed_cond (class c) (c ∷ r) (taken c r) (other (c ∷ r)) (λ e. passed_after
+          (c ∷ r) r (taken c r) (passes_byte class c r apart e) ((h c).passing r)) (k.passing (c ∷ r))
     ] in record { passing = at }
 
 Passing-ahead : {A : Type 0} (class : ℕ → Bool) (taken other : Reader A) → Passing taken → Passing other
@@ -123,8 +113,7 @@ Passing-ahead {A} class taken other h k =
     let at : (t : List ℕ) → Passed t (ahead class taken other t) =
     λ t. elim t as (λ (t : List ℕ). Passed t (ahead class taken other t)) [
       | [] ↦ k.passing []
-      | c ∷ r ↦ passed_cond (class c) (c ∷ r) (taken (c ∷ r)) (other (c ∷ r)) (λ e. h.passing (c ∷ r))
-          (k.passing (c ∷ r))
+      | c ∷ r ↦ passed_cond _ _ _ _ (λ e. h.passing (c ∷ r)) (k.passing (c ∷ r))
     ] in record { passing = at }
 
 passed_start : {A : Type 0} (k : ErrorKind) (t : List ℕ) (a : Answer (Option A)) → Passed t a
@@ -140,28 +129,24 @@ Passing-back k f h = record { passing = λ t. passed_start k t (f t) (h.passing 
 pub Passing-span : (class : ℕ → Bool) → class double_quote ≡ false → Passing (span class)
 Passing-span class apart = record {
   passing = λ t. let m = (Steady-span class).steady t in
-      subst (λ a. Passed t a) (sym m.3)
-      (m.0, m.4, subst HasNoQuote (sym m.5.0) (run_apart class m.1 apart m.5.1));
+      subst (λ a. Passed t a) (sym m.3) (m.0, m.4, subst HasNoQuote (sym m.5.0) (run_apart class m.1 apart m.5.1));
 }
 
 pub Passing-item_delimiter : Passing item_delimiter_at
 unfolding item_delimiter_at
-Passing-item_delimiter = Passing-branch is_space _ _ refl (λ _. Passing-bind (span is_space) _
-    (Passing-span is_space refl) (λ _. Passing-branch (byte right_parenthesis) _ _ refl (λ _. Passing-give false)
-    (Passing-give true))) (Passing-branch (byte right_parenthesis) _ _ refl (λ _. Passing-give false)
-    (Passing-ahead any _ _ (Passing-fail _) (Passing-fail _)))
+Passing-item_delimiter = Passing-branch _ _ _ refl (λ _. Passing-bind _ _
+    (Passing-span _ refl) (λ _. Passing-branch _ _ _ refl (λ _. Passing-give _) (Passing-give _)))
+    (Passing-branch _ _ _ refl (λ _. Passing-give _) (Passing-ahead _ _ _ (Passing-fail _) (Passing-fail _)))
 
 Passing-comma : Passing comma_at
 unfolding comma_at
-Passing-comma = Passing-branch (byte comma) _ _ refl (λ _. Passing-bind (span is_space_or_tab) _
-    (Passing-span is_space_or_tab refl) (λ _. Passing-ahead any _ _ (Passing-give (Some tt)) (Passing-give None)))
-    (Passing-give None)
+Passing-comma = Passing-branch _ _ _ refl (λ _. Passing-bind _ _ (Passing-span _ refl)
+    (λ _. Passing-ahead _ _ _ (Passing-give (Some tt)) (Passing-give _))) (Passing-give _)
 
 pub Passing-member_delimiter : Passing member_delimiter_at
 unfolding member_delimiter_at
-Passing-member_delimiter = Passing-bind (span is_space_or_tab) _ (Passing-span is_space_or_tab refl)
-    (λ _. Passing-ahead any _ _ (Passing-ahead (byte comma) _ _ (Passing-bind (back _ comma_at) _
-    (Passing-back _ comma_at Passing-comma) (λ _. Passing-give true)) (Passing-fail _)) (Passing-give false))
+Passing-member_delimiter = Passing-bind _ _ (Passing-span _ refl) (λ _. Passing-ahead _ _ _ (Passing-ahead _ _ _
+    (Passing-bind _ _ (Passing-back _ _ Passing-comma) (λ _. Passing-give _)) (Passing-fail _)) (Passing-give _))
 
 -- after spaces
 pub passes_spaces : (t s r : List ℕ) → span is_space t ≡ Ok (s, r) → Passes t r

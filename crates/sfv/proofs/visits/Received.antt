@@ -1,52 +1,41 @@
 -- The events of a field that are visited before its text continues, and before its last inner list is closed.
 use Rattle.std.proofs.Common.{◌≡◌, ℕ, ◌≤◌, Bool, eqb, true, false, List, [], ◌∷◌, ◌++◌, length, Some, Ok, Err, refl}
-use Rattle.std.proofs.Common.{sym, ap, subst, ◌∙◌, append_assoc, arith, inl, inr, ◌⊎◌}
-use Rattle.std.proofs.lemmas.List.{append-nil, append_cancel_right, length-append}
-use Rattle.std.proofs.lemmas.Bool.{or_cases, or_parts, eqb-true, not-true, true≢false, cases_Bool}
-use Rattle.std.specs.Prelude.{IsTrue, IsFalse, flat_map, not, ◌||◌, codes}
-use Rattle.sfv_spec.proofs.Marks.{comma, space, tab, equals_sign, semicolon, left_parenthesis, right_parenthesis}
-use Rattle.sfv_spec.proofs.Marks.{true_with, is_space, is_space_or_tab}
-use Rattle.sfv_spec.proofs.Bare.{is_bare_start}
-use Rattle.sfv_spec.specs.Texts.{RunOf, begins_with, ◌⨾◌, IsJoining, IsSeparated}
+use Rattle.std.proofs.Common.{sym, ap, subst, ◌∙◌, append_assoc, arith, inl, inr, ◌⊎◌, append-nil, length-append}
+use Rattle.std.proofs.Common.{eqb-true, true≢false, IsTrue, IsFalse, flat_map, not, ◌||◌, codes}
+use Rattle.std.proofs.lemmas.{Bool.{or_cases, or_parts, not-true, cases_Bool}, List.append_cancel_right}
 use Rattle.sfv_spec.specs.Classes.{is_key_inner}
-use Rattle.sfv_spec.specs.Values.{boolean, RawParameters, RawItem, RawMember, item, inner_list, RawField}
-use Rattle.sfv_spec.specs.declared.field_kind.FieldKind.{FieldKind}
-use Rattle.sfv_spec.specs.declared.field_kind.FieldKind.TheVariants.{Item as item_field, List as list_field}
-use Rattle.sfv_spec.specs.declared.field_kind.FieldKind.TheVariants.{Dictionary as dictionary_field}
-use Rattle.sfv_spec.specs.declared.version.Version.{Version}
-use Rattle.sfv_spec.specs.Grammar.{Spaces, Comma, IsKeyText, IsEnded, IsItemText}
-use Rattle.sfv_spec.proofs.Marks.{SomeSpaces}
-use Rattle.sfv_spec.specs.Grammar.{AreInnerItemsText, IsMemberText, IsDictionaryMemberText, IsMemberValueText}
-use Rattle.sfv_spec.specs.Grammar.{AreMembersText, IsFieldText, IsAccepted}
 use Rattle.sfv_spec.specs.Events.{TreeEvent, entry, keyed_entry, begins_item, begins_inner_list, bare_item, parameter}
-use Rattle.sfv_spec.specs.Events.{parameters_end, parameters_events, inner_list_end, item_events, inner_item_events, member_events}
-use Rattle.sfv_spec.specs.Events.{entry_events, keyed_events, events}
-use Rattle.sfv_model.specs.Reader.{Answer, Reader, Apart, visited, and_then, give, ◌>>=◌, bind, one_and_more}
+use Rattle.sfv_spec.specs.Events.{parameters_end, parameters_events, inner_list_end, item_events, inner_item_events}
+use Rattle.sfv_spec.specs.Events.{member_events, entry_events, keyed_events, events}
+use Rattle.sfv_spec.specs.Grammar.{Spaces, Comma, IsKeyText, IsEnded, IsItemText, AreInnerItemsText, IsMemberText}
+use Rattle.sfv_spec.specs.Grammar.{IsDictionaryMemberText, IsMemberValueText, AreMembersText, IsFieldText, IsAccepted}
+use Rattle.sfv_spec.specs.Texts.{RunOf, begins_with, ◌⨾◌, IsJoining, IsSeparated}
+use Rattle.sfv_spec.specs.Values.{boolean, RawParameters, RawItem, RawMember, item, inner_list, RawField}
+use Rattle.sfv_spec.proofs.Bare.{is_bare_start}
+use Rattle.sfv_spec.proofs.Marks.{comma, space, tab, equals_sign, semicolon, left_parenthesis, right_parenthesis}
+use Rattle.sfv_spec.proofs.Marks.{true_with, is_space, is_space_or_tab, SomeSpaces}
 use Rattle.sfv_spec.proofs.Settled.{joining-nil, joining-cons}
-use Rattle.sfv_model.specs.Reader.{byte, span, led, led_answer}
-use Rattle.sfv_model.specs.Items.{parameters_at, item_at}
+use Rattle.sfv_model.specs.{Fields.{next_at, members_at, whole_field_at}, Items.{parameters_at, item_at}}
 use Rattle.sfv_model.specs.Members.{inner_item_at, next_item_at, inner_items_at, inner_of, member_at, entry_at}
 use Rattle.sfv_model.specs.Members.{member_value_at, keyed_at}
-use Rattle.sfv_model.specs.Fields.{next_at, members_at, whole_field_at}
-use Rattle.sfv_model.proofs.sound.Combinators.{Begins, Reads, Goes, begins_after, run_head, run_tail, Steady-span}
-use Rattle.sfv_model.proofs.sound.Separated.{Consumes-next, comma_complete}
-use Rattle.sfv_model.proofs.sound.Members.{Consumes-next_item, Sound-entry, Sound-keyed}
-use Rattle.sfv_model.proofs.complete.Combinators.{Apart-nil, Apart-cons, branch_past, branch_take}
-use Rattle.sfv_model.proofs.complete.Combinators.{ahead_take, ahead_any, bind_complete, span_complete}
+use Rattle.sfv_model.specs.Reader.{Answer, Reader, Apart, visited, and_then, give, ◌>>=◌, bind, one_and_more, byte}
+use Rattle.sfv_model.specs.Reader.{span, led, led_answer}
+use Rattle.sfv_model.proofs.complete.Combinators.{Apart-nil, Apart-cons, branch_past, branch_take, ahead_take}
+use Rattle.sfv_model.proofs.complete.{Combinators.{ahead_any, bind_complete, span_complete}, Fields.comma_ends}
 use Rattle.sfv_model.proofs.complete.Items.{lengthens, lengthens_item, blank_ends, space_ends, item_no, item_begun}
 use Rattle.sfv_model.proofs.complete.Items.{item_complete, begun_some}
-use Rattle.sfv_model.proofs.complete.Fields.{comma_ends}
 use Rattle.sfv_model.proofs.complete.Members.{inner_item_complete, entry_complete, entry_fresh, keyed_complete}
-use Rattle.sfv_model.proofs.complete.Members.{keyed_fresh}
+use Rattle.sfv_model.proofs.{complete.Members.keyed_fresh, faults.BetweenInnerItems.open_longer}
+use Rattle.sfv_model.proofs.sound.Combinators.{Begins, Reads, Goes, begins_after, run_head, run_tail, Steady-span}
+use Rattle.sfv_model.proofs.sound.Members.{Consumes-next_item, Sound-entry, Sound-keyed}
+use Rattle.sfv_model.proofs.sound.Separated.{Consumes-next, comma_complete}
 use Rattle.sfv_model.proofs.texts.Joining.{in_turn, events_push, joining_none, joining_into}
-use Rattle.sfv_model.proofs.faults.BetweenInnerItems.{open_longer}
 use Rattle.sfv_model.proofs.visits.EventsBeforeRuleAlike.{begins_all, begins_trans}
-use Rattle.sfv.proofs.visits.Chained.{Parted, parted_of, fresh_after, each_begun}
+use Rattle.sfv.specs.Parsers.{first_event, IsBeforeMember, BeginsMember, list_member, dictionary_key, dictionary_value}
+use Rattle.sfv.specs.{Parsers.AreBefore, Types.{FieldKind, item_field, list_field, dictionary_field, Version}}
 use Rattle.sfv.proofs.visits.Begun.{no_space, ended_of, Pairs, item_told, inner_item_told, open_events, member_open}
 use Rattle.sfv.proofs.visits.Begun.{member_told, value_told, open_told, first_told, entry_begins, keyed_begins}
-use Rattle.sfv.proofs.visits.Begun.{true_of_key}
-use Rattle.sfv.specs.Parsers.{first_event, IsBeforeMember, BeginsMember, list_member, dictionary_key, dictionary_value}
-use Rattle.sfv.specs.Parsers.{AreBefore}
+use Rattle.sfv.proofs.visits.{Begun.true_of_key, Chained.{Parted, parted_of, fresh_after, each_begun}}
 
 -- ---- what may follow
 
@@ -110,10 +99,9 @@ last_of_pairs e (p ∷ ps) h = last_of_pairs (parameter p.0 p.1) ps refl
 not_last : (before after : List TreeEvent) (e : TreeEvent) (ps : RawParameters) → is_list_end e ≡ false
     → ¬ (before ++ (e ∷ (Pairs ps ++ parameters_end ∷ [])) ≡ after ++ inner_list_end ∷ parameters_end ∷ [])
 not_last before after e ps none same =
-    let cut : before ++ e ∷ Pairs ps ≡ after ++ inner_list_end ∷ [] =
-    append_cancel_right (before ++ e ∷ Pairs ps) (after ++ inner_list_end ∷ []) (parameters_end ∷ [])
-    (append_assoc before (e ∷ Pairs ps) (parameters_end ∷ []) ∙ same
-    ∙ sym (append_assoc after (inner_list_end ∷ []) (parameters_end ∷ []))) in
+    let cut : before ++ e ∷ Pairs ps ≡ after ++ inner_list_end ∷ [] = append_cancel_right (before ++ e ∷ Pairs ps)
+    (after ++ inner_list_end ∷ []) (parameters_end ∷ []) (append_assoc before (e ∷ Pairs ps) (parameters_end ∷ [])
+    ∙ same ∙ sym (append_assoc after (inner_list_end ∷ []) (parameters_end ∷ []))) in
     true≢false (sym (last_after e inner_list_end after []) ∙ ap (last_is e) (sym cut)
     ∙ last_after e e before (Pairs ps) ∙ last_of_pairs e ps none)
 
@@ -176,11 +164,9 @@ spaces_part c y h = subst (λ (l : List ℕ). Apart lengthens_item (l ++ y))
 next_item_is : (version : Version) (c y : List ℕ) → SomeSpaces c → IsItemStart y
     → next_item_at version (c ++ y) ≡ (inner_item_at version >>= λ i. give (Some i)) y
 unfolding next_item_at
-next_item_is version c y h f =
-    ap (λ (l : List ℕ). next_item_at version (l ++ y)) (h.text ∙ ap (λ (l : List ℕ). l ++ h.back) h.first)
-    ∙ branch_take _ _ _ space (h.back ++ y) refl
-    ∙ bind_complete _ _ _ _ _ (span_complete is_space h.back y h.second f.0)
-    ∙ branch_past _ _ _ y f.1
+next_item_is version c y h f = ap (λ (l : List ℕ). next_item_at version (l ++ y))
+    (h.text ∙ ap (λ (l : List ℕ). l ++ h.back) h.first) ∙ branch_take _ _ _ space (h.back ++ y) refl
+    ∙ bind_complete _ _ _ _ _ (span_complete is_space h.back y h.second f.0) ∙ branch_past _ _ _ y f.1
 
 -- the events of these items before any text q that may follow them: all, or all but the last
 pub record ItemsTold (version : Version) (is : List RawItem) (t : List ℕ) : Type 0 where
@@ -192,9 +178,8 @@ pub record ItemsTold (version : Version) (is : List RawItem) (t : List ℕ) : Ty
   pub whole : (q : List ℕ) → IsEnded q → Apart lengthens_item q
       → Begins (visited member_events (member_at version (left_parenthesis ∷ (t ++ q)))) (begins_inner_list ∷ Flat is)
   -- all before any text, or the last item can get one more parameter
-  pub settled : ((q : List ℕ)
-      → Begins (visited member_events (member_at version (left_parenthesis ∷ (t ++ q)))) (begins_inner_list ∷ Flat is))
-      ⊎ ((js : List RawItem)
+  pub settled : ((q : List ℕ) → Begins (visited member_events (member_at version (left_parenthesis ∷ (t ++ q))))
+      (begins_inner_list ∷ Flat is)) ⊎ ((js : List RawItem)
       × IsMemberText version (inner_of js []) ((left_parenthesis ∷ (t ++ codes ";a")) ++ codes ")"))
 
 items_begun : (version : Version) (i : RawItem) (is : List RawItem) (s t q : List ℕ) → Spaces s
@@ -213,9 +198,8 @@ items_begun version i is s t q blank o =
     let read : inner_items_at version (s ++ (t ++ q))
     ≡ one_and_more inner_item_events (inner_item_at version) (next_item_at version) (o.front ++ rest) =
     ap (inner_items_at version) text
-    ∙ ahead_any _ _ (s ++ (o.front ++ rest)) (omega (arith, some, length-append {A = ℕ}))
-    ∙ bind_complete _ _ _ _ _ (span_complete is_space s (o.front ++ rest) blank start.0)
-    ∙ branch_past _ _ _ (o.front ++ rest) start.1 in
+    ∙ ahead_any _ _ (s ++ (o.front ++ rest)) (omega (arith, some, length-append {A = ℕ})) ∙ bind_complete _ _ _ _ _
+    (span_complete is_space s (o.front ++ rest) blank start.0) ∙ branch_past _ _ _ (o.front ++ rest) start.1 in
     subst (λ a. Begins (visited Flat a) (Flat o.init ++ visited inner_item_events (inner_item_at version rest)))
     (sym read) (each_begun (IsItemText version) SomeSpaces IsItemStart inner_item_events (inner_item_at version)
     (next_item_at version) (Consumes-next_item version) (inner_item_complete version) (item_start version) spaces_part
@@ -236,15 +220,13 @@ items_told version (i ∷ is) s t blank h = record {
   last = parameters_end;
   all = ap (λ (l : List TreeEvent). begins_inner_list ∷ l) (all
       ∙ sym (append_assoc (Flat o.init) part (parameters_end ∷ [])));
-  begun = λ q ended. told q part
-      (inner_item_told version o.last o.back (h.back ++ q) o.end (ended_behind h.back q blanks ended));
+  begun = λ q ended. told q part (inner_item_told _ _ _ _ o.end (ended_behind _ _ blanks ended));
   whole = λ q ended apart. subst (λ (l : List TreeEvent).
       Begins (visited member_events (member_at version (left_parenthesis ∷ ((s ++ t) ++ q)))) (begins_inner_list ∷ l))
       (sym all) (told q (inner_item_events o.last) (
         [],
-        ap (visited inner_item_events)
-            (inner_item_complete version o.last o.back (h.back ++ q) o.end (apart_behind h.back q blanks apart))
-            ∙ sym (append-nil (inner_item_events o.last)),
+        ap (visited inner_item_events) (inner_item_complete _ _ _
+            _ o.end (apart_behind _ _ blanks apart)) ∙ sym (append-nil (inner_item_events o.last)),
       ));
   settled = settle h.back refl;
 }
@@ -346,8 +328,8 @@ open_entry : (version : Version) (m : RawMember) (t : List ℕ) (before after : 
     → IsMemberText version m t → before ++ entry_events m ≡ after ++ inner_list_end ∷ parameters_end ∷ []
     → Unclosed (IsMemberText version) entry_events (entry_at version) m t
 open_entry version m t before after h e =
-    let c = closed_member m (before ++ entry ∷ []) after (append_assoc before (entry ∷ []) (member_events m) ∙ e) in
-    let o = open_member version c.0 t (subst (λ (m : RawMember). IsMemberText version m t) c.1 h) in
+    let c = closed_member _ _ _ (append_assoc before (entry ∷ []) (member_events m) ∙ e) in
+    let o = open_member _ _ _ (subst (λ (m : RawMember). IsMemberText version m t) c.1 h) in
     record {
       opened = left_parenthesis ∷ o.own;
       text = o.text;
@@ -355,13 +337,12 @@ open_entry version m t before after h e =
       last = o.told.last;
       all = ap entry_events c.1
           ∙ ap (λ (l : List TreeEvent). entry ∷ (l ++ inner_list_end ∷ parameters_end ∷ [])) o.told.all;
-      fresh = λ q. (Apart-cons is_space_or_tab left_parenthesis (o.own ++ q) refl, omega arith);
-      begun = λ q ended. entry_begins version (left_parenthesis ∷ (o.own ++ q)) o.told.most (o.told.begun q ended);
-      whole = λ q ended apart. entry_begins version (left_parenthesis ∷ (o.own ++ q)) (o.told.most ++ o.told.last ∷ [])
-          (subst (Begins (visited member_events (member_at version (left_parenthesis ∷ (o.own ++ q))))) o.told.all
-          (o.told.whole q ended apart));
+      fresh = λ q. (Apart-cons _ _ _ refl, omega arith);
+      begun = λ q ended. entry_begins _ _ _ (o.told.begun q ended);
+      whole = λ q ended apart. entry_begins _ _ _ (subst (Begins (visited member_events
+          (member_at version (left_parenthesis ∷ (o.own ++ q))))) o.told.all (o.told.whole q ended apart));
       settled = elim o.told.settled [
-        | inl k ↦ inl (λ q. entry_begins version (left_parenthesis ∷ (o.own ++ q)) (o.told.most ++ o.told.last ∷ [])
+        | inl k ↦ inl (λ q. entry_begins _ _ _
             (subst (Begins (visited member_events (member_at version (left_parenthesis ∷ (o.own ++ q))))) o.told.all (k q)))
         | inr l ↦ inr (inner_of l.0 [], l.1)
       ];
@@ -371,17 +352,14 @@ value_begins : (version : Version) (u : List ℕ) (es : List TreeEvent)
     → Begins (visited member_events (member_at version u)) es
     → Begins (visited member_events (member_value_at version (equals_sign ∷ u))) es
 unfolding member_value_at
-value_begins version u es b = subst (λ a. Begins (visited member_events a) es)
-    (sym (branch_take _ _ _ equals_sign u refl)) b
+value_begins version u es b = subst (λ a. Begins (visited member_events a) es) (sym (branch_take _ _ _ _ _ refl)) b
 
 keyed_text : (version : Version) (key : List ℕ) (n : RawMember) (front t : List ℕ) → IsKeyText key front
     → IsMemberText version n t → IsDictionaryMemberText version (key, n) (front ++ equals_sign ∷ t)
-keyed_text version key n front t h k =
-    in_turn front (equals_sign ∷ t) h (inl (in_turn (equals_sign ∷ []) t refl k))
+keyed_text version key n front t h k = in_turn front (equals_sign ∷ t) h (inl (in_turn (equals_sign ∷ []) t refl k))
 
 open_keyed : (version : Version) (m : List ℕ × RawMember) (t : List ℕ) (before after : List TreeEvent)
-    → IsDictionaryMemberText version m t
-    → before ++ keyed_events m ≡ after ++ inner_list_end ∷ parameters_end ∷ []
+    → IsDictionaryMemberText version m t → before ++ keyed_events m ≡ after ++ inner_list_end ∷ parameters_end ∷ []
     → Unclosed (IsDictionaryMemberText version) keyed_events (keyed_at version) m t
 open_keyed version m t before after h e = on h.second
   where
@@ -436,8 +414,7 @@ open_keyed version m t before after h e = on h.second
 -- ---- members with commas between them
 
 comma_text : (c y : List ℕ) (h : Comma c) → c ++ y ≡ h.front ++ comma ∷ (h.second.back ++ y)
-comma_text c y h =
-    ap (λ (l : List ℕ). l ++ y) (h.text ∙ ap (λ (l : List ℕ). h.front ++ l) (h.second.text
+comma_text c y h = ap (λ (l : List ℕ). l ++ y) (h.text ∙ ap (λ (l : List ℕ). h.front ++ l) (h.second.text
     ∙ ap (λ (l : List ℕ). l ++ h.second.back) h.second.first)) ∙ append_assoc h.front (comma ∷ h.second.back) y
 
 comma_part : (c y : List ℕ) → Comma c → Apart lengthens_item (c ++ y)
@@ -468,10 +445,9 @@ rejoined {A} S P (m ∷ init) front x n j p =
       record {
         front = d.front;
         back = (d.back ++ h.front) ++ h.back;
-        text = ap (λ (l : List ℕ). l ++ x) (c.text ∙ ap (λ (l : List ℕ). l ++ c.back) d.text)
-            ∙ append_assoc (d.front ++ d.back) c.back x ∙ append_assoc d.front d.back (c.back ++ x)
-            ∙ ap (λ (l : List ℕ). d.front ++ (d.back ++ l)) h.text
-            ∙ ap (λ (l : List ℕ). d.front ++ l) (sym (append_assoc d.back h.front h.back));
+        text = ap (λ (l : List ℕ). l ++ x) (c.text ∙ ap (λ (l : List ℕ). l ++ c.back) d.text) ∙ append_assoc
+            (d.front ++ d.back) c.back x ∙ append_assoc d.front d.back (c.back ++ x) ∙ ap (λ (l : List ℕ). d.front
+            ++ (d.back ++ l)) h.text ∙ ap (λ (l : List ℕ). d.front ++ l) (sym (append_assoc d.back h.front h.back));
         first = d.first;
         second = joining_into (λ y. S ⨾ P y) r.0 r.1 (d.back ++ h.front) h.back
             (in_turn d.back h.front d.second h.first) h.second;
@@ -492,28 +468,24 @@ module _ {A : Type 0} (P : A → List ℕ → Type 0) (parts : A → List TreeEv
   unfolding next_at
   next_is c y h f =
       let w : List ℕ = h.second.back in
-      ap (next_at one) (comma_text c y h) ∙ bind_complete _ _ _ _ _
-      (span_complete is_space_or_tab h.front (comma ∷ (w ++ y)) h.first
-      (Apart-cons is_space_or_tab comma (w ++ y) refl))
+      ap (next_at one) (comma_text c y h) ∙ bind_complete _ _ _ _ _ (span_complete is_space_or_tab h.front
+      (comma ∷ (w ++ y)) h.first (Apart-cons is_space_or_tab comma (w ++ y) refl))
       ∙ ahead_any _ _ (comma ∷ (w ++ y)) (omega arith) ∙ ahead_take _ _ _ comma (w ++ y) refl
       ∙ bind_complete _ _ _ _ _ (comma_complete P parts one w y h.second.second f.0 f.1)
 
   -- the events of these members, and the first events of the next one
   pub members_begun : (ms : List A) (front rest : List ℕ) → (Spaces ⨾ IsJoining (λ m. P m ⨾ Comma) ms) front
-      → IsFresh rest
-      → Begins (visited All (members_at parts one (front ++ rest))) (All ms ++ visited parts (one rest))
+      → IsFresh rest → Begins (visited All (members_at parts one (front ++ rest))) (All ms ++ visited parts (one rest))
   unfolding members_at
   members_begun ms front rest h f =
       let on = fresh_after P Comma IsFresh parts one (next_at one) (Consumes-next P parts one reads) again fresh
       comma_part next_is ms h.back rest h.second f in
       let all : front ++ rest ≡ h.front ++ (h.back ++ rest) =
       ap (λ (l : List ℕ). l ++ rest) h.text ∙ append_assoc h.front h.back rest in
-      subst (λ a. Begins (visited All a) (All ms ++ visited parts (one rest)))
-      (sym (ap (members_at parts one) all
+      subst (λ a. Begins (visited All a) (All ms ++ visited parts (one rest))) (sym (ap (members_at parts one) all
       ∙ bind_complete _ _ _ _ _ (span_complete is_space h.front (h.back ++ rest) h.first (no_space _ on.0))
-      ∙ ahead_any _ _ (h.back ++ rest) on.1))
-      (each_begun P Comma IsFresh parts one (next_at one) (Consumes-next P parts one reads) again fresh comma_part
-      next_is ms h.back rest h.second f)
+      ∙ ahead_any _ _ (h.back ++ rest) on.1)) (each_begun P Comma IsFresh parts one
+      (next_at one) (Consumes-next P parts one reads) again fresh comma_part next_is ms h.back rest h.second f)
 
   all_push : (ms init : List A) (last : A) → ms ≡ init ++ last ∷ [] → All ms ≡ All init ++ parts last
   all_push ms init last same = ap All same ∙ sym (append-nil (All (init ++ last ∷ [])))
@@ -521,8 +493,7 @@ module _ {A : Type 0} (P : A → List ℕ → Type 0) (parts : A → List TreeEv
 
   -- the first events of the last member, before any text q that follows
   last_begun : (m : A) (ms : List A) (t q : List ℕ) (h : AreMembersText P (m ∷ ms) t) (es : List TreeEvent)
-      → (o : Parted Comma P (m ∷ ms) h.second.front)
-      → Begins (visited parts (one (o.back ++ (h.second.back ++ q)))) es
+      → (o : Parted Comma P (m ∷ ms) h.second.front) → Begins (visited parts (one (o.back ++ (h.second.back ++ q)))) es
       → Begins (visited All (members_at parts one (t ++ q))) (All o.init ++ es)
   last_begun m ms t q h es o b =
       let rest : List ℕ = o.back ++ (h.second.back ++ q) in
@@ -530,9 +501,8 @@ module _ {A : Type 0} (P : A → List ℕ → Type 0) (parts : A → List TreeEv
       ap (λ (l : List ℕ). l ++ q) (h.text ∙ ap (λ (l : List ℕ). h.front ++ l) (h.second.text
       ∙ ap (λ (l : List ℕ). l ++ h.second.back) o.text)) ∙ simp append_assoc in
       subst (λ (l : List ℕ). Begins (visited All (members_at parts one l)) (All o.init ++ es)) (sym text)
-      (begins_trans _ _ (All o.init ++ es) (members_begun o.init (h.front ++ o.front) rest
-      (in_turn h.front o.front h.first o.each) (fresh o.last o.back (h.second.back ++ q) o.end))
-      (begins_after (All o.init) _ es b))
+      (begins_trans _ _ _ (members_begun _ _ _ (in_turn _ _ h.first o.each) (fresh _ o.back (h.second.back ++ q) o.end))
+      (begins_after _ _ _ b))
 
   -- members, before any text that may follow them
   pub members_whole : ((m : A) (t q : List ℕ) → P m t → IsEnded q
@@ -669,9 +639,8 @@ keyed_whole version m t q h ended =
 item_visited : (version : Version) (s t : List ℕ) → Spaces s → Apart is_space t
     → visited item_events (whole_field_at version item_field (s ++ t)) ≡ visited item_events (item_at version t)
 unfolding whole_field_at bind give
-item_visited version s t each h = ap (visited item_events) (bind_complete (span is_space)
-    (λ _. item_at version >>= λ i. span is_space >>= λ _. give i) (s ++ t) t s (span_complete is_space s t each h))
-    ∙ on (item_at version t)
+item_visited version s t each h = ap (visited item_events) (bind_complete (span is_space) (λ _. item_at version
+    >>= λ i. span is_space >>= λ _. give i) (s ++ t) t s (span_complete is_space s t each h)) ∙ on (item_at version t)
   where
     on : (a : Answer RawItem)
         → visited item_events (and_then a (λ i. span is_space >>= λ _. give i)) ≡ visited item_events a
@@ -692,8 +661,7 @@ visited_whole version item_field i t q first h b =
     ap (λ (l : List ℕ). visited item_events (whole_field_at version item_field l))
     (ap (λ (l : List ℕ). l ++ q) (h.text ∙ ap (λ (l : List ℕ). h.front ++ l) k.text) ∙ simp append_assoc)
     ∙ item_visited version h.front (k.front ++ rest) h.first (item_no space version i k.front rest refl k.first) in
-    subst (λ (l : List TreeEvent). Begins l first) (sym seen)
-    (elim (before_cases (item_events i) first q b)
+    subst (λ (l : List TreeEvent). Begins l first) (sym seen) (elim (before_cases (item_events i) first q b)
     as (λ _. Begins (visited item_events (item_at version (k.front ++ rest))) first) [
       | inl e ↦ subst (Begins (visited item_events (item_at version (k.front ++ rest)))) (sym e.0) (
         [],
@@ -720,14 +688,11 @@ pub visited_open_list : (version : Version) (kind : FieldKind) (raw : RawField k
     × (Begins (visited (events kind) (whole_field_at version kind (t ++ q))) all
     ⊎ IsAccepted version kind ((t ++ codes ";a") ++ codes ")"))
 unfolding whole_field_at
-visited_open_list version item_field i t q all h e =
-    absurd (not_last [] all (bare_item i.bare) i.parameters refl e)
-visited_open_list version list_field ms t q all h e = members_inner (IsMemberText version) entry_events
-    (entry_at version) (Sound-entry version) (entry_complete version) (entry_fresh version) (open_entry version) ms t q
-    all h e
-visited_open_list version dictionary_field ms t q all h e = members_inner (IsDictionaryMemberText version)
-    keyed_events (keyed_at version) (Sound-keyed version) (keyed_complete version) (keyed_fresh version)
-    (open_keyed version) ms t q all h e
+visited_open_list version item_field i t q all h e = absurd (not_last [] all (bare_item i.bare) i.parameters refl e)
+visited_open_list version list_field ms t q all h e =
+    members_inner _ _ _ (Sound-entry _) (entry_complete _) (entry_fresh _) (open_entry _) _ _ _ _ h e
+visited_open_list version dictionary_field ms t q all h e =
+    members_inner _ _ _ (Sound-keyed _) (keyed_complete _) (keyed_fresh _) (open_keyed _) _ _ _ _ h e
 
 -- a text that begins with no blank is not empty
 some_fresh : (t : List ℕ) → IsTrue (begins_with (λ c. not (is_space_or_tab c)) t) → IsFresh t
@@ -744,10 +709,8 @@ list_begun : (version : Version) (ms : List RawMember) (front rest : List ℕ) (
     → Begins (visited (events list_field) (whole_field_at version list_field (front ++ rest)))
     (events list_field ms ++ first)
 unfolding whole_field_at
-list_begun version ms front rest first h fresh b =
-    begins_trans _ _ _ (members_begun (IsMemberText version) entry_events (entry_at version) (Sound-entry version)
-    (entry_complete version) (entry_fresh version) ms front rest h fresh)
-    (begins_after (events list_field ms) (visited entry_events (entry_at version rest)) first b)
+list_begun version ms front rest first h fresh b = begins_trans _ _ _
+    (members_begun _ _ _ (Sound-entry _) (entry_complete _) (entry_fresh _) _ _ _ h fresh) (begins_after _ _ _ b)
 
 keyed_begun : {Q : List ℕ → Type 0} (version : Version) (ms : List (List ℕ × RawMember)) (front rest key : List ℕ)
     (first : List TreeEvent) → IsBeforeMember version dictionary_field ms front → (b : (IsKeyText key ⨾ Q) rest)
@@ -758,12 +721,9 @@ unfolding whole_field_at
 keyed_begun version ms front rest key first h b apart told =
     let read : Begins (visited keyed_events (keyed_at version rest)) (keyed_entry key ∷ first) =
     subst (λ (l : List ℕ). Begins (visited keyed_events (keyed_at version l)) (keyed_entry key ∷ first)) (sym b.text)
-    (keyed_begins version key b.front b.back first b.first apart told) in
-    begins_trans _ _ _ (members_begun (IsDictionaryMemberText version) keyed_events (keyed_at version)
-    (Sound-keyed version) (keyed_complete version) (keyed_fresh version) ms front rest h
-    (subst IsFresh (sym b.text) (keyed_fresh version (key, true_with []) b.front b.back
-    (true_of_key version key b.front b.first))))
-    (begins_after (events dictionary_field ms) _ (keyed_entry key ∷ first) read)
+    (keyed_begins _ _ _ _ _ b.first apart told) in
+    begins_trans _ _ _ (members_begun _ _ _ (Sound-keyed _) (keyed_complete _) (keyed_fresh _) _ _ _ h
+    (subst IsFresh (sym b.text) (keyed_fresh version _ _ _ (true_of_key _ _ _ b.first)))) (begins_after _ _ _ read)
 
 -- a key has ended, and no equals sign follows
 ended_key : (t : List ℕ) → IsFalse (begins_with (λ c. is_key_inner c || eqb c equals_sign) t)
@@ -775,8 +735,7 @@ ended_key (c ∷ t) h = or_parts (is_key_inner c) (eqb c equals_sign) h
 true_told : (version : Version) (t : List ℕ) → Apart (byte equals_sign) t
     → Begins (visited member_events (member_value_at version t)) (begins_item ∷ bare_item (boolean true) ∷ [])
 unfolding member_value_at led bind give
-true_told version t apart =
-    subst (λ a. Begins (visited member_events a) (begins_item ∷ bare_item (boolean true) ∷ []))
+true_told version t apart = subst (λ a. Begins (visited member_events a) (begins_item ∷ bare_item (boolean true) ∷ []))
     (sym (branch_past _ _ _ t apart)) (on (parameters_at version t))
   where
     on : (a : Answer RawParameters)

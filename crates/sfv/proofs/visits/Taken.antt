@@ -1,35 +1,20 @@
 -- An error with an index: all events before the fault were taken.
-use Rattle.std.proofs.Common.{◌≡◌, ℕ, ◌≤◌, true, false, List, [], ◌∷◌, ◌++◌, length, drop, Option, Some, None, Ok, Err}
-use Rattle.std.proofs.Common.{refl, sym, ap, subst, ◌∙◌, inl, inr}
-use Rattle.std.specs.Prelude.{⊤, MatchOption, is_some, flat_map}
-use Rattle.std.proofs.lemmas.Bool.{cases_Bool}
-use Rattle.sfv_spec.specs.declared.version.Version.{Version}
-use Rattle.sfv_spec.specs.Grammar.{IsKeyText, IsBareText, IsValueText}
-use Rattle.sfv_spec.specs.Events.{TreeEvent, inner_item_events}
-use Rattle.std.specs.List.{FoldsTo}
-use Rattle.sfv_spec.specs.declared.error_kind.ErrorKind.TheVariants.{TrailingComma, UnterminatedInnerList}
-use Rattle.sfv_base.specs.declared.error.Error.{Error}
-use Rattle.sfv_spec.specs.declared.error_kind.ErrorKind.{ErrorKind}
-use Rattle.sfv_base.specs.Errors.{kind_of, index_of, error_of}
-use Rattle.sfv_model.specs.Judgements.{Reached, Sound, Mute, Quiet}
+use Rattle.std.proofs.Common.{◌≡◌, ℕ, ◌≤◌, false, List, [], ◌∷◌, ◌++◌, length, drop, Option, Some, None, Ok, Err, refl}
+use Rattle.std.proofs.Common.{sym, ap, subst, ◌∙◌, inl, inr, MatchOption, is_some, flat_map}
+use Rattle.std.{specs.List.FoldsTo, specs.Prelude.⊤, proofs.lemmas.Bool.cases_Bool}
+use Rattle.sfv_spec.specs.{Events.{TreeEvent, inner_item_events}, Grammar.{IsKeyText, IsBareText}}
+use Rattle.sfv_model.specs.{Bare.bare_at, Fields.comma_at, Items.{key_at, parameter_at}}
+use Rattle.sfv_model.specs.{Judgements.{Reached, Sound, Mute, Quiet}, Members.inner_items_at}
 use Rattle.sfv_model.specs.Reader.{Answer, Reader, Fault, after_events, visited, and_then, bind, ◌>>=◌, ahead, fail}
-use Rattle.sfv_model.specs.Reader.{first, give, at_reach}
-use Rattle.sfv_model.specs.Bare.{bare_at}
-use Rattle.sfv_model.specs.Items.{key_at, value_at, parameter_at}
-use Rattle.sfv_model.specs.Members.{inner_items_at}
-use Rattle.sfv_model.specs.Fields.{comma_at}
-use Rattle.sfv_model.specs.Visits.{Visited}
+use Rattle.sfv_model.specs.{Reader.{first, give, at_reach}, Visits.Visited}
+use Rattle.sfv_model.proofs.{Types.{Version, UnterminatedInnerList, ErrorKind}, sound.Bare.Sound-bare}
 use Rattle.sfv_model.proofs.sound.Combinators.{Sound-give, Sound-fail, Sound-branch, Sound-ahead, Sound-bind}
-use Rattle.sfv_model.proofs.sound.Combinators.{Sound-span, Sound-back, Found, Reads}
-use Rattle.sfv_model.proofs.sound.Bare.{Sound-bare}
-use Rattle.sfv_model.proofs.sound.Items.{Sound-key, Sound-value}
-use Rattle.sfv.specs.declared.parser.cursor.Cursor.{Cursor}
-use Rattle.sfv.specs.parser.Cursor.{kept, input, version, rest, located, IsErrorOf}
-use Rattle.sfv.specs.parser.Members.{item_delimiter_at, member_delimiter_at}
-use Rattle.sfv.specs.parser.Visits.{TookAll}
-use Rattle.sfv.proofs.reads.Errors.{ErrorOf-here}
-use Rattle.sfv.proofs.reads.Delimiters.{items_none}
-use Rattle.sfv.specs.Memory.{IsRefusal}
+use Rattle.sfv_model.proofs.sound.{Combinators.{Sound-span, Sound-back, Found, Reads}, Items.{Sound-key, Sound-value}}
+use Rattle.sfv_base.specs.{Errors.{kind_of, index_of, error_of}, declared.error.Error.Error}
+use Rattle.sfv.specs.{Memory.IsRefusal, declared.parser.cursor.Cursor.Cursor}
+use Rattle.sfv.specs.parser.Cursor.{input, version, rest, located, IsErrorOf}
+use Rattle.sfv.specs.parser.{Members.{item_delimiter_at, member_delimiter_at}, Visits.TookAll}
+use Rattle.sfv.proofs.reads.{Delimiters.items_none, Errors.ErrorOf-here}
 
 -- one run after another
 pub runs_on : {S : Type 0} (takes : S → TreeEvent → S → Type 0) (es fs : List TreeEvent) (from middle to : S)
@@ -80,8 +65,7 @@ took_part takes parts whole i e f g t b from to eq h = took_after takes parts wh
 pub took_same : {A S : Type 0} (takes : S → TreeEvent → S → Type 0) (parts whole : A → List TreeEvent) (i : List ℕ)
     (e : Error) (a b : Answer A) (from to : S) → b ≡ a → IsErrorOf i e a × TookAll takes parts e a from to
     → IsErrorOf i e b × TookAll takes whole e b from to
-took_same takes parts whole i e a b from to eq h = took_after takes parts whole i e a b [] from from to
-    (λ x k. eq ∙ k) refl h
+took_same takes parts whole i e a b from to eq h = took_after _ _ _ _ _ _ _ [] _ _ _ (λ x k. eq ∙ k) refl h
 
 -- no event comes before a fault of it
 abbrev pub IsQuiet : {A : Type 0} → Answer A → Type 0
@@ -138,45 +122,29 @@ bare_quiet version t = is_quiet (bare_at version) (silent (bare_at version) (IsB
 
 pub parameter_quiet : (version : Version) (t : List ℕ) → IsQuiet (parameter_at version t)
 unfolding parameter_at
-parameter_quiet version t = is_quiet (parameter_at version) (Sound-branch _ _ _ (λ _ _. ⊤) (λ _ es. es ≡ []) Quiet
-    (λ c e. Sound-span _ _ (λ _ _. ⊤) (λ _ es. es ≡ []) Quiet
-    (λ s each. Sound-bind (λ _ _. ⊤) key_at _ (λ _ _. ⊤) (λ _ es. es ≡ []) Quiet (silent key_at IsKeyText Sound-key)
-    (λ u key k. Sound-bind (λ _ _. ⊤) (value_at version) _ (λ _ _. ⊤) (λ _ es. es ≡ []) Quiet
-    (silent (value_at version) (IsValueText version) (Sound-value version))
-    (λ w v k. Sound-give _ (λ _ _. ⊤) (λ _ es. es ≡ []) Quiet tt))))
-    (Sound-give _ (λ _ _. ⊤) (λ _ es. es ≡ []) Quiet tt)) t
+parameter_quiet version t = is_quiet _ (Sound-branch _ _ _ _ _ _ (λ c e. Sound-span _ _ _ _ _
+    (λ s each. Sound-bind _ _ _ _ _ _ (silent _ _ Sound-key) (λ u key k. Sound-bind _ _ _ _ _ _
+    (silent _ _ (Sound-value _)) (λ w v k. Sound-give _ _ _ _ tt)))) (Sound-give _ _ _ _ tt)) _
 
 silent_give : {A : Type 0} (v : A) → Silent (give v)
 silent_give v = Sound-give v (λ _ _. ⊤) (λ _ es. es ≡ []) Quiet tt
 
 pub item_delimiter_quiet : (t : List ℕ) → IsQuiet (item_delimiter_at t)
 unfolding item_delimiter_at
-item_delimiter_quiet t = is_quiet item_delimiter_at (Sound-branch _ _ _ (λ _ _. ⊤) (λ _ es. es ≡ []) Quiet
-    (λ c e. Sound-span _ _ (λ _ _. ⊤) (λ _ es. es ≡ []) Quiet
-    (λ s each. Sound-branch _ _ _ (λ _ _. ⊤) (λ _ es. es ≡ []) Quiet (λ d k. silent_give false) (silent_give true)))
-    (Sound-branch _ _ _ (λ _ _. ⊤) (λ _ es. es ≡ []) Quiet (λ d k. silent_give false)
-    (Sound-ahead _ _ _ (λ _ _. ⊤) (λ _ es. es ≡ []) Quiet
-    (Sound-fail _ (λ _ _. ⊤) (λ _ es. es ≡ []) Quiet [] refl)
-    (Sound-fail _ (λ _ _. ⊤) (λ _ es. es ≡ []) Quiet [] refl)))) t
+item_delimiter_quiet t = is_quiet _ (Sound-branch _ _ _ _ _ _ (λ c e. Sound-span _ _ _ _ _
+    (λ s each. Sound-branch _ _ _ _ _ _ (λ d k. silent_give _) (silent_give _))) (Sound-branch _ _ _ _ _ _
+    (λ d k. silent_give _) (Sound-ahead _ _ _ _ _ _ (Sound-fail _ _ _ _ [] refl) (Sound-fail _ _ _ _ [] refl)))) _
 
 comma_silent : Sound comma_at (Found (λ (_ : Unit {0}) _. ⊤)) (λ _ es. es ≡ []) Quiet
 unfolding comma_at
-comma_silent = Sound-branch _ _ _ (Found (λ _ _. ⊤)) (λ _ es. es ≡ []) Quiet
-    (λ c e. Sound-span _ _ (λ o s. Found (λ _ _. ⊤) o (c ∷ s)) (λ _ es. es ≡ []) Quiet
-    (λ s each. Sound-ahead _ _ _ (λ o u. Found (λ _ _. ⊤) o (c ∷ (s ++ u))) (λ _ es. es ≡ []) Quiet
-    (Sound-give (Some tt) _ (λ _ es. es ≡ []) Quiet tt) (Sound-give None _ (λ _ es. es ≡ []) Quiet tt)))
-    (Sound-give None (Found (λ _ _. ⊤)) (λ _ es. es ≡ []) Quiet tt)
+comma_silent = Sound-branch _ _ _ _ _ _ (λ c e. Sound-span _ _ _ _ _
+    (λ s each. Sound-ahead _ _ _ _ _ _ (Sound-give (Some tt) _ _ _ tt) (Sound-give _ _ _ _ tt))) (Sound-give _ _ _ _ tt)
 
 pub member_delimiter_quiet : (t : List ℕ) → IsQuiet (member_delimiter_at t)
 unfolding member_delimiter_at
-member_delimiter_quiet t = is_quiet member_delimiter_at (Sound-span _ _ (λ _ _. ⊤) (λ _ es. es ≡ []) Quiet
-    (λ s each. Sound-ahead _ _ _ (λ _ _. ⊤) (λ _ es. es ≡ []) Quiet
-    (Sound-ahead _ _ _ (λ _ _. ⊤) (λ _ es. es ≡ []) Quiet
-    (Sound-bind (λ _ _. ⊤) _ _ (λ _ _. ⊤) (λ _ es. es ≡ []) Quiet
-    (Sound-back TrailingComma comma_at (λ _ _. ⊤) (λ _ es. es ≡ []) Quiet refl refl comma_silent)
-    (λ u v k. silent_give true))
-    (Sound-fail _ (λ _ _. ⊤) (λ _ es. es ≡ []) Quiet [] refl))
-    (silent_give false))) t
+member_delimiter_quiet t = is_quiet _ (Sound-span _ _ _ _ _ (λ s each. Sound-ahead _ _ _ _ _ _ (Sound-ahead _ _ _ _ _ _
+    (Sound-bind _ _ _ _ _ _ (Sound-back _ _ _ _ _ refl refl comma_silent) (λ u v k. silent_give _))
+    (Sound-fail _ _ _ _ [] refl)) (silent_give _))) _
 
 pub no_items_quiet : (version : Version) (t : List ℕ) → is_some (first t) ≡ false → IsQuiet (inner_items_at version t)
 unfolding inner_items_at ahead fail
@@ -186,12 +154,9 @@ no_items_quiet version (c ∷ t) h f e = absurd cc
 
 -- the end right after the opening parenthesis
 pub no_items_visited : {S : Type 0} (takes : S → TreeEvent → S → Type 0) (p : Cursor) (from : S)
-    → is_some (first (rest p)) ≡ false
-    → IsErrorOf (input p) (error_of UnterminatedInnerList (Some p.index)) (inner_items_at (version p) (rest p))
-    × TookAll takes (λ items. flat_map inner_item_events items) (error_of UnterminatedInnerList (Some p.index))
-    (inner_items_at (version p) (rest p)) from from
-no_items_visited takes p from none = took_none takes (λ items. flat_map inner_item_events items) (input p)
-    (error_of UnterminatedInnerList (Some p.index)) (inner_items_at (version p) (rest p)) from
-    (no_items_quiet (version p) (rest p) none)
-    (ErrorOf-here UnterminatedInnerList p (kept p) (inner_items_at (version p) (rest p)) refl
-    (items_none (version p) (rest p) none))
+    → is_some (first (rest p)) ≡ false → IsErrorOf (input p) (error_of UnterminatedInnerList (Some p.index))
+    (inner_items_at (version p) (rest p)) × TookAll takes (λ items. flat_map inner_item_events items)
+    (error_of UnterminatedInnerList (Some p.index)) (inner_items_at (version p) (rest p)) from from
+no_items_visited takes p from none = took_none takes (λ items. flat_map inner_item_events items)
+    (input p) (error_of UnterminatedInnerList (Some p.index)) (inner_items_at (version p) (rest p)) from
+    (no_items_quiet (version p) (rest p) none) (ErrorOf-here _ p _ _ refl (items_none (version p) _ none))

@@ -1,6 +1,6 @@
 use Rattle.std.proofs.Common.{arith}
-use Rattle.sfv_base64.proofs.decode.Goals as goal
 use Rattle.sfv_base64.proofs.Contents.{ok_parsed, err_rejected}
+use Rattle.sfv_base64.proofs.decode.Goals as goal
 
 pub returns-clause-parsed : goal.returns-clause-parsed
 returns-clause-parsed c =

@@ -1,6 +1,4 @@
-use Rattle.std.proofs.Common.{arith, refl}
-use Rattle.std.proofs.lemmas.Bool.Decides.{nat_tests}
-use Rattle.std.proofs.lemmas.List.{nil_from_length}
+use Rattle.std.proofs.{Common.{arith, refl}, lemmas.Bool.Decides.nat_tests, lemmas.List.nil_from_length}
 use Rattle.sfv_spec.specs.Base64.{base64_text}
 use Rattle.sfv_base64.proofs.encode.Goals as goal
 

@@ -1,7 +1,6 @@
 use Rattle.std.specs.Cow.{cow_slice_items}
 use Rattle.sfv_http_fields.proofs.Needs.{joining_needs, text_needs}
-use Rattle.sfv_digests.specs.Verifying.{name_of}
-use Rattle.sfv_digests.proofs.Headers.{named_text, verified_in, named_lines}
+use Rattle.sfv_digests.{specs.Verifying.name_of, proofs.Headers.{named_text, verified_in, named_lines}}
 use Rattle.sfv_digests.proofs.verify_digest_in.Goals as goal
 
 pub returns-in-Some-clause-verified : goal.returns-in-Some-clause-verified

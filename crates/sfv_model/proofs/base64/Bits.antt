@@ -1,12 +1,8 @@
 -- The bits of values and of bytes.
 use Rattle.std.proofs.Common.{◌≡◌, ℕ, suc, ◌<◌, ◌+◌, ◌*◌, ◌/◌, ◌%◌, List, [], ◌∷◌, ◌++◌, length, refl, ◌∙◌, Bool, true}
-use Rattle.std.proofs.Common.{append_assoc, arith}
-use Rattle.std.specs.Prelude.{nat_lt, flat_map}
-use Rattle.std.specs.List.{list_all}
-use Rattle.std.proofs.lemmas.Bool.{and_parts, ltb-true, lt-ltb}
-use Rattle.std.proofs.lemmas.List.{append-nil}
-use Rattle.sfv_spec.specs.Values.{is_byte}
-use Rattle.sfv_spec.specs.Base64.{bits}
+use Rattle.std.proofs.Common.{append_assoc, arith, nat_lt, flat_map, ltb-true, lt-ltb, append-nil}
+use Rattle.std.{specs.List.list_all, proofs.lemmas.Bool.and_parts}
+use Rattle.sfv_spec.specs.{Base64.bits, Values.is_byte}
 use Rattle.sfv_model.specs.Content.{bytes_from, most_padding}
 
 abbrev pub is_value : ℕ → Bool

@@ -1,25 +1,16 @@
 -- What a content stands for, and where one that stands for nothing is at fault.
-use Rattle.std.proofs.lemmas.Bool.Decides.{nat_tests}
 use Rattle.std.proofs.Common.{◌≡◌, ℕ, zero, suc, ◌<◌, ◌≤◌, ◌+◌, ◌-◌, ◌*◌, ◌%◌, List, [], ◌∷◌, ◌++◌, length, map, take}
 use Rattle.std.proofs.Common.{replicate, refl, sym, ◌∙◌, ap, subst, Bool, true, false, append_assoc, arith, inl, inr}
-use Rattle.std.proofs.Common.{Some, None}
-use Rattle.std.specs.Prelude.{◌==◌, not, ◌&&◌, flat_map}
-use Rattle.std.specs.List.{list_all}
-use Rattle.std.proofs.lemmas.Bool.{and_parts, eqb-true, eqb-false, not-true, both_ways, eq-eqb, ne_eqb, cases_Bool}
-use Rattle.std.proofs.lemmas.List.{length-append, length-map, length-replicate, append-nil, nil_from_length, take_at}
-use Rattle.std.proofs.lemmas.List.{length-take-le}
-use Rattle.std.proofs.lemmas.List.Folds.{list_all-append}
-use Rattle.sfv_spec.proofs.Lengths.{length-all_bits}
-use Rattle.sfv_spec.proofs.Marks.{colon, equals_sign, upper_a, is_symbol}
-use Rattle.sfv_spec.specs.Texts.{IsLongestBeginning}
-use Rattle.sfv_spec.specs.Base64.{symbol, bits, IsBase64Text}
-use Rattle.sfv_spec.proofs.Marks.{BeginsBase64}
-use Rattle.sfv_spec.proofs.Settled.{NotBegun}
-use Rattle.sfv_spec.proofs.Bytes.{bytes_settle}
-use Rattle.sfv_model.specs.Content.{symbol_value, most_padding, valid_from, values_in, bytes_from, bytes_of}
-use Rattle.sfv_model.specs.Content.{fault_place}
+use Rattle.std.proofs.Common.{Some, None, ◌==◌, not, ◌&&◌, flat_map, eqb-true, eq-eqb, ne_eqb, length-append}
+use Rattle.std.{proofs.Common.{append-nil, take_at, length-take-le}, specs.List.list_all}
+use Rattle.std.proofs.lemmas.Bool.{and_parts, eqb-false, not-true, both_ways, cases_Bool, Decides.nat_tests}
+use Rattle.std.proofs.lemmas.List.{length-map, length-replicate, nil_from_length, Folds.list_all-append}
+use Rattle.sfv_spec.specs.{Base64.{symbol, bits, IsBase64Text}, Texts.IsLongestBeginning}
+use Rattle.sfv_spec.proofs.{Bytes.bytes_settle, Lengths.length-all_bits}
+use Rattle.sfv_spec.proofs.{Marks.{colon, equals_sign, upper_a, is_symbol, BeginsBase64}, Settled.NotBegun}
 use Rattle.sfv_model.specs.Claims.{GivesTheBytes}
-use Rattle.sfv_model.proofs.base64.Bits.{spare_of, same_bits, spare_length, bytes_within}
+use Rattle.sfv_model.specs.Content.{symbol_value, most_padding, valid_from, values_in, bytes_from, bytes_of}
+use Rattle.sfv_model.{specs.Content.fault_place, proofs.base64.Bits.{spare_of, same_bits, spare_length, bytes_within}}
 use Rattle.sfv_model.proofs.base64.Shape.{shape_of, shape_valid, are_symbols, are_values, symbols-values}
 use Rattle.sfv_model.proofs.base64.Shape.{values-symbols, valid_local, valid_run, padding-padded, padding-nil}
 
@@ -28,8 +19,7 @@ few_spare n = grind (arith, nat_tests)
 
 -- symbols and padding that are Base64
 pub well_formed : (run : List ℕ) (padding : ℕ) → list_all is_symbol run ≡ true → padding ≤ most_padding (length run)
-    → ¬ (length run % 4 ≡ 1)
-    → IsBase64Text (bytes_from (map symbol_value run)) (run ++ replicate padding equals_sign)
+    → ¬ (length run % 4 ≡ 1) → IsBase64Text (bytes_from (map symbol_value run)) (run ++ replicate padding equals_sign)
 well_formed run padding h most one =
     let vs : List ℕ = map symbol_value run in
     let same : length vs ≡ length run = length-map run symbol_value in
@@ -53,14 +43,11 @@ pub counted : (bytes t : List ℕ) (h : IsBase64Text bytes t)
     → (¬ (length h.values % 4 ≡ 1)) × (h.padding ≤ most_padding (length h.values))
 counted bytes t h =
     let total : 6 * length h.values ≡ 8 * length bytes + length h.spare =
-    sym (length-all_bits 6 h.values) ∙ ap (length {A = Bool}) h.same_bits
-    ∙ length-append (flat_map (bits 8) bytes) h.spare ∙ ap (λ n. n + length h.spare) (length-all_bits 8 bytes) in
+    sym (length-all_bits _ _) ∙ ap (length {A = Bool}) h.same_bits
+    ∙ length-append (flat_map (bits 8) bytes) h.spare ∙ ap (λ n. n + length h.spare) (length-all_bits _ _) in
     let n : ℕ = length h.values in
     let few = h.few_spare in
-    let padded = h.padded in (
-      λ e. absurd (omega (arith, total, e, few)),
-      grind (arith, nat_tests, total, few, padded),
-    )
+    let padded = h.padded in (λ e. absurd (omega (arith, total, e, few)), grind (arith, nat_tests, total, few, padded))
 
 no_symbol : (n : ℕ) → NotBegun is_symbol (replicate n equals_sign ++ [])
 unfolding is_symbol
@@ -124,7 +111,7 @@ text_accepted bytes content h =
     let n : (length (values_in content) % 4 == 1) ≡ false = ne_eqb _ 1 (λ e. c.0 (rw r.1 at e)) in
     rw (eq-eqb (valid_from 0 content) (length content) r.0, n) refl
 
-one_meaning : (x y content : List ℕ) → IsBase64Text x content → IsBase64Text y content → x ≡ y
+pub one_meaning : (x y content : List ℕ) → IsBase64Text x content → IsBase64Text y content → x ≡ y
 one_meaning x y content h k = let same = bytes_settle x y content content (colon ∷ []) (colon ∷ []) h k refl refl
     refl in same.values
 

@@ -1,19 +1,13 @@
 -- A content of symbols alone, of which one is left over.
 use Rattle.std.proofs.Common.{◌≡◌, ℕ, ◌≤◌, ◌+◌, ◌-◌, ◌%◌, List, [], ◌∷◌, ◌++◌, length, replicate, refl, sym, ◌∙◌, ap}
-use Rattle.std.proofs.Common.{Bool, true, arith, inl, inr, None}
-use Rattle.std.specs.Prelude.{◌==◌}
+use Rattle.std.proofs.Common.{Bool, true, arith, inl, inr, None, ◌==◌, eqb-true, true≢false, length-append, append-nil}
 use Rattle.std.specs.List.{list_all}
-use Rattle.std.proofs.lemmas.Bool.{and_parts, eqb-true, eqb-false, cases_Bool, true≢false}
-use Rattle.std.proofs.lemmas.List.{length-append, append-nil, length-replicate, nil_from_length}
-use Rattle.sfv_spec.proofs.Marks.{equals_sign, is_symbol}
-use Rattle.sfv_spec.specs.Texts.{RunOf}
-use Rattle.sfv_spec.specs.Classes.{is_one_of}
-use Rattle.sfv_spec.specs.Base64.{symbols}
-use Rattle.sfv_spec.proofs.Parts.{implied}
-use Rattle.sfv_model.specs.Content.{most_padding, valid_from, bytes_of, fault_place}
-use Rattle.sfv_model.specs.Claims.{LeavesOneOver}
-use Rattle.sfv_model.proofs.base64.Shape.{shape_of, shape_valid, symbol_below, valid_run, padding-nil}
+use Rattle.std.proofs.lemmas.{Bool.{and_parts, eqb-false, cases_Bool}, List.{length-replicate, nil_from_length}}
+use Rattle.sfv_spec.specs.{Base64.symbols, Classes.is_one_of, Texts.RunOf}
+use Rattle.sfv_spec.proofs.{Marks.{equals_sign, is_symbol}, Parts.implied}
+use Rattle.sfv_model.specs.{Claims.LeavesOneOver, Content.{most_padding, valid_from, bytes_of, fault_place}}
 use Rattle.sfv_model.proofs.base64.Contents.{gives_the_bytes, well_formed, lone_symbol}
+use Rattle.sfv_model.proofs.base64.Shape.{shape_of, shape_valid, symbol_below, valid_run, padding-nil}
 use Rattle.sfv_model.proofs.texts.Ranges.{run_weaker}
 
 -- the two forms of the class

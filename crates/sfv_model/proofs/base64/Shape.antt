@@ -1,14 +1,9 @@
 -- A text is symbols, padding, and what no Base64 text goes on with.
-use Rattle.std.proofs.lemmas.Bool.Decides.{nat_tests}
 use Rattle.std.proofs.Common.{◌≡◌, ℕ, zero, suc, ◌<◌, ◌≤◌, ◌+◌, List, [], ◌∷◌, ◌++◌, length, map, take, replicate, refl}
-use Rattle.std.proofs.Common.{sym, ◌∙◌, ap, Bool, true, arith, ◌⊎◌, inl, inr}
-use Rattle.std.specs.Prelude.{◌==◌}
-use Rattle.sfv_spec.proofs.Marks.{equals_sign, is_symbol}
-use Rattle.std.specs.List.{list_all}
-use Rattle.std.proofs.lemmas.Bool.{and_parts, eqb-true, ltb-true, cases_Bool}
+use Rattle.std.proofs.Common.{sym, ◌∙◌, ap, Bool, true, arith, ◌⊎◌, inl, inr, ◌==◌, eqb-true, ltb-true}
+use Rattle.std.{specs.List.list_all, proofs.lemmas.Bool.{and_parts, cases_Bool}, proofs.lemmas.Bool.Decides.nat_tests}
 use Rattle.sfv_spec.specs.Base64.{symbol}
-use Rattle.sfv_spec.proofs.Settled.{NotBegun}
-use Rattle.sfv_spec.proofs.Parts.{implied}
+use Rattle.sfv_spec.proofs.{Marks.{equals_sign, is_symbol}, Parts.implied, Settled.NotBegun}
 use Rattle.sfv_model.specs.Content.{symbol_value, most_padding, padding_in, valid_from, values_in}
 use Rattle.sfv_model.proofs.base64.Bits.{is_value}
 
@@ -94,8 +89,7 @@ padding-padded (suc k) zero [] h e = refl
 padding-padded (suc k) zero (c ∷ rest) h (inl e) = absurd (omega (arith, e))
 padding-padded (suc k) zero (c ∷ rest) h (inr e) = rw e refl
 padding-padded (suc k) (suc n) rest h e = ap suc (padding-padded k n rest (omega arith) (elim e [
-  | inl f ↦
-      inl (omega (arith, f))
+  | inl f ↦ inl (omega (arith, f))
   | inr f ↦ inr f
 ]))
 
@@ -184,10 +178,7 @@ pub shape_valid : (n : ℕ) (t : List ℕ) (s : Shape n t)
     → (valid_from n t ≡ length s.run + s.padding) × (values_in t ≡ map symbol_value s.run)
 shape_valid n t s =
     let v = valid_run n s.run (replicate s.padding equals_sign ++ s.rest) s.symbols s.apart in
-    rw (s.text) (
-      simp (v.0, padding-padded (most_padding (n + length s.run)) s.padding s.rest s.within s.ends),
-      v.1,
-    )
+    rw (s.text) (simp (v.0, padding-padded (most_padding (n + length s.run)) s.padding s.rest s.within s.ends), v.1)
 
 -- an answer rests on the bytes up to its place, and on the one that stands there
 padding_local : (k : ℕ) (t : List ℕ) (m : ℕ) (more : List ℕ) → padding_in k t < m → m ≤ length t

@@ -1,31 +1,22 @@
 -- A text of a bare item is read, as that bare item.
-use Rattle.std.proofs.lemmas.Bool.Decides.{nat_tests}
 use Rattle.std.proofs.Common.{◌≡◌, ℕ, ◌≤◌, Bool, true, false, eqb, ℤ, List, [], ◌∷◌, ◌++◌, length, Ok, refl, sym, ap}
-use Rattle.std.proofs.Common.{◌∙◌, arith, inl, inr}
-use Rattle.std.specs.Prelude.{◌⊎◌, IsTrue}
-use Rattle.std.specs.List.{list_all}
-use Rattle.std.proofs.lemmas.Bool.{eqb-true, or_left, or_from, ne_eqb, and_parts, true≢false, cases_Bool}
-use Rattle.sfv_spec.proofs.Marks.{double_quote, percent_sign, digit_zero, colon, minus_sign, dot, digit_one}
-use Rattle.sfv_spec.proofs.Marks.{question_mark, at_sign, is_digit, minus_text}
-use Rattle.sfv_spec.specs.Texts.{begins_with, RunOf}
-use Rattle.sfv_spec.specs.Classes.{is_token, is_token_start, is_token_inner}
+use Rattle.std.proofs.Common.{◌∙◌, arith, inl, inr, ◌⊎◌, IsTrue, eqb-true, ne_eqb, true≢false}
+use Rattle.std.proofs.lemmas.Bool.{or_left, or_from, and_parts, cases_Bool, Decides.nat_tests}
+use Rattle.sfv_spec.specs.{Classes.{is_token, is_token_start, is_token_inner}, Grammar.{IsBareText, boolean_text}}
+use Rattle.sfv_spec.specs.{Numbers.{IsIntegerText, IsDecimalText}, Texts.{begins_with, RunOf}}
 use Rattle.sfv_spec.specs.Values.{BareValue, integer, decimal, string, token, byte_sequence, boolean, date}
 use Rattle.sfv_spec.specs.Values.{display_string}
-use Rattle.sfv_spec.specs.declared.version.Version.{Version}
-use Rattle.sfv_spec.specs.declared.version.Version.TheVariants.{Rfc9651}
-use Rattle.sfv_spec.specs.Numbers.{IsIntegerText, IsDecimalText}
-use Rattle.sfv_spec.specs.Grammar.{IsBareText, boolean_text}
+use Rattle.sfv_spec.proofs.Marks.{double_quote, percent_sign, digit_zero, colon, minus_sign, dot, question_mark}
+use Rattle.sfv_spec.proofs.Marks.{at_sign, is_digit, minus_text}
 use Rattle.sfv_spec.proofs.Parts.{no_digit, no_point, integer_text, decimal_text}
-use Rattle.sfv_model.specs.Reader.{Apart, byte, give, ◌>>=◌, branch, ahead}
-use Rattle.sfv_model.specs.Content.{bytes_at}
-use Rattle.sfv_model.specs.Quoted.{string_at, IsDisplayEnd}
 use Rattle.sfv_model.specs.Bare.{is_number_start, number_at, boolean_at, token_at, date_at, quoted_at, bare_at}
-use Rattle.sfv_model.proofs.sound.Combinators.{run_head}
+use Rattle.sfv_model.specs.{Content.bytes_at, Quoted.{string_at, IsDisplayEnd}}
+use Rattle.sfv_model.specs.Reader.{Apart, byte, give, ◌>>=◌, branch, ahead}
+use Rattle.sfv_model.proofs.{Types.{Version, Rfc9651}, complete.ByteSequences.bytes_complete}
 use Rattle.sfv_model.proofs.complete.Combinators.{Apart-cons, branch_past, branch_take, bind_complete, back_complete}
 use Rattle.sfv_model.proofs.complete.Combinators.{span_complete}
-use Rattle.sfv_model.proofs.complete.ByteSequences.{bytes_complete}
-use Rattle.sfv_model.proofs.complete.Quoted.{string_complete, display_complete}
 use Rattle.sfv_model.proofs.complete.Numbers.{goes_on, digit_apart, integer_complete, decimal_complete}
+use Rattle.sfv_model.proofs.{complete.Quoted.{string_complete, display_complete}, sound.Combinators.run_head}
 
 -- ---- how the readers of bare items are chosen, by the first byte
 
@@ -129,9 +120,8 @@ quoted_complete s t q h = branch_take _ _ _ percent_sign (double_quote ∷ (t ++
 boolean_complete : (version : Version) (b : Bool) (q : List ℕ)
     → bare_at version (boolean_text b ++ q) ≡ Ok (boolean b, q)
 unfolding boolean_at give
-boolean_complete version true q = bare_boolean version (digit_one ∷ q)
-    ∙ branch_past _ _ _ (digit_one ∷ q) (Apart-cons (byte digit_zero) digit_one q refl)
-    ∙ branch_take _ _ _ digit_one q refl
+boolean_complete version true q = bare_boolean _ _ ∙ branch_past _ _ _ _ (Apart-cons _ _ _ refl) ∙ branch_take _ _ _ _ _
+    refl
 boolean_complete version false q = bare_boolean version (digit_zero ∷ q) ∙ branch_take _ _ _ digit_zero q refl
 
 token_complete : (version : Version) (s q : List ℕ) → IsTrue (is_token s) → Apart is_token_inner q
@@ -139,9 +129,8 @@ token_complete : (version : Version) (s q : List ℕ) → IsTrue (is_token s) �
 unfolding token_at give
 token_complete version [] q h a = absurd (true≢false (sym h))
 token_complete version (c ∷ s) q h a =
-    let p = and_parts (is_token_start c) (list_all is_token_inner s) h in
-    bare_token_start version c (s ++ q) p.0 ∙ branch_take _ _ _ c (s ++ q) p.0
-    ∙ bind_complete _ _ _ _ _ (span_complete is_token_inner s q p.1 a)
+    let p = and_parts _ _ h in
+    bare_token_start _ _ _ p.0 ∙ branch_take _ _ _ _ _ p.0 ∙ bind_complete _ _ _ _ _ (span_complete _ _ _ p.1 a)
 
 -- how a number begins
 pub front : (negative : Bool) (whole q : List ℕ) → 1 ≤ length whole → RunOf is_digit whole

@@ -1,13 +1,10 @@
 -- What a reader gives on a text of its kind, by what follows.
 use Rattle.std.proofs.Common.{◌≡◌, ℕ, zero, suc, ◌<◌, ◌≤◌, Bool, true, false, List, [], ◌∷◌, ◌++◌, length, Option, Some}
 use Rattle.std.proofs.Common.{Ok, refl, ap, ◌∙◌, arith}
-use Rattle.sfv_spec.specs.Texts.{RunOf}
-use Rattle.sfv_spec.specs.Events.{TreeEvent}
+use Rattle.sfv_spec.specs.{Events.TreeEvent, Texts.RunOf, declared.error_kind.ErrorKind.ErrorKind}
 use Rattle.sfv_model.specs.Reader.{Apart, any, Reader, give, ◌>>=◌, bind, led_answer, led, branch, ahead, at_start}
 use Rattle.sfv_model.specs.Reader.{back, up_to, span}
-use Rattle.sfv_model.proofs.sound.Combinators.{run_head, run_tail}
-use Rattle.sfv_model.proofs.local.Combinators.{untaken}
-use Rattle.sfv_spec.specs.declared.error_kind.ErrorKind.{ErrorKind}
+use Rattle.sfv_model.proofs.{local.Combinators.untaken, sound.Combinators.{run_head, run_tail}}
 
 pub Apart-nil : (class : ℕ → Bool) → Apart class []
 Apart-nil class = record { apart = λ c e. absurd cc }
@@ -50,11 +47,9 @@ pub up_to_taken : (class : ℕ → Bool) (n : ℕ) (cs q : List ℕ) → RunOf c
 unfolding up_to give bind
 up_to_taken class zero [] q each le h = refl
 up_to_taken class zero (c ∷ cs) q each le h = absurd (omega arith)
-up_to_taken class (suc n) [] q each le h = branch_past class (λ c. up_to class n
-    >>= λ cs. give (c ∷ cs)) (give []) q (h (omega arith))
-up_to_taken class (suc n) (c ∷ cs) q each le h =
-    branch_take class (λ c. up_to class n >>= λ cs. give (c ∷ cs)) (give []) c (cs ++ q) (run_head class c cs each)
-    ∙ rw (up_to_taken class n cs q (run_tail class c cs each) (omega arith) (λ lt. h (omega arith))) refl
+up_to_taken class (suc n) [] q each le h = branch_past _ _ _ _ (h (omega arith))
+up_to_taken class (suc n) (c ∷ cs) q each le h = branch_take _ _ _ _ _ (run_head class c cs each) ∙ rw (up_to_taken
+    class n cs q (run_tail class c cs each) (omega arith) (λ lt. h (omega arith))) refl
 
 pub up_to_complete : (class : ℕ → Bool) (n : ℕ) (cs q : List ℕ) → RunOf class cs → length cs ≤ n → Apart class q
     → up_to class n (cs ++ q) ≡ Ok (cs, q)

@@ -1,25 +1,13 @@
 -- A text of a field is read, as that field.
-use Rattle.std.proofs.Common.{◌≡◌, ℕ, List, [], ◌∷◌, ◌++◌, Ok, refl, sym, ap, ◌∙◌, append_assoc}
-use Rattle.std.proofs.lemmas.List.{append-nil}
-use Rattle.std.proofs.lemmas.Bool.{eqb-true}
+use Rattle.std.proofs.Common.{◌≡◌, ℕ, List, [], ◌∷◌, ◌++◌, Ok, refl, sym, ap, ◌∙◌, append_assoc, append-nil, eqb-true}
+use Rattle.sfv_spec.specs.{Grammar.IsFieldText, Texts.RunOf, Values.{RawField, RawItem}}
 use Rattle.sfv_spec.proofs.Marks.{space, comma, is_space}
-use Rattle.sfv_spec.specs.Texts.{RunOf}
-use Rattle.sfv_spec.specs.Values.{RawField, RawItem}
-use Rattle.sfv_spec.specs.declared.field_kind.FieldKind.{FieldKind}
-use Rattle.sfv_spec.specs.declared.field_kind.FieldKind.TheVariants.{Item as item_field, List as list_field}
-use Rattle.sfv_spec.specs.declared.field_kind.FieldKind.TheVariants.{Dictionary as dictionary_field}
-use Rattle.sfv_spec.specs.declared.version.Version.{Version}
-use Rattle.sfv_spec.specs.Grammar.{IsMemberText, IsDictionaryMemberText, IsFieldText}
-use Rattle.sfv_spec.specs.Events.{entry_events, keyed_events}
-use Rattle.sfv_model.specs.Reader.{Apart, give}
-use Rattle.sfv_model.specs.Members.{entry_at, keyed_at}
-use Rattle.sfv_model.specs.Fields.{whole_field_at}
-use Rattle.sfv_model.proofs.sound.Combinators.{run_head}
+use Rattle.sfv_model.specs.{Fields.whole_field_at, Reader.{Apart, give}}
+use Rattle.sfv_model.proofs.Types.{FieldKind, item_field, list_field, dictionary_field, Version}
 use Rattle.sfv_model.proofs.complete.Combinators.{Apart-nil, Apart-cons, bind_complete, span_complete}
-use Rattle.sfv_model.proofs.sound.Members.{Sound-entry, Sound-keyed}
-use Rattle.sfv_model.proofs.sound.Separated.{members_complete}
 use Rattle.sfv_model.proofs.complete.Items.{lengthens_item, item_complete, item_no, blank_ends, space_ends}
 use Rattle.sfv_model.proofs.complete.Members.{entry_complete, entry_fresh, keyed_complete, keyed_fresh}
+use Rattle.sfv_model.proofs.sound.{Combinators.run_head, Members.{Sound-entry, Sound-keyed}, Separated.members_complete}
 
 pub spaces_end : (s q : List ℕ) → RunOf is_space s → Apart lengthens_item q → Apart lengthens_item (s ++ q)
 spaces_end [] q each f = f
@@ -34,11 +22,9 @@ item_field_complete version i t q h none f =
     let o = h.second in
     let all : t ++ q ≡ h.front ++ (o.front ++ (o.back ++ q)) =
     ap (λ (l : List ℕ). l ++ q) (h.text ∙ ap (λ (l : List ℕ). h.front ++ l) o.text) ∙ simp append_assoc in
-    ap (whole_field_at version item_field) all
-    ∙ bind_complete _ _ _ _ _ (span_complete is_space h.front (o.front ++ (o.back ++ q)) h.first
-    (item_no space version i o.front (o.back ++ q) refl o.first))
-    ∙ bind_complete _ _ _ _ _ (item_complete version i o.front (o.back ++ q) o.first f)
-    ∙ bind_complete _ _ _ _ _ (span_complete is_space o.back q o.second none)
+    ap (whole_field_at version item_field) all ∙ bind_complete _ _ _ _ _ (span_complete _ _ _ h.first
+    (item_no _ _ _ _ _ refl o.first)) ∙ bind_complete _ _ _ _ _ (item_complete _ _ _ _ o.first f)
+    ∙ bind_complete _ _ _ _ _ (span_complete _ _ _ o.second none)
 
 pub comma_ends : (q : List ℕ) → Apart lengthens_item (comma ∷ q)
 comma_ends q = Apart-cons lengthens_item comma q refl
@@ -47,11 +33,8 @@ pub field_complete : (version : Version) (kind : FieldKind) (raw : RawField kind
     → IsFieldText version kind raw t → whole_field_at version kind t ≡ Ok (raw, [])
 unfolding whole_field_at
 field_complete version item_field i t h = ap (whole_field_at version item_field) (sym (append-nil t))
-    ∙ item_field_complete version i t [] h (Apart-nil is_space)
-    (spaces_end h.second.back [] h.second.second (Apart-nil lengthens_item))
-field_complete version list_field ms t h = members_complete (IsMemberText version) entry_events (entry_at version)
-    (Apart lengthens_item) (entry_complete version) (entry_fresh version) blank_ends comma_ends
-    (Apart-nil lengthens_item) (Sound-entry version) ms t h
-field_complete version dictionary_field ms t h = members_complete (IsDictionaryMemberText version) keyed_events
-    (keyed_at version) (Apart lengthens_item) (keyed_complete version) (keyed_fresh version) blank_ends comma_ends
-    (Apart-nil lengthens_item) (Sound-keyed version) ms t h
+    ∙ item_field_complete _ _ _ _ h (Apart-nil _) (spaces_end h.second.back _ h.second.second (Apart-nil _))
+field_complete version list_field ms t h = members_complete _ _ _ (Apart lengthens_item) (entry_complete _)
+    (entry_fresh _) blank_ends comma_ends (Apart-nil _) (Sound-entry _) _ _ h
+field_complete version dictionary_field ms t h = members_complete _ _ _ (Apart lengthens_item) (keyed_complete _)
+    (keyed_fresh _) blank_ends comma_ends (Apart-nil _) (Sound-keyed _) _ _ h

@@ -1,36 +1,27 @@
 -- A text of an inner list, or of a member, is read, as that.
 use Rattle.std.proofs.Common.{◌≡◌, ℕ, ◌≤◌, List, [], ◌∷◌, ◌++◌, length, Some, None, Ok, refl, sym, ap, ◌∙◌}
-use Rattle.std.proofs.Common.{append_assoc, arith, inl, inr}
-use Rattle.std.proofs.lemmas.List.{length-append}
-use Rattle.std.proofs.lemmas.Bool.{eqb-true, true≢false}
+use Rattle.std.proofs.Common.{append_assoc, arith, inl, inr, length-append, eqb-true, true≢false}
+use Rattle.sfv_spec.specs.{Classes.is_key_inner, Events.inner_item_events}
+use Rattle.sfv_spec.specs.Grammar.{IsKeyText, IsParametersText, IsItemText, IsMemberText, IsMemberValueText}
+use Rattle.sfv_spec.specs.{Grammar.IsDictionaryMemberText, Texts.RunOf}
+use Rattle.sfv_spec.specs.Values.{RawParameters, RawItem, RawMember, item, inner_list}
+use Rattle.sfv_spec.{specs.declared.version.Version.Version, proofs.Bare.is_bare_start}
 use Rattle.sfv_spec.proofs.Marks.{tab, space, equals_sign, left_parenthesis, right_parenthesis, is_space}
 use Rattle.sfv_spec.proofs.Marks.{is_space_or_tab}
-use Rattle.sfv_spec.specs.Texts.{RunOf}
-use Rattle.sfv_spec.specs.Classes.{is_key_inner}
-use Rattle.sfv_spec.specs.Values.{RawParameters, RawItem, RawMember, item, inner_list}
-use Rattle.sfv_spec.specs.declared.version.Version.{Version}
-use Rattle.sfv_spec.specs.Grammar.{IsKeyText, IsParametersText, IsItemText, IsMemberText, IsMemberValueText}
-use Rattle.sfv_spec.specs.Grammar.{IsDictionaryMemberText}
-use Rattle.sfv_spec.proofs.Bare.{is_bare_start}
-use Rattle.sfv_model.specs.Reader.{Apart, give}
-use Rattle.sfv_spec.specs.Events.{inner_item_events}
 use Rattle.sfv_model.specs.Members.{inner_item_at, next_item_at, inner_items_at, inner_of, inner_at, member_at}
-use Rattle.sfv_model.specs.Members.{entry_at, member_value_at, keyed_at}
-use Rattle.sfv_model.proofs.sound.Combinators.{run_head, run_tail}
+use Rattle.sfv_model.specs.{Members.{entry_at, member_value_at, keyed_at}, Reader.{Apart, give}}
 use Rattle.sfv_model.proofs.complete.Combinators.{Apart-cons, branch_past, branch_take, ahead_any, bind_complete}
 use Rattle.sfv_model.proofs.complete.Combinators.{led_complete, span_complete}
-use Rattle.sfv_model.proofs.texts.Joining.{joined_split, in_turn}
-use Rattle.sfv_model.proofs.sound.Many.{many_complete}
-use Rattle.sfv_model.proofs.sound.Members.{IsClosed, IsNextItem, IsItems, Consumes-next_item}
 use Rattle.sfv_model.proofs.complete.Items.{lengthens_item, key_apart, equals_apart, key_complete, key_no}
 use Rattle.sfv_model.proofs.complete.Items.{parameters_complete, item_complete, item_begun, item_no, begun_some}
-use Rattle.sfv_model.proofs.complete.Items.{space_ends}
+use Rattle.sfv_model.proofs.{complete.Items.space_ends, sound.Combinators.{run_head, run_tail}}
+use Rattle.sfv_model.proofs.sound.{Many.many_complete, Members.{IsClosed, IsNextItem, IsItems, Consumes-next_item}}
+use Rattle.sfv_model.proofs.texts.Joining.{joined_split, in_turn}
 
 -- ---- inner items
 
-pub inner_item_complete : (version : Version) (i : RawItem) (t q : List ℕ) → IsItemText version i t
-    → Apart lengthens_item q
-    → inner_item_at version (t ++ q) ≡ Ok (i, q)
+pub inner_item_complete : (version : Version) (i : RawItem) (t q : List ℕ)
+    → IsItemText version i t → Apart lengthens_item q → inner_item_at version (t ++ q) ≡ Ok (i, q)
 unfolding inner_item_at
 inner_item_complete version i t q h f = led_complete _ _ _ _ _ (item_complete version i t q h f)
 
@@ -41,36 +32,28 @@ bracket_no_space : (q : List ℕ) → Apart is_space (right_parenthesis ∷ q)
 bracket_no_space q = Apart-cons is_space right_parenthesis q refl
 
 pub next_item_complete : (version : Version) (i : RawItem) (t q : List ℕ) → IsNextItem version i t
-    → Apart lengthens_item q
-    → (next_item_at version (t ++ q) ≡ Ok (Some i, q)) × Apart lengthens_item (t ++ q)
+    → Apart lengthens_item q → (next_item_at version (t ++ q) ≡ Ok (Some i, q)) × Apart lengthens_item (t ++ q)
 unfolding next_item_at give
 next_item_complete version i t q h f =
     let s = h.first in
     let all : t ++ q ≡ space ∷ (s.back ++ (h.back ++ q)) =
     ap (λ (l : List ℕ). l ++ q) (h.text ∙ ap (λ (l : List ℕ). l ++ h.back) (s.text
     ∙ ap (λ (l : List ℕ). l ++ s.back) s.first)) ∙ ap (λ (l : List ℕ). space ∷ l) (append_assoc s.back h.back q) in (
-      ap (next_item_at version) all ∙ branch_take _ _ _ space (s.back ++ (h.back ++ q)) refl
-          ∙ bind_complete _ _ _ _ _ (span_complete is_space s.back (h.back ++ q) s.second
-          (item_no space version i h.back q refl h.second))
-          ∙ branch_past _ _ _ (h.back ++ q) (item_no right_parenthesis version i h.back q refl h.second)
-          ∙ bind_complete _ _ _ _ _ (inner_item_complete version i h.back q h.second f),
-      rw all (space_ends (s.back ++ (h.back ++ q))),
+      ap (next_item_at version) all ∙ branch_take _ _ _ _ _ refl ∙ bind_complete _ _ _ _ _ (span_complete _ _ _ s.second
+          (item_no _ _ _ _ _ refl h.second)) ∙ branch_past _ _ _ _ (item_no _ _ _ _ _ refl h.second)
+          ∙ bind_complete _ _ _ _ _ (inner_item_complete _ _ _ _ h.second f),
+      rw all (space_ends _),
     )
 
 closed_on : (version : Version) (spaces q : List ℕ) → RunOf is_space spaces
     → (next_item_at version (spaces ++ right_parenthesis ∷ q) ≡ Ok (None, q))
     × Apart lengthens_item (spaces ++ right_parenthesis ∷ q)
 unfolding next_item_at give
-closed_on version [] q each = (
-  branch_past _ _ _ (right_parenthesis ∷ q) (bracket_no_space q)
-      ∙ branch_take _ _ _ right_parenthesis q refl,
-  bracket_ends q,
-)
+closed_on version [] q each = (branch_past _ _ _ _ (bracket_no_space _) ∙ branch_take _ _ _ _ _ refl, bracket_ends _)
 closed_on version (c ∷ s) q each = (
-  branch_take _ _ _ c (s ++ right_parenthesis ∷ q) (run_head is_space c s each)
-      ∙ bind_complete _ _ _ _ _ (span_complete is_space s (right_parenthesis ∷ q) (run_tail is_space c s each)
-      (bracket_no_space q)) ∙ branch_take _ _ _ right_parenthesis q refl,
-  rw (eqb-true c space (run_head is_space c s each)) (space_ends (s ++ right_parenthesis ∷ q)),
+  branch_take _ _ _ _ _ (run_head is_space c s each) ∙ bind_complete _ _ _ _ _ (span_complete _ _ _
+      (run_tail is_space c s each) (bracket_no_space _)) ∙ branch_take _ _ _ _ _ refl,
+  rw (eqb-true c space (run_head is_space c s each)) (space_ends _),
 )
 
 closed_whole : (e q : List ℕ) (h : IsClosed e) → e ++ q ≡ h.front ++ right_parenthesis ∷ q
@@ -80,11 +63,10 @@ closed_complete : (version : Version) (e q : List ℕ) → IsClosed e
     → (next_item_at version (e ++ q) ≡ Ok (None, q)) × Apart lengthens_item (e ++ q)
 closed_complete version e q h = rw (closed_whole e q h) (closed_on version h.front q h.first)
 
-items_complete : (version : Version) (is : List RawItem) (t q : List ℕ) → IsItems version is t
+pub items_complete : (version : Version) (is : List RawItem) (t q : List ℕ) → IsItems version is t
     → inner_items_at version (t ++ q) ≡ Ok (is, q)
 unfolding inner_items_at give
-items_complete version [] t q h =
-    ap (inner_items_at version) (closed_whole t q h)
+items_complete version [] t q h = ap (inner_items_at version) (closed_whole t q h)
     ∙ ahead_any _ _ (h.front ++ right_parenthesis ∷ q) (omega (arith, length-append {A = ℕ}))
     ∙ bind_complete _ _ _ _ _ (span_complete is_space h.front (right_parenthesis ∷ q) h.first (bracket_no_space q))
     ∙ branch_take _ _ _ right_parenthesis q refl
@@ -98,11 +80,9 @@ items_complete version (i ∷ is) t q h =
     let some : 1 ≤ length (o.front ++ (o.back ++ q)) =
     begun_some is_bare_start (o.front ++ (o.back ++ q)) (item_begun version i o.front (o.back ++ q) o.first) in
     ap (inner_items_at version) all ∙ ahead_any _ _ (h.front ++ (o.front ++ (o.back ++ q)))
-    (omega (arith, length-append {A = ℕ}))
-    ∙ bind_complete _ _ _ _ _ (span_complete is_space h.front (o.front ++ (o.back ++ q)) h.first
-    (item_no space version i o.front (o.back ++ q) refl o.first))
-    ∙ branch_past _ _ _ (o.front ++ (o.back ++ q))
-    (item_no right_parenthesis version i o.front (o.back ++ q) refl o.first)
+    (omega (arith, length-append {A = ℕ})) ∙ bind_complete _ _ _ _ _ (span_complete is_space h.front
+    (o.front ++ (o.back ++ q)) h.first (item_no space version i o.front (o.back ++ q) refl o.first)) ∙ branch_past _ _ _
+    (o.front ++ (o.back ++ q)) (item_no right_parenthesis version i o.front (o.back ++ q) refl o.first)
     ∙ bind_complete _ _ _ _ _ (inner_item_complete version i o.front (o.back ++ q) o.first more.1)
     ∙ led_complete _ _ _ _ _ (bind_complete _ _ _ _ _ more.0)
 
@@ -133,20 +113,16 @@ inner_parts version (i ∷ is) ps t h =
     let c = s.second.second in
     let z = s.second.first in
     let o = z.first in
-    let end : IsClosed (z.back ++ right_parenthesis ∷ []) =
-    in_turn z.back (right_parenthesis ∷ []) z.second refl in
+    let end : IsClosed (z.back ++ right_parenthesis ∷ []) = in_turn _ _ z.second refl in
     let whole : s.second.front ++ s.second.back ≡ (o.front ++ (o.back ++ (z.back ++ right_parenthesis ∷ [])))
-    ++ c.back =
-    ap (λ (l : List ℕ). l ++ s.second.back) (z.text ∙ ap (λ (l : List ℕ). l ++ z.back) o.text)
-    ∙ ap (λ (l : List ℕ). ((o.front ++ o.back) ++ z.back) ++ l) (c.text ∙ ap (λ (l : List ℕ). l ++ c.back) c.first)
-    ∙ simp append_assoc in
+    ++ c.back = ap (λ (l : List ℕ). l ++ s.second.back) (z.text ∙ ap (λ (l : List ℕ). l ++ z.back) o.text) ∙ ap
+    (λ (l : List ℕ). ((o.front ++ o.back) ++ z.back) ++ l) (c.text ∙ ap (λ (l : List ℕ). l ++ c.back) c.first) ∙ simp
+    append_assoc in
     record {
       items = s.front ++ (o.front ++ (o.back ++ (z.back ++ right_parenthesis ∷ [])));
       rest = c.back;
       text = simp (h.text, h.first, s.text, s.second.text, whole, append_assoc);
-      are_items = in_turn s.front (o.front ++ (o.back ++ (z.back ++ right_parenthesis ∷ []))) s.first
-          (in_turn o.front (o.back ++ (z.back ++ right_parenthesis ∷ [])) o.first
-          (joined_split (IsNextItem version) IsClosed is o.back (z.back ++ right_parenthesis ∷ []) o.second end));
+      are_items = in_turn _ _ s.first (in_turn _ _ o.first (joined_split _ _ _ _ _ o.second end));
       are_parameters = c.second;
     }
 
@@ -155,12 +131,11 @@ inner_complete : (version : Version) (is : List RawItem) (ps : RawParameters) (t
     → member_at version (t ++ q) ≡ Ok (inner_of is ps, q)
 unfolding member_at inner_at give
 inner_complete version is ps t q h f =
-    let p = inner_parts version is ps t h in
+    let p = inner_parts _ _ _ _ h in
     let all : t ++ q ≡ left_parenthesis ∷ (p.items ++ (p.rest ++ q)) = simp (p.text, append_assoc) in
-    let parameters = parameters_complete version ps p.rest q p.are_parameters f in
-    ap (member_at version) all ∙ branch_take _ _ _ left_parenthesis (p.items ++ (p.rest ++ q)) refl
-    ∙ led_complete _ _ _ _ _ (bind_complete _ _ _ _ _ (items_complete version is p.items (p.rest ++ q) p.are_items)
-    ∙ led_complete _ _ _ _ _ (bind_complete _ _ _ _ _ parameters.0))
+    let parameters = parameters_complete _ _ _ _ p.are_parameters f in
+    ap (member_at version) all ∙ branch_take _ _ _ _ _ refl ∙ led_complete _ _ _ _ _ (bind_complete _ _ _ _ _
+    (items_complete _ _ _ _ p.are_items) ∙ led_complete _ _ _ _ _ (bind_complete _ _ _ _ _ parameters.0))
 
 -- ---- members
 

@@ -1,13 +1,12 @@
 -- A text of a number is read, as that number.
 use Rattle.std.proofs.Common.{◌≡◌, ℕ, ◌<◌, ◌≤◌, Bool, true, false, eqb, leb, ◌||◌, ℤ, List, [], ◌∷◌, ◌++◌, length, Some}
-use Rattle.std.proofs.Common.{Ok, refl, sym, ap, ◌∙◌, append_assoc, arith}
-use Rattle.std.proofs.lemmas.Bool.{and_parts, or_parts, leb-true, ne_eqb, le-ltb}
-use Rattle.sfv_spec.proofs.Marks.{digit_zero, digit_nine, minus_sign, dot, is_digit, minus_text}
-use Rattle.sfv_spec.specs.Texts.{RunOf}
-use Rattle.sfv_spec.specs.Values.{integer, decimal}
+use Rattle.std.proofs.Common.{Ok, refl, sym, ap, ◌∙◌, append_assoc, arith, leb-true, ne_eqb, le-ltb}
+use Rattle.std.proofs.lemmas.Bool.{and_parts, or_parts}
 use Rattle.sfv_spec.specs.Numbers.{AreDigits, signed, IsIntegerText, IsDecimalText}
-use Rattle.sfv_model.specs.Reader.{Apart, byte, give}
+use Rattle.sfv_spec.specs.{Texts.RunOf, Values.{integer, decimal}}
+use Rattle.sfv_spec.proofs.Marks.{digit_zero, digit_nine, minus_sign, dot, is_digit, minus_text}
 use Rattle.sfv_model.specs.Bare.{sign_at, decimal_at, fraction_at, point_at, whole_at, number_at}
+use Rattle.sfv_model.specs.Reader.{Apart, byte, give}
 use Rattle.sfv_model.proofs.complete.Combinators.{Apart-cons, branch_past, branch_take, ahead_past, ahead_take}
 use Rattle.sfv_model.proofs.complete.Combinators.{bind_complete, back_complete, up_to_taken, up_to_complete}
 use Rattle.sfv_model.proofs.sound.Numbers.{thousandths}
@@ -44,9 +43,8 @@ pub start_read : (dated negative : Bool) (whole q : List ℕ) → RunOf is_digit
     → (length whole < 15 → Apart is_digit q) → (negative ≡ false → Apart (byte minus_sign) (whole ++ q))
     → number_at dated (minus_text negative ++ (whole ++ q)) ≡ whole_at dated negative whole q
 unfolding number_at
-start_read dated negative whole q each most ends plain =
-    bind_complete _ _ _ _ _ (sign_complete negative (whole ++ q) plain)
-    ∙ bind_complete _ _ _ _ _ (up_to_taken is_digit 15 whole q each most ends)
+start_read dated negative whole q each most ends plain = bind_complete _ _ _ _ _ (sign_complete _ _ plain)
+    ∙ bind_complete _ _ _ _ _ (up_to_taken _ _ _ _ each most ends)
 
 -- the sign and the whole part
 pub start_complete : (dated negative : Bool) (whole q : List ℕ) → AreDigits 1 15 whole → Apart is_digit q
@@ -60,20 +58,17 @@ some_eqb n h = ne_eqb n 0 (λ e. omega arith)
 pub integer_complete : (dated : Bool) (t q : List ℕ) (z : ℤ) → IsIntegerText z t → Apart goes_on q
     → number_at dated (t ++ q) ≡ Ok (integer z, q)
 unfolding whole_at give
-integer_complete dated t q z i h =
-    ap (λ (l : List ℕ). number_at dated (l ++ q)) i.text
-    ∙ ap (number_at dated) (append_assoc (minus_text i.negative) i.digits q)
-    ∙ start_complete dated i.negative i.digits q i.counted (digit_apart q h)
-    ∙ rw (some_eqb (length i.digits) i.counted.0) (ahead_past _ _ _ q (digit_apart q h)
-    ∙ ahead_past _ _ _ q (point_apart q h) ∙ ap (λ (z : ℤ). Ok (integer z, q)) (sym i.value))
+integer_complete dated t q z i h = ap (λ (l : List ℕ). number_at dated (l ++ q)) i.text ∙ ap (number_at dated)
+    (append_assoc (minus_text i.negative) i.digits q) ∙ start_complete _ _ _ _ i.counted (digit_apart _ h) ∙ rw
+    (some_eqb (length i.digits) i.counted.0) (ahead_past _ _ _ _ (digit_apart _ h) ∙ ahead_past _ _ _ _
+    (point_apart _ h) ∙ ap (λ (z : ℤ). Ok (integer z, q)) (sym i.value))
 
 fraction_complete : (dated negative : Bool) (whole fraction q : List ℕ) → AreDigits 1 3 fraction → Apart is_digit q
     → fraction_at dated negative whole (fraction ++ q)
     ≡ Ok (Some (decimal (signed negative (thousandths whole fraction))), q)
 unfolding fraction_at decimal_at give
-fraction_complete dated negative whole fraction q counted h =
-    bind_complete _ _ _ _ _ (up_to_complete is_digit 3 fraction q counted.2 counted.1 h)
-    ∙ rw (some_eqb (length fraction) counted.0) (ahead_past _ _ _ q h)
+fraction_complete dated negative whole fraction q counted h = bind_complete _ _ _ _ _
+    (up_to_complete _ _ _ _ counted.2 counted.1 h) ∙ rw (some_eqb (length fraction) counted.0) (ahead_past _ _ _ _ h)
 
 pub decimal_complete : (dated : Bool) (t q : List ℕ) (z : ℤ) → IsDecimalText z t → Apart is_digit q
     → number_at dated (t ++ q) ≡ Ok (decimal z, q)
@@ -82,12 +77,8 @@ decimal_complete dated t q z i h =
     let all : t ++ q ≡ minus_text i.negative ++ (i.whole ++ dot ∷ (i.fraction ++ q)) =
     ap (λ (l : List ℕ). l ++ q) i.text ∙ simp append_assoc in
     let counted : AreDigits 1 15 i.whole = (i.counted.0.0, omega (arith, i.counted.0.1), i.counted.0.2) in
-    let point : Apart is_digit (dot ∷ (i.fraction ++ q)) = Apart-cons is_digit dot _ refl in
-    ap (number_at dated) all
-    ∙ start_complete dated i.negative i.whole (dot ∷ (i.fraction ++ q)) counted point
-    ∙ rw (some_eqb (length i.whole) counted.0) (ahead_past _ _ _ (dot ∷ (i.fraction ++ q)) point
-    ∙ ahead_take _ _ _ dot (i.fraction ++ q) refl
-    ∙ rw (le-ltb 12 (length i.whole) i.counted.0.1)
-    (back_complete _ _ _ _ _ (branch_take _ _ _ dot (i.fraction ++ q) refl
-    ∙ fraction_complete dated i.negative i.whole i.fraction q i.counted.1 h)
-    ∙ ap (λ (z : ℤ). Ok (decimal z, q)) (sym i.value)))
+    let point : Apart is_digit (dot ∷ (i.fraction ++ q)) = Apart-cons _ _ _ refl in
+    ap (number_at dated) all ∙ start_complete _ _ _ _ counted point ∙ rw (some_eqb (length i.whole) counted.0)
+    (ahead_past _ _ _ _ point ∙ ahead_take _ _ _ _ _ refl ∙ rw (le-ltb 12 (length i.whole) i.counted.0.1)
+    (back_complete _ _ _ _ _ (branch_take _ _ _ _ _ refl ∙ fraction_complete _ _ _ _ _ i.counted.1 h) ∙ ap
+    (λ (z : ℤ). Ok (decimal z, q)) (sym i.value)))

@@ -1,9 +1,6 @@
 -- A text of a String or a Display String is read, as its bytes.
-use Rattle.std.proofs.Common.{◌≡◌, ℕ, List, [], ◌∷◌, ◌++◌, Ok, refl, ap, ◌∙◌, append_assoc}
-use Rattle.std.specs.Prelude.{IsUtf8}
-use Rattle.std.specs.List.{concat}
-use Rattle.std.proofs.lemmas.List.{append-nil}
-use Rattle.std.proofs.lemmas.Str.{is_utf8-from_IsUtf8}
+use Rattle.std.proofs.Common.{◌≡◌, ℕ, List, [], ◌∷◌, ◌++◌, Ok, refl, ap, ◌∙◌, append_assoc, IsUtf8, append-nil}
+use Rattle.std.{specs.List.concat, proofs.lemmas.Str.is_utf8-from_IsUtf8}
 use Rattle.sfv_spec.proofs.Marks.{double_quote}
 use Rattle.sfv_model.specs.Quoted.{IsStringEnd, IsDisplayEnd, string_at, outside, pieces_from, checked, display_at}
 use Rattle.sfv_model.proofs.quoted.Pieces.{past_string, past_display, quote_string, quote_display}
@@ -25,8 +22,7 @@ pub display_complete : (s t q : List ℕ) → IsDisplayEnd s t → display_at (t
 unfolding display_at
 display_complete s t q h =
     let pieces = h.first.0.pieces in
-    let whole : t ++ q ≡ concat pieces ++ double_quote ∷ q =
-    rw (h.text, h.first.0.text, h.second, append_assoc) refl in
+    let whole : t ++ q ≡ concat pieces ++ double_quote ∷ q = rw (h.text, h.first.0.text, h.second, append_assoc) refl in
     let read : pieces_from outside (t ++ q) ≡ Ok (s, q) = simp
     (whole, past_display s pieces (double_quote ∷ q) h.first.0.each, quote_display q, append-nil) in
-    ap (checked (t ++ q)) read ∙ passes (t ++ q) s q h.first.1
+    ap (checked (t ++ q)) read ∙ passes _ _ _ h.first.1

@@ -1,42 +1,26 @@
 -- A fault of a bare item is a row of the table of faults, or nothing begins.
 use Rattle.std.proofs.Common.{◌≡◌, ℕ, zero, suc, ◌≤◌, ◌+◌, false, not, List, [], ◌∷◌, ◌++◌, length, drop, Ok, Err, refl}
-use Rattle.std.proofs.Common.{sym, ap, subst, ◌∙◌, append_assoc, arith, inl, inr}
-use Rattle.std.specs.Prelude.{◌==◌, codes}
-use Rattle.std.specs.List.{concat}
-use Rattle.std.specs.Str.Lossy.{utf8_valid_len}
-use Rattle.std.proofs.lemmas.Bool.{cases_Bool, eqb-true, true≢false, or_from, or_parts, not_from_false}
-use Rattle.std.proofs.lemmas.List.{length-append, length-drop}
-use Rattle.sfv_spec.proofs.Marks.{double_quote, percent_sign, digit_zero, colon, digit_one, question_mark}
-use Rattle.sfv_spec.specs.Texts.{begins_with}
+use Rattle.std.proofs.Common.{sym, ap, subst, ◌∙◌, append_assoc, arith, inl, inr, ◌==◌, codes, eqb-true, true≢false}
+use Rattle.std.{proofs.Common.{length-append, length-drop}, specs.List.concat, specs.Str.Lossy.utf8_valid_len}
+use Rattle.std.proofs.lemmas.Bool.{cases_Bool, or_from, or_parts, not_from_false, Decides.nat_tests}
 use Rattle.sfv_spec.specs.Classes.{is_one_of, is_token_start, is_token_inner}
-use Rattle.sfv_spec.specs.Values.{string, byte_sequence, display_string}
-use Rattle.sfv_spec.specs.declared.version.Version.{Version}
-use Rattle.sfv_spec.specs.declared.version.Version.TheVariants.{Rfc8941, Rfc9651}
-use Rattle.sfv_spec.specs.declared.error_kind.ErrorKind.{ErrorKind}
-use Rattle.sfv_spec.specs.declared.error_kind.ErrorKind.TheVariants.{ExpectedBoolean, ExpectedQuote, UnterminatedString}
-use Rattle.sfv_spec.specs.declared.error_kind.ErrorKind.TheVariants.{UnterminatedEscapeSequence, InvalidEscapeSequence}
-use Rattle.sfv_spec.specs.declared.error_kind.ErrorKind.TheVariants.{InvalidStringCharacter, InvalidUtf8InDisplayString}
 use Rattle.sfv_spec.specs.Faults.{open_bytes, bare, lone_symbol, BareItemFault, no_boolean, old_display, no_quote}
 use Rattle.sfv_spec.specs.Faults.{OpensString, open_string, wrong_string_byte, open_string_escape, wrong_string_escape}
-use Rattle.sfv_spec.specs.Faults.{wrong_bytes}
-use Rattle.sfv_model.specs.Reader.{Fault, Answer, byte, give, fail, and_then, bind, branch, ahead, at_reach}
-use Rattle.sfv_model.specs.Content.{valid_from, fault_place, bytes_at}
+use Rattle.sfv_spec.specs.{Faults.wrong_bytes, Texts.begins_with, Values.{string, byte_sequence, display_string}}
+use Rattle.sfv_spec.proofs.Marks.{double_quote, percent_sign, digit_zero, colon, digit_one, question_mark}
+use Rattle.sfv_model.specs.{Bare.{boolean_at, token_at, quoted_at, bare_at}, BareFaults.BareFaultHasRow}
+use Rattle.sfv_model.specs.{Claims.IsBytesFault, Content.{valid_from, fault_place, bytes_at}}
 use Rattle.sfv_model.specs.Quoted.{string_at, display_at, after_pieces, IsStringFault, IsDisplayFault, StringStops}
-use Rattle.sfv_model.specs.Bare.{boolean_at, token_at, quoted_at, bare_at}
-use Rattle.sfv_model.specs.Claims.{IsBytesFault}
-use Rattle.sfv_model.specs.BareFaults.{BareFaultHasRow}
-use Rattle.sfv_model.proofs.base64.Contents.{longest_valid}
-use Rattle.sfv_model.proofs.complete.Bare.{bare_number, first_byte}
-use Rattle.sfv_model.proofs.sound.Combinators.{Steady-span}
-use Rattle.sfv_model.proofs.sound.ByteSequences.{fault_at}
-use Rattle.sfv_model.proofs.faults.ByteSequences.{bytes_fault}
-use Rattle.sfv_model.proofs.faults.DisplayFaultIsRule.{ruled}
-use Rattle.sfv_model.proofs.faults.Quoted.{string_fault, display_fault}
-use Rattle.sfv_model.proofs.faults.NumberShapes.{number_shape, shape_read}
+use Rattle.sfv_model.specs.Reader.{Fault, Answer, byte, give, fail, and_then, bind, branch, ahead, at_reach}
+use Rattle.sfv_model.proofs.Types.{Version, Rfc8941, Rfc9651, ErrorKind, ExpectedBoolean, ExpectedQuote}
+use Rattle.sfv_model.proofs.Types.{UnterminatedString, UnterminatedEscapeSequence, InvalidEscapeSequence}
+use Rattle.sfv_model.proofs.{Types.{InvalidStringCharacter, InvalidUtf8InDisplayString}, base64.Contents.longest_valid}
+use Rattle.sfv_model.proofs.{base64.Lone.left_over_is, complete.Bare.{bare_number, first_byte}}
+use Rattle.sfv_model.proofs.faults.{ByteSequences.bytes_fault, DisplayFaultIsRule.ruled}
 use Rattle.sfv_model.proofs.faults.NumberFaultIsRow.{HasRow, HasRows, one_of, number_row, date_row}
-use Rattle.sfv_model.proofs.base64.Lone.{left_over_is}
+use Rattle.sfv_model.proofs.faults.{NumberShapes.{number_shape, shape_read}, Quoted.{string_fault, display_fault}}
 use Rattle.sfv_model.proofs.quoted.Pieces.{display_stops_whole}
-use Rattle.std.proofs.lemmas.Bool.Decides.{nat_tests}
+use Rattle.sfv_model.proofs.sound.{ByteSequences.fault_at, Combinators.Steady-span}
 
 -- ---- what each first byte leads to
 
@@ -135,11 +119,8 @@ display_short t there k h = let w = display_stops_whole k h.left there h.ends in
 
 display_row : (t : List ℕ) (e : Fault) → display_at t ≡ Err e → HasRow Rfc9651 (percent_sign ∷ double_quote ∷ t) e
 display_row t e i =
-    let f = display_fault t e i in
-    inr (
-      ap (λ (e : Fault). e.exact) f.1,
-      λ kind w before place. ruled Rfc9651 kind w before t e.rest e.kind refl place f.0,
-    )
+    let f = display_fault _ _ i in
+    inr (ap (λ (e : Fault). e.exact) f.1, λ kind w before place. ruled _ _ _ _ _ _ _ refl place f.0)
 
 -- what is read after the percent sign and the quote
 pub quoted_read : (t : List ℕ) → quoted_at Rfc9651 (percent_sign ∷ double_quote ∷ t)

@@ -1,30 +1,17 @@
 -- Each rule of the table of faults is given by the reader of bare items, but for the trailing comma.
 use Rattle.std.proofs.Common.{◌≡◌, ℕ, true, List, ◌∷◌, ◌++◌, length, Err, refl, ap, ◌∙◌, suc, ◌≤◌, append_assoc, arith}
-use Rattle.std.proofs.Common.{inl, inr}
-use Rattle.std.specs.Prelude.{codes}
-use Rattle.std.specs.List.{concat}
-use Rattle.std.proofs.lemmas.Bool.{eq-eqb}
-use Rattle.std.proofs.lemmas.List.{length-append, length-drop}
-use Rattle.sfv_spec.proofs.Marks.{double_quote, percent_sign, colon, dot, minus_text}
-use Rattle.sfv_spec.specs.Values.{display_string}
-use Rattle.sfv_spec.specs.declared.version.Version.{Version}
-use Rattle.sfv_spec.specs.declared.version.Version.TheVariants.{Rfc9651}
+use Rattle.std.{proofs.Common.{inl, inr, codes, eq-eqb, length-append, length-drop}, specs.List.concat}
 use Rattle.sfv_spec.specs.Faults.{RuledItemFault, bare, comma, point, decimal_date, long_decimal_date, open_bytes}
-use Rattle.sfv_spec.specs.Faults.{lone_symbol, display}
-use Rattle.sfv_spec.specs.declared.error_kind.ErrorKind.{ErrorKind}
-use Rattle.sfv_model.proofs.faults.TrailingCommas.{has_many}
+use Rattle.sfv_spec.specs.{Faults.{lone_symbol, display}, Values.display_string}
+use Rattle.sfv_spec.proofs.Marks.{double_quote, percent_sign, colon, dot}
+use Rattle.sfv_model.specs.{Bare.bare_at, BareFaults.RuledIsGiven, Content.{valid_from, fault_place, HasNoColon}}
 use Rattle.sfv_model.specs.Reader.{give, and_then, by_rule}
-use Rattle.sfv_model.specs.Bare.{bare_at}
-use Rattle.sfv_model.specs.BareFaults.{RuledIsGiven}
-use Rattle.sfv_model.proofs.complete.Bare.{bare_percent}
-use Rattle.sfv_model.proofs.faults.DisplayRuleIsFault.{faults_ruled}
-use Rattle.sfv_model.proofs.faults.Quoted.{display_faulty}
-use Rattle.sfv_model.proofs.faults.NumberShapes.{no_fraction, long_fraction, a_decimal, shape_read}
-use Rattle.sfv_model.proofs.faults.BareFaultIsRow.{quoted_read, display_short}
+use Rattle.sfv_model.proofs.{Types.{Version, ErrorKind}, base64.Lone.{is_left_over, symbols_of_run, leaves_one_over}}
+use Rattle.sfv_model.proofs.{complete.Bare.bare_percent, faults.BareFaultIsRow.{quoted_read, display_short}}
 use Rattle.sfv_model.proofs.faults.BareRowIsFault.{date_given, signed_given, bytes_given}
-use Rattle.sfv_model.specs.Content.{valid_from, fault_place, HasNoColon}
-use Rattle.sfv_model.proofs.base64.Lone.{is_left_over, symbols_of_run, leaves_one_over}
-use Rattle.sfv_model.proofs.faults.ByteSequences.{no_colon_any}
+use Rattle.sfv_model.proofs.faults.{ByteSequences.no_colon_any, DisplayRuleIsFault.faults_ruled}
+use Rattle.sfv_model.proofs.faults.NumberShapes.{no_fraction, long_fraction, a_decimal, shape_read}
+use Rattle.sfv_model.proofs.faults.{Quoted.display_faulty, TrailingCommas.has_many}
 use Rattle.sfv_model.proofs.sound.ByteSequences.{read_unclosed, read_fault, symbols_apart}
 
 item_given : (version : Version) (s there : List ℕ) (k : ErrorKind) → RuledItemFault version s there k
@@ -36,14 +23,12 @@ item_given version s there _ (point sign digits rest signed counted text left no
   omega (arith, ap (length {A = ℕ}) text, ap (length {A = ℕ}) left, length-append {A = ℕ}),
 )
 item_given version s there _ (decimal_date z number rest known is_decimal text left no_digit) = (
-  rw (left, text) (date_given version (number ++ rest) _ known
-      (shape_read true (number ++ rest) _ (a_decimal z number rest is_decimal refl no_digit))),
+  rw (left, text) (date_given _ _ _ known (shape_read _ _ _ (a_decimal _ _ _ is_decimal refl no_digit))),
   omega (arith, ap (length {A = ℕ}) left),
 )
 item_given version s there _ (long_decimal_date negative whole fraction known counted three text more) = (
-  signed_given version s (codes "@" ++ minus_text negative) whole (dot ∷ (fraction ++ there)) _
-      (true, negative, λ _. known, refl) counted.0 counted.2 (text ∙ simp append_assoc)
-      (long_fraction negative whole fraction there refl counted three more),
+  signed_given _ _ _ _ _ _ (true, negative, λ _. known, refl) counted.0 counted.2 (text ∙ simp append_assoc)
+      (long_fraction _ _ _ _ refl counted three more),
   omega (arith, simp length-append at (ap (length {A = ℕ}) text)),
 )
 item_given version s there _ (open_bytes rest text left no_colon) = (
@@ -62,10 +47,9 @@ item_given version s there _ (lone_symbol content rest text left only one) =
     )
 item_given version s there k (display rest bytes pieces known text content longest fault) =
     let inside : List ℕ = concat pieces ++ rest in
-    let f = faults_ruled bytes pieces rest there k content longest fault in (
-      ap (bare_at version) text ∙ ap (λ e. bare_at e (percent_sign ∷ double_quote ∷ inside)) known
-          ∙ bare_percent Rfc9651 (double_quote ∷ inside) ∙ quoted_read inside
-          ∙ ap (λ a. and_then a (λ s. give (display_string s))) (display_faulty inside there k f),
+    let f = faults_ruled _ _ _ _ _ content longest fault in (
+      ap (bare_at version) text ∙ ap (λ e. bare_at e (percent_sign ∷ double_quote ∷ inside)) known ∙ bare_percent _ _
+          ∙ quoted_read _ ∙ ap (λ a. and_then a (λ s. give (display_string s))) (display_faulty _ _ _ f),
       omega (arith, ap (length {A = ℕ}) text, display_short inside there k f),
     )
 

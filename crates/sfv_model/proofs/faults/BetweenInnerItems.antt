@@ -1,41 +1,30 @@
 -- Where the faults between the bare items of an inner list stand.
 use Rattle.std.proofs.Common.{◌≡◌, ℕ, true, List, [], ◌∷◌, ◌++◌, Option, refl, sym, ap, subst, ◌∙◌, append_assoc, rules}
-use Rattle.std.specs.Prelude.{⊤, codes, flat_map}
-use Rattle.std.proofs.lemmas.List.{append-nil}
-use Rattle.std.proofs.lemmas.Bool.{eqb-true}
-use Rattle.sfv_spec.proofs.Marks.{space, equals_sign, left_parenthesis, right_parenthesis, comma, is_space}
-use Rattle.sfv_spec.proofs.Marks.{is_space_or_tab}
-use Rattle.sfv_spec.specs.Texts.{RunOf, IsJoining, ◌⨾◌}
-use Rattle.sfv_spec.specs.Values.{boolean, RawItem}
-use Rattle.sfv_spec.specs.declared.version.Version.{Version}
-use Rattle.sfv_spec.specs.Grammar.{IsItemText, IsMemberText, IsMemberValueText, IsDictionaryMemberText}
-use Rattle.sfv_spec.proofs.Marks.{IsParameterText}
-use Rattle.sfv_spec.specs.Grammar.{IsKeyText}
+use Rattle.std.{proofs.Common.{codes, flat_map, append-nil, eqb-true}, specs.Prelude.⊤}
 use Rattle.sfv_spec.specs.Events.{TreeEvent, entry, keyed_entry, begins_inner_list, inner_list_end, parameters_end}
 use Rattle.sfv_spec.specs.Events.{inner_item_events, member_events, entry_events, keyed_events}
-use Rattle.sfv_spec.specs.declared.error_kind.ErrorKind.{ErrorKind}
-use Rattle.sfv_spec.specs.declared.error_kind.ErrorKind.TheVariants.{TrailingCharactersAfterMember, TrailingComma}
-use Rattle.sfv_spec.specs.declared.error_kind.ErrorKind.TheVariants.{TrailingCharactersAfterParsedValue}
-use Rattle.sfv_spec.specs.declared.error_kind.ErrorKind.TheVariants.{ExpectedInnerListDelimiter, UnterminatedInnerList}
-use Rattle.sfv_spec.proofs.Settled.{joining-nil}
-use Rattle.sfv_model.specs.Reader.{Fault, Reader, many, any}
-use Rattle.sfv_model.specs.Items.{key_at, item_of}
+use Rattle.sfv_spec.specs.Grammar.{IsItemText, IsMemberText, IsMemberValueText, IsDictionaryMemberText}
+use Rattle.sfv_spec.specs.{Texts.{RunOf, IsJoining, ◌⨾◌}, Values.{boolean, RawItem}}
+use Rattle.sfv_spec.proofs.Marks.{space, equals_sign, left_parenthesis, right_parenthesis, comma, is_space}
+use Rattle.sfv_spec.proofs.{Marks.{is_space_or_tab, IsParameterText}, Settled.joining-nil}
+use Rattle.sfv_model.specs.Items.{item_of}
 use Rattle.sfv_model.specs.Members.{inner_item_at, next_item_at, inner_items_at, inner_of, inner_at, member_at}
-use Rattle.sfv_model.specs.Members.{entry_at, member_value_at, keyed_at}
+use Rattle.sfv_model.specs.{Members.{entry_at, member_value_at, keyed_at}, Reader.{Fault, Reader, many, any}}
 use Rattle.sfv_model.proofs.TrailingBytes.{IsOther, Shuns, Shuns-item, Shuns-key, Shuns-parameters, Shuns-led}
 use Rattle.sfv_model.proofs.TrailingBytes.{Shuns-bind, Shuns-give, Shuns-branch, Shuns-span}
+use Rattle.sfv_model.proofs.Types.{Version, ErrorKind, TrailingCharactersAfterMember, TrailingComma}
+use Rattle.sfv_model.proofs.Types.{TrailingCharactersAfterParsedValue, ExpectedInnerListDelimiter}
+use Rattle.sfv_model.proofs.Types.{UnterminatedInnerList}
+use Rattle.sfv_model.proofs.faults.Combinators.{Rules, Rules-give, Rules-span, Rules-led, Rules-bind, Rules-branch}
+use Rattle.sfv_model.proofs.faults.Combinators.{Rules-ahead, Rules-any, Rules-weaker, fail_at}
+use Rattle.sfv_model.proofs.faults.InnerListCutOff.{joining_last}
+use Rattle.sfv_model.proofs.faults.ItemEnds.{IsTight, tight_after, item_tight, outer_space, second_longer, tight_both}
+use Rattle.sfv_model.proofs.faults.{ItemEnds.{joining_tight, after_front}, Many.Rules-many}
 use Rattle.sfv_model.proofs.sound.Items.{Sound-key, parameter_of, true_value}
 use Rattle.sfv_model.proofs.sound.Members.{IsClosed, IsNextItem, Sound-inner_item, Sound-next_item, Consumes-next_item}
 use Rattle.sfv_model.proofs.sound.Members.{IsItems, items_with, bracket, Sound-items, inner_text, given}
-use Rattle.sfv_model.proofs.sound.Members.{Sound-member_value, keyed}
-use Rattle.sfv_model.proofs.sound.Steps.{Sound-steps}
+use Rattle.sfv_model.proofs.sound.{Members.{Sound-member_value, keyed}, Steps.Sound-steps}
 use Rattle.sfv_model.proofs.texts.Joining.{joining_none, joining_push, joined_split}
-use Rattle.sfv_model.proofs.faults.Combinators.{Rules, Rules-give, Rules-span, Rules-led, Rules-bind, Rules-branch}
-use Rattle.sfv_model.proofs.faults.Combinators.{Rules-ahead, Rules-any, Rules-weaker, fail_at}
-use Rattle.sfv_model.proofs.faults.Many.{Rules-many}
-use Rattle.sfv_model.proofs.faults.InnerListCutOff.{joining_last}
-use Rattle.sfv_model.proofs.faults.ItemEnds.{IsTight, tight_after, item_tight, outer_space, second_longer, tight_both}
-use Rattle.sfv_model.proofs.faults.ItemEnds.{joining_tight, after_front}
 
 -- front ends in an inner list, where a parenthesis can stand, and, after an item, a parameter too. The events `es` come
 -- before its end
@@ -186,8 +175,8 @@ module _ (version : Version) where
         second = joining_none (IsNextItem version);
       }
   items_longer i (next ∷ is) s u h j =
-      let l = joining_last (IsNextItem version) next is u j in
-      let m = item_longer l.1 l.6.back l.6.second in
+      let l = joining_last _ _ _ _ j in
+      let m = item_longer _ _ l.6.second in
       record {
         i = i;
         is = l.0 ++ m.0 ∷ [];
@@ -195,8 +184,7 @@ module _ (version : Version) where
         others = l.2 ++ (l.3 ++ codes ";a");
         text = ap (λ (x : List ℕ). (s ++ x) ++ codes ";a") l.4 ∙ simp append_assoc;
         first = h;
-        second = joining_push (IsNextItem version) l.0 m.0 l.2 (l.3 ++ codes ";a") l.5
-            (second_longer l.3 (codes ";a") l.6 m.1);
+        second = joining_push _ _ _ _ _ l.5 (second_longer l.3 (codes ";a") l.6 m.1);
       }
 
   -- ---- inner lists
@@ -224,10 +212,8 @@ module _ (version : Version) where
     opened : (x : List ℕ) (a : AreItems x) → Opened (a.i ∷ a.is) ((left_parenthesis ∷ (s ++ x)) ++ codes ")")
     opened x a = (
       s ++ (a.one ++ (a.others ++ codes ")")),
-      ap (λ (l : List ℕ). left_parenthesis ∷ l) (ap (λ (l : List ℕ). (s ++ l) ++ codes ")") a.text
-          ∙ simp append_assoc),
-      items_with version s a.one (a.others ++ codes ")") a.i a.is each a.first
-          (joined_split (IsNextItem version) IsClosed a.is a.others (codes ")") a.second bracket),
+      ap (λ (l : List ℕ). left_parenthesis ∷ l) (ap (λ (l : List ℕ). (s ++ l) ++ codes ")") a.text ∙ simp append_assoc),
+      items_with _ _ _ _ _ a.is each a.first (joined_split _ _ a.is _ _ a.second bracket),
     )
 
     regroup : (xs ys zs : List TreeEvent) → (xs ++ ys) ++ zs ≡ (xs ++ (ys ++ [])) ++ zs
@@ -245,9 +231,8 @@ module _ (version : Version) where
         regroup (inner_item_events i) (flat_map inner_item_events is) (inner_list_end ∷ parameters_end ∷ []),
       );
       tight = tight_after space (left_parenthesis ∷ s) (t ++ u) (tight_both space outer_space t u
-          (item_tight space outer_space version i t h) (joining_tight space outer_space (IsNextItem version)
-          (λ v x k. after_front space outer_space x k (item_tight space outer_space version v k.back k.second))
-          is u j));
+          (item_tight space outer_space version i t h) (joining_tight space outer_space (IsNextItem version) (λ v x k.
+          after_front space outer_space x k (item_tight space outer_space version v k.back k.second)) is u j));
       longer = λ _. let a = items_longer i is t u h j in
           (a.i ∷ a.is, subst (Opened (a.i ∷ a.is)) (simp append_assoc) (opened ((t ++ u) ++ codes ";a") a));
       ends = ends;
@@ -255,14 +240,11 @@ module _ (version : Version) where
 
     next_item_rules : Rules (next_item_at version) Here
     unfolding next_item_at
-    next_item_rules = Rules-branch _ _ _ _ (λ c _. Rules-other _ Opened Ended HasNone _ _
-        (Shuns-bind _ _ (Shuns-span _) (λ _. Shuns-branch _ _ _ (λ _. Shuns-give _)
-        (Shuns-bind _ _ shuns-inner_item (λ i. Shuns-give _)))))
-        (Rules-branch _ _ _ _ (λ _ _. Rules-give _ _) (Rules-ahead any _ _ _
-        (λ c r e _ q. fail_at (Option RawItem) ExpectedInnerListDelimiter Here (c ∷ r) e q
-        (placed ExpectedInnerListDelimiter (c ∷ r) (λ k. absurd cc)))
-        (λ c r e y q. absurd cc)
-        (λ e q. fail_at (Option RawItem) UnterminatedInnerList Here [] e q
+    next_item_rules = Rules-branch _ _ _ _ (λ c _. Rules-other _ Opened Ended HasNone _ _ (Shuns-bind _ _ (Shuns-span _)
+        (λ _. Shuns-branch _ _ _ (λ _. Shuns-give _) (Shuns-bind _ _ shuns-inner_item (λ i. Shuns-give _)))))
+        (Rules-branch _ _ _ _ (λ _ _. Rules-give _ _) (Rules-ahead any _ _ _ (λ c r e _ q. fail_at (Option RawItem)
+        ExpectedInnerListDelimiter Here (c ∷ r) e q (placed ExpectedInnerListDelimiter (c ∷ r) (λ k. absurd cc)))
+        (λ c r e y q. absurd cc) (λ e q. fail_at (Option RawItem) UnterminatedInnerList Here [] e q
         (placed UnterminatedInnerList [] (λ _. refl)))))
 
   -- the last item of an open inner list gets one more parameter
@@ -271,13 +253,12 @@ module _ (version : Version) where
       → (js : List RawItem)
       × IsMemberText version (inner_of js []) ((left_parenthesis ∷ (s ++ (t ++ codes ";a"))) ++ codes ")")
   open_longer i is s t each h =
-      let a = items_longer i is h.front h.back h.first h.second in
+      let a = items_longer _ _ _ _ h.first h.second in
       let o = opened s h.front h.back i is each h.first h.second ((h.front ++ h.back) ++ codes ";a") a in (
         a.i ∷ a.is,
-        subst (IsMemberText version (inner_of (a.i ∷ a.is) []))
-            (ap (λ (l : List ℕ). left_parenthesis ∷ l) (append-nil o.0) ∙ sym o.1
-            ∙ ap (λ (l : List ℕ). (left_parenthesis ∷ (s ++ (l ++ codes ";a"))) ++ codes ")") (sym h.text))
-            (inner_text version (a.i ∷ a.is) [] o.0 [] o.2 (joining_none (IsParameterText version))),
+        subst (IsMemberText version (inner_of (a.i ∷ a.is) [])) (ap (λ (l : List ℕ). left_parenthesis ∷ l)
+            (append-nil o.0) ∙ sym o.1 ∙ ap (λ (l : List ℕ). (left_parenthesis ∷ (s ++ (l ++ codes ";a"))) ++ codes ")")
+            (sym h.text)) (inner_text _ (a.i ∷ a.is) _ _ _ o.2 (joining_none _)),
       )
 
   abbrev AfterBracket : List ℕ → Fault → Type 0
@@ -285,19 +266,15 @@ module _ (version : Version) where
 
   items_rules : Rules (inner_items_at version) AfterBracket
   unfolding inner_items_at
-  items_rules = Rules-any _ _ _
-      (Rules-span is_space _ _ (λ s each. Rules-branch _ _ _ _ (λ _ _. Rules-give _ _)
-      (Rules-bind (IsItemText version) _ _ (inner_item_at version) _ _ (Sound-inner_item version)
-      (Rules-other _ Opened Ended HasNone _ _ shuns-inner_item)
-      (λ t i h. Rules-led _ _ _ (Rules-bind _ _ _ (many inner_item_events (next_item_at version)) _ _
-      (Sound-steps (IsNextItem version) IsClosed inner_item_events (right_parenthesis ∷ []) bracket
-      (next_item_at version) (Sound-next_item version))
-      (Rules-many (IsNextItem version) IsClosed _ _ inner_item_events (next_item_at version)
-      (Consumes-next_item version) (Sound-next_item version)
-      (λ x e. Stands Opened Ended HasNone e.kind (left_parenthesis ∷ (s ++ (t ++ x))) e.rest
-      (inner_item_events i ++ e.events))
-      (λ u is j. Rules-weaker _ _ _ (next_item_rules s t u i is each h j) (λ x e o. o)))
-      (λ u is q. Rules-give _ _)))))
+  items_rules = Rules-any _ _ _ (Rules-span is_space _ _ (λ s each. Rules-branch _ _ _ _ (λ _ _. Rules-give _ _)
+      (Rules-bind (IsItemText version) _ _ (inner_item_at version) _ _ (Sound-inner_item version) (Rules-other _ Opened
+      Ended HasNone _ _ shuns-inner_item) (λ t i h. Rules-led _ _ _ (Rules-bind _ _ _
+      (many inner_item_events (next_item_at version)) _ _ (Sound-steps (IsNextItem version) IsClosed inner_item_events
+      (right_parenthesis ∷ []) bracket (next_item_at version) (Sound-next_item version)) (Rules-many
+      (IsNextItem version) IsClosed _ _ inner_item_events (next_item_at version) (Consumes-next_item version)
+      (Sound-next_item version) (λ x e. Stands Opened Ended HasNone e.kind (left_parenthesis ∷ (s ++ (t ++ x))) e.rest
+      (inner_item_events i ++ e.events)) (λ u is j. Rules-weaker _ _ _ (next_item_rules s t u i is each h j)
+      (λ x e o. o))) (λ u is q. Rules-give _ _)))))
       )
       (λ e q. fail_at (List RawItem) UnterminatedInnerList AfterBracket [] e q (record {
         front = left_parenthesis ∷ [];
@@ -312,65 +289,46 @@ module _ (version : Version) where
       (λ x e. Stands (IsMemberText version) member_events HasNone e.kind (left_parenthesis ∷ x) e.rest
       (begins_inner_list ∷ e.events))
   unfolding inner_at
-  inner_rules = Rules-bind (IsItems version) _ _ (inner_items_at version) _ _ (Sound-items version)
-      (Rules-weaker _ _ _ items_rules (λ x e o. stands_within Opened (IsMemberText version) Ended member_events HasNone
-      HasNone [] (begins_inner_list ∷ []) (λ is b m. (
+  inner_rules = Rules-bind _ _ _ _ _ _ (Sound-items _) (Rules-weaker _ _ _ items_rules (λ x e o. stands_within _ _ _ _ _
+      _ [] (begins_inner_list ∷ []) (λ is b m. (
         inner_of is [],
         subst (IsMemberText version (inner_of is [])) (ap (λ (l : List ℕ). left_parenthesis ∷ l) (append-nil m.0)
-            ∙ sym m.1) (inner_text version is [] m.0 [] m.2 (joining_none (IsParameterText version))),
+            ∙ sym m.1) (inner_text _ _ _ _ _ m.2 (joining_none _)),
         λ n. n,
         refl,
-      )) e.kind (left_parenthesis ∷ x) e.rest e.events o))
-      (λ s is h. Rules-other _ (IsMemberText version) member_events HasNone _ _
-      (Shuns-led _ _ (Shuns-bind _ _ (Shuns-parameters version) (λ ps. Shuns-give _))))
+      )) _ _ _ _ o))
+      (λ s is h. Rules-other _ _ _ _ _ _ (Shuns-led _ _ (Shuns-bind _ _ (Shuns-parameters _) (λ ps. Shuns-give _))))
 
   member_rules : Rules (member_at version)
       (λ x e. Stands (IsMemberText version) member_events HasNone e.kind x e.rest e.events)
   unfolding member_at
-  member_rules = Rules-branch _ _ _ _
-      (λ c is. Rules-weaker _ _ _
-      (Rules-led _ _ (λ x e. Stands (IsMemberText version) member_events HasNone e.kind (left_parenthesis ∷ x) e.rest
-      e.events) inner_rules)
-      (λ x e o. subst (λ (c : ℕ). Stands (IsMemberText version) member_events HasNone e.kind (c ∷ x) e.rest e.events)
-      (sym (eqb-true c left_parenthesis is)) o))
-      (Rules-other _ (IsMemberText version) member_events HasNone (λ x. x) (λ es. es)
-      (Shuns-led _ _ (Shuns-bind _ _ (Shuns-item version) (λ i. Shuns-give _))))
+  member_rules = Rules-branch _ _ _ _ (λ c is. Rules-weaker _ _ _ (Rules-led _ _ _ inner_rules) (λ x e o. subst
+      (λ (c : ℕ). Stands (IsMemberText version) member_events HasNone e.kind (c ∷ x) e.rest e.events)
+      (sym (eqb-true c left_parenthesis is)) o)) (Rules-other _ _ _ _ _ _ (Shuns-led _ _ (Shuns-bind _ _ (Shuns-item _)
+      (λ i. Shuns-give _))))
 
   pub entry_rules : Rules (entry_at version)
       (λ x e. Stands (IsMemberText version) entry_events HasNone e.kind x e.rest e.events)
   unfolding entry_at
-  entry_rules = Rules-led _ _ _ (Rules-weaker _ _ _ member_rules (λ x e o.
-      stands_within (IsMemberText version) (IsMemberText version) member_events entry_events HasNone HasNone []
-      (entry ∷ []) (λ m s h. (m, h, λ n. n, refl)) e.kind x e.rest e.events o))
+  entry_rules = Rules-led _ _ _ (Rules-weaker _ _ _ member_rules (λ x e o. stands_within _ _ member_events _ HasNone _
+      [] (entry ∷ []) (λ m s h. (m, h, λ n. n, refl)) _ x e.rest e.events o))
 
   member_value_rules : Rules (member_value_at version)
       (λ x e. Stands (IsMemberValueText version) member_events HasNone e.kind x e.rest e.events)
   unfolding member_value_at
-  member_value_rules = Rules-branch _ _ _ _
-      (λ c is. Rules-weaker _ _ _ member_rules (λ x e o.
-      stands_within (IsMemberText version) (IsMemberValueText version) member_events member_events HasNone HasNone
+  member_value_rules = Rules-branch _ _ _ _ (λ c is. Rules-weaker _ _ _ member_rules (λ x e o. stands_within _ _ _ _ _ _
       (c ∷ []) [] (λ m s h. (
         m,
-        subst (λ (c : ℕ). IsMemberValueText version m (c ∷ s)) (sym (eqb-true c equals_sign is)) (given version m s h),
+        subst (λ (c : ℕ). IsMemberValueText version m (c ∷ s)) (sym (eqb-true c equals_sign is)) (given _ _ _ h),
         λ n. n,
         refl,
-      )) e.kind x e.rest e.events o))
-      (Rules-other _ (IsMemberValueText version) member_events HasNone (λ x. x) (λ es. es)
-      (Shuns-led _ _ (Shuns-bind _ _ (Shuns-parameters version) (λ ps. Shuns-give _))))
+      )) _ _ _ _ o))
+      (Rules-other _ _ _ _ _ _ (Shuns-led _ _ (Shuns-bind _ _ (Shuns-parameters _) (λ ps. Shuns-give _))))
 
   pub keyed_rules : Rules (keyed_at version)
       (λ x e. Stands (IsDictionaryMemberText version) keyed_events HasNone e.kind x e.rest e.events)
   unfolding keyed_at
-  keyed_rules = Rules-bind IsKeyText _ _ key_at _ _ Sound-key
-      (Rules-other _ (IsDictionaryMemberText version) keyed_events HasNone (λ x. x) (λ es. es) Shuns-key)
-      (λ k key h. Rules-led _ _ _ (Rules-bind (IsMemberValueText version) _ _ (member_value_at version) _ _
-      (Sound-member_value version)
-      (Rules-weaker _ _ _ member_value_rules (λ x e o.
-      stands_within (IsMemberValueText version) (IsDictionaryMemberText version) member_events keyed_events HasNone
-      HasNone k (keyed_entry key ∷ []) (λ m s g. (
-        (key, m),
-        keyed version key k s m h g,
-        λ n. n,
-        refl,
-      )) e.kind x e.rest e.events o))
-      (λ s m g. Rules-give _ _)))
+  keyed_rules = Rules-bind _ _ _ _ _ _ Sound-key (Rules-other _ _ _ _ _ _ Shuns-key) (λ k key h. Rules-led _ _ _
+      (Rules-bind _ _ _ _ _ _ (Sound-member_value _) (Rules-weaker _ _ _ member_value_rules (λ x e o.
+      stands_within _ _ _ _ _ _ _ (keyed_entry key ∷ []) (λ m s g.
+      ((key, m), keyed _ _ _ _ _ h g, λ n. n, refl)) _ _ _ _ o)) (λ s m g. Rules-give _ _)))

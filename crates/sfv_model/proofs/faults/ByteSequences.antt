@@ -1,16 +1,11 @@
 -- The faults of Byte Sequences, and what shows that there are no others.
 use Rattle.std.proofs.Common.{◌≡◌, ℕ, ◌+◌, List, [], ◌∷◌, ◌++◌, drop, refl, sym, ◌∙◌, ap, subst, false, inl, inr}
-use Rattle.std.proofs.Common.{Option, Some, None, Ok, Err}
-use Rattle.std.specs.Prelude.{not}
-use Rattle.std.specs.List.{list_all, list_any}
-use Rattle.std.proofs.lemmas.Bool.{and_parts, cases_Bool, not-true}
-use Rattle.std.proofs.lemmas.List.{drop-drop}
-use Rattle.sfv_spec.proofs.Marks.{colon}
-use Rattle.sfv_spec.specs.declared.error_kind.ErrorKind.TheVariants.{UnterminatedByteSequence}
-use Rattle.sfv_model.specs.Reader.{Fault, by_rule}
-use Rattle.sfv_model.specs.Content.{bytes_of, fault_place, is_colon, HasNoColon, content_in, content_fault, closed_by}
-use Rattle.sfv_model.specs.Content.{bytes_at, IsBytesAt, IsInvalidAt}
+use Rattle.std.proofs.Common.{Option, Some, None, Ok, Err, not, drop-drop}
+use Rattle.std.{specs.List.{list_all, list_any}, proofs.lemmas.Bool.{and_parts, cases_Bool, not-true}}
+use Rattle.sfv_spec.{specs.declared.error_kind.ErrorKind.TheVariants.UnterminatedByteSequence, proofs.Marks.colon}
 use Rattle.sfv_model.specs.Claims.{IsBytesFault}
+use Rattle.sfv_model.specs.Content.{bytes_of, fault_place, is_colon, HasNoColon, content_in, content_fault, closed_by}
+use Rattle.sfv_model.specs.{Content.{bytes_at, IsBytesAt, IsInvalidAt}, Reader.{Fault, by_rule}}
 use Rattle.sfv_model.proofs.sound.ByteSequences.{no_colon, content_split, read_closed, read_value, read_fault}
 use Rattle.sfv_model.proofs.sound.ByteSequences.{read_unclosed}
 
@@ -31,15 +26,14 @@ closed_fault content rest e None h v i =
     inr (content, rest, refl, h, v, sym same)
 
 pub bytes_fault : (t : List ℕ) (e : Fault) → bytes_at t ≡ Err e → IsBytesFault t e
-bytes_fault t e i = elim (cases_Bool (list_any is_colon t)) [
+bytes_fault t e i = elim (cases_Bool _) [
   | inl y ↦
-      let s = content_split t y in
+      let s = content_split _ y in
       let content : List ℕ = content_in t in
-      subst (λ (t : List ℕ). IsBytesFault t e) (sym s.1)
-      (closed_fault content s.0 e (bytes_of content) s.2 refl (sym (read_closed content s.0 s.2)
-      ∙ ap bytes_at (sym s.1) ∙ i))
+      subst (λ (t : List ℕ). IsBytesFault t e) (sym s.1) (closed_fault _ _ _ _ s.2 refl (sym (read_closed _ _ s.2) ∙ ap
+      bytes_at (sym s.1) ∙ i))
   | inr n ↦
-      let both = sym (read_unclosed t n) ∙ i in
+      let both = sym (read_unclosed _ n) ∙ i in
       let same : by_rule UnterminatedByteSequence [] ≡ e = cc in
       inl (no_colon t n, sym same)
 ]
@@ -47,8 +41,7 @@ bytes_fault t e i = elim (cases_Bool (list_any is_colon t)) [
 -- what a reading from a place answers, as the reader says it
 pub gives_value : (input bytes : List ℕ) (start end : ℕ) → IsBytesAt input start bytes end
     → bytes_at (drop start input) ≡ Ok (bytes, drop (end + 1) input)
-gives_value input bytes start end h = rw h.closed.text
-    (read_value h.content (drop (end + 1) input) bytes h.closed.no_colon h.value)
+gives_value input bytes start end h = rw h.closed.text (read_value _ _ _ h.closed.no_colon h.value)
 
 pub gives_fault : (input : List ℕ) (start index : ℕ) (h : IsInvalidAt input start index)
     → bytes_at (drop start input) ≡ Err (content_fault h.content (drop index input))

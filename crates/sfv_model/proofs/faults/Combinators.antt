@@ -1,13 +1,11 @@
 -- Where the faults of a reader stand: V t e is known of the text that is read and of its fault.
 use Rattle.std.proofs.Common.{◌≡◌, ℕ, Bool, true, false, cond, List, [], ◌∷◌, ◌++◌, Option, Some, None, Ok, Err, refl}
 use Rattle.std.proofs.Common.{sym, subst, ◌∙◌, ◌⊎◌, inl, inr}
-use Rattle.sfv_spec.specs.Events.{TreeEvent}
-use Rattle.sfv_spec.specs.declared.error_kind.ErrorKind.{ErrorKind}
+use Rattle.sfv_spec.specs.{Events.TreeEvent, Texts.RunOf, declared.error_kind.ErrorKind.ErrorKind}
 use Rattle.sfv_model.specs.Judgements.{Reached, Sound}
 use Rattle.sfv_model.specs.Reader.{Fault, Answer, Reader, any, at_reach, by_rule, after_events, and_then, give, fail}
 use Rattle.sfv_model.specs.Reader.{◌>>=◌, bind, led_answer, led, span, branch, ahead, at_start, back}
-use Rattle.sfv_model.proofs.sound.Combinators.{Steady, Steady-span, Sound-steady, IsSpan}
-use Rattle.sfv_spec.specs.Texts.{RunOf}
+use Rattle.sfv_model.proofs.sound.Combinators.{Steady, Steady-span, Sound-steady}
 
 pub record Rules {A : Type 0} (f : Reader A) (V : List ℕ → Fault → Type 0) : Type 0 where
   pub rules : (t : List ℕ) (e : Fault) → f t ≡ Err e → V t e
@@ -67,9 +65,8 @@ Rules-bind P W T f g V s h k = record {
 -- after a run of a class
 pub Rules-span : {B : Type 0} (class : ℕ → Bool) (g : List ℕ → Reader B) (V : List ℕ → Fault → Type 0)
     → ((v : List ℕ) → RunOf class v → Rules (g v) (λ u x. V (v ++ u) x)) → Rules (span class >>= g) V
-Rules-span class g V h = Rules-bind (IsSpan class) (λ _ _. Unit {0}) (λ _. Unit {0}) (span class) g V
-    (Sound-steady _ _ _ _ (Steady-span class)) (Rules-steady _ _ _ (Steady-span class))
-    (λ s v i. rw i.0 (h v i.1))
+Rules-span class g V h = Rules-bind _ (λ _ _. Unit {0}) (λ _. Unit {0}) _ _ _ (Sound-steady _ _ _ _ (Steady-span _))
+    (Rules-steady _ _ _ (Steady-span _)) (λ s v i. rw i.0 (h v i.1))
 
 cond_on : {A : Type 0} (V : List ℕ → Fault → Type 0) (t : List ℕ) (e : Fault) (b : Bool) (x y : Answer A)
     → (b ≡ true → x ≡ Err e → V t e) → (b ≡ false → y ≡ Err e → V t e) → cond b x y ≡ Err e → V t e

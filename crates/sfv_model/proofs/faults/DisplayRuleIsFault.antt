@@ -1,26 +1,15 @@
 -- A rule for a Display String holds only where the reader gives that fault, at that place.
-use Rattle.std.proofs.Common.{◌≡◌, ℕ, ◌≤◌, ◌+◌, ◌*◌, ◌&&◌, List, [], ◌∷◌, ◌++◌, length, take, refl, sym, ap, subst, ◌∙◌}
-use Rattle.std.proofs.Common.{append_assoc, arith, inr}
-use Rattle.std.specs.Prelude.{not}
-use Rattle.std.specs.List.{concat, AllZip, list_all}
-use Rattle.std.specs.Str.Lossy.{utf8_valid_len}
-use Rattle.std.proofs.lemmas.Bool.{and_parts, and_from, not-true}
-use Rattle.std.proofs.lemmas.List.{length-append, append-nil, take_at}
-use Rattle.std.proofs.lemmas.Str.{utf8_valid_len_le}
-use Rattle.sfv_spec.proofs.Marks.{percent_sign, AreDisplayPieces}
-use Rattle.sfv_spec.specs.Texts.{RunOf, IsLongestBeginning}
+use Rattle.std.proofs.Common.{◌≡◌, ℕ, ◌≤◌, ◌+◌, ◌*◌, List, [], ◌∷◌, ◌++◌, length, take, refl, sym, ap, subst, ◌∙◌}
+use Rattle.std.proofs.Common.{append_assoc, arith, inr, not, length-append, append-nil, take_at}
+use Rattle.std.specs.{Char.digit_value as hexadecimal_value, List.{concat, AllZip, list_all}}
+use Rattle.std.proofs.lemmas.{Bool.{and_parts, and_from, not-true}, Str.utf8_valid_len_le}
 use Rattle.sfv_spec.specs.Classes.{is_string_byte, is_lower_hexadecimal}
-use Rattle.sfv_spec.specs.Strings.{IsDisplayPiece}
-use Rattle.std.specs.Char.{digit_value as hexadecimal_value}
-use Rattle.sfv_spec.proofs.Versions.{one_longest}
 use Rattle.sfv_spec.specs.Faults.{DisplayFault, open_display, open_escape, wrong_escape, wrong_byte, wrong_utf8}
-use Rattle.sfv_spec.specs.declared.error_kind.ErrorKind.{ErrorKind}
-use Rattle.sfv_model.specs.Quoted.{IsDisplayFault}
-use Rattle.sfv_model.proofs.faults.Quoted.{traced}
-use Rattle.sfv_model.proofs.sound.Quoted.{zip_more, concat_more}
-use Rattle.sfv_model.proofs.faults.NumberShapes.{next_of}
-use Rattle.sfv_model.proofs.faults.DisplayFaultIsRule.{after_drop}
-use Rattle.sfv_model.proofs.texts.Utf8.{longest_text}
+use Rattle.sfv_spec.specs.{Strings.IsDisplayPiece, Texts.{RunOf, IsLongestBeginning}}
+use Rattle.sfv_spec.proofs.{Marks.{percent_sign, AreDisplayPieces}, Versions.one_longest}
+use Rattle.sfv_model.{specs.Quoted.IsDisplayFault, proofs.Types.ErrorKind}
+use Rattle.sfv_model.proofs.faults.{DisplayFaultIsRule.after_drop, NumberShapes.next_of, Quoted.traced}
+use Rattle.sfv_model.proofs.{sound.Quoted.{zip_more, concat_more}, texts.Utf8.longest_text}
 
 -- no piece more can be read of what is left
 abbrev IsLongest : List (List ℕ) → List ℕ → Type 0
@@ -33,9 +22,9 @@ few_digits : (bytes : List ℕ) (pieces : List (List ℕ)) (digits rest : List �
 few_digits bytes pieces [] rest h l r = omega arith
 few_digits bytes pieces (a ∷ []) rest h l r = omega arith
 few_digits bytes pieces (a ∷ b ∷ ds) rest h l r =
-    let p = and_parts (is_lower_hexadecimal a) (is_lower_hexadecimal b && list_all is_lower_hexadecimal ds) r in
+    let p = and_parts (is_lower_hexadecimal a) _ r in
     let q = and_parts (is_lower_hexadecimal b) (list_all is_lower_hexadecimal ds) p.1 in
-    let two = and_from (is_lower_hexadecimal a) (is_lower_hexadecimal b) p.0 q.0 in
+    let two = and_from _ _ p.0 q.0 in
     let piece : List ℕ = percent_sign ∷ a ∷ b ∷ [] in
     let n : ℕ = length (concat pieces ++ piece) in
     let front : take n (concat pieces ++ (percent_sign ∷ (a ∷ b ∷ ds ++ rest))) ≡ concat (pieces ++ piece ∷ []) =
@@ -43,11 +32,7 @@ few_digits bytes pieces (a ∷ b ∷ ds) rest h l r =
     ∙ take_at (concat pieces ++ piece) (ds ++ rest) n refl ∙ sym (concat_more pieces piece) in
     absurd (l.longest n (omega (arith, length-append {A = ℕ})) (omega (arith, length-append {A = ℕ})) (
       bytes ++ (16 * hexadecimal_value a + hexadecimal_value b) ∷ [],
-      record {
-        pieces = pieces ++ piece ∷ [];
-        text = front;
-        each = zip_more IsDisplayPiece bytes pieces _ piece h (inr (a, b, two, refl, refl));
-      },
+      record { pieces = pieces ++ piece ∷ []; text = front; each = zip_more _ _ _ _ _ h (inr (a, b, two, refl, refl)) },
     ))
 
 -- The faults of a Display String are those of the rules, and each has its place.
@@ -65,20 +50,13 @@ faults_ruled bytes pieces left there _ h longest (open_escape digits run text en
           (text ∙ ap (λ (l : List ℕ). percent_sign ∷ l) (sym (append-nil digits))) longest) run,
     )
 faults_ruled bytes pieces left there _ h longest (wrong_escape digits run text wrong) =
-    let n = next_of (λ c. not (is_lower_hexadecimal c)) there wrong in
+    let n = next_of _ _ wrong in
     let all = text ∙ ap (λ (l : List ℕ). percent_sign ∷ (digits ++ l)) n.text in
-    let few = few_digits bytes pieces digits (n.c ∷ n.rest) h (subst (IsLongest pieces) all longest) run in
-    traced _ bytes pieces left refl h
-    (digits, n.c, n.rest, all, n.text, run, few, not-true (is_lower_hexadecimal n.c) n.is)
+    let few = few_digits _ _ _ _ h (subst (IsLongest pieces) all longest) run in
+    traced _ _ _ _ refl h (digits, n.c, n.rest, all, n.text, run, few, not-true (is_lower_hexadecimal n.c) n.is)
 faults_ruled bytes pieces left there _ h longest (wrong_byte text wrong) =
     let n = next_of (λ c. not (is_string_byte c)) there wrong in
     traced _ bytes pieces left refl h (n.c, n.rest, text ∙ n.text, n.text, not-true (is_string_byte n.c) n.is)
 faults_ruled bytes pieces left there _ h longest (wrong_utf8 more valid not_text most text place) =
-    let same = one_longest most (longest_text bytes) in
-    traced _ bytes pieces left refl h (
-      more,
-      text,
-      not_text,
-      rw same at place
-          ∙ sym (after_drop (utf8_valid_len bytes) bytes pieces left h (utf8_valid_len_le bytes)),
-    )
+    let same = one_longest most (longest_text _) in
+    traced _ _ _ _ refl h (more, text, not_text, rw same at place ∙ sym (after_drop _ _ _ _ h (utf8_valid_len_le _)))

@@ -1,44 +1,36 @@
 -- Where the end cuts an inner list off, that is the fault.
 use Rattle.std.proofs.Common.{◌≡◌, ℕ, ◌≤◌, Bool, true, false, eqb, List, [], ◌∷◌, ◌++◌, length, Ok, Err, refl, sym, ap}
-use Rattle.std.proofs.Common.{subst, ◌∙◌, append_assoc, arith, inl, inr, ◌⊎◌, flat_map}
-use Rattle.std.proofs.lemmas.List.{append-nil, append_cancel_right, length-append, nil_from_length}
-use Rattle.std.proofs.lemmas.Bool.{true≢false, eqb-true, both_ways, or_parts}
-use Rattle.sfv_spec.proofs.Marks.{space, equals_sign, left_parenthesis, right_parenthesis, comma, is_space}
-use Rattle.sfv_spec.proofs.Marks.{is_space_or_tab, tab}
-use Rattle.sfv_spec.specs.Texts.{RunOf, IsJoining, ◌⨾◌}
+use Rattle.std.proofs.Common.{subst, ◌∙◌, append_assoc, arith, inl, inr, ◌⊎◌, flat_map, append-nil, length-append}
+use Rattle.std.proofs.Common.{true≢false, eqb-true}
+use Rattle.std.proofs.lemmas.{Bool.{both_ways, or_parts}, List.{append_cancel_right, nil_from_length}}
 use Rattle.sfv_spec.specs.Classes.{is_key_inner}
-use Rattle.sfv_spec.specs.Values.{RawField, RawItem, RawInnerList, RawMember, item, inner_list}
-use Rattle.sfv_spec.specs.declared.field_kind.FieldKind.{FieldKind}
-use Rattle.sfv_spec.specs.declared.field_kind.FieldKind.TheVariants.{Item as item_field, List as list_field}
-use Rattle.sfv_spec.specs.declared.field_kind.FieldKind.TheVariants.{Dictionary as dictionary_field}
-use Rattle.sfv_spec.specs.declared.version.Version.{Version}
-use Rattle.sfv_spec.specs.Events.{TreeEvent, entry, keyed_entry, begins_inner_list, inner_item_events, entry_events}
-use Rattle.sfv_spec.specs.Events.{keyed_events, events}
+use Rattle.sfv_spec.specs.Events.{TreeEvent, entry, keyed_entry, inner_item_events, entry_events, keyed_events, events}
 use Rattle.sfv_spec.specs.Grammar.{IsKeyText, IsMemberValueText, IsMemberText, IsDictionaryMemberText, AreMembersText}
-use Rattle.sfv_spec.specs.Grammar.{IsFieldText, Comma}
-use Rattle.sfv_spec.specs.declared.error_kind.ErrorKind.TheVariants.{UnterminatedInnerList}
-use Rattle.sfv_spec.proofs.Settled.{joining-nil, joining-cons}
+use Rattle.sfv_spec.specs.{Grammar.{IsFieldText, Comma}, Texts.{RunOf, IsJoining, ◌⨾◌}}
+use Rattle.sfv_spec.specs.Values.{RawField, RawItem, RawInnerList, RawMember, item, inner_list}
+use Rattle.sfv_spec.proofs.Bare.{is_bare_start}
+use Rattle.sfv_spec.proofs.Marks.{space, equals_sign, left_parenthesis, right_parenthesis, comma, is_space}
+use Rattle.sfv_spec.proofs.{Marks.{is_space_or_tab, tab}, Settled.{joining-nil, joining-cons}}
+use Rattle.sfv_model.specs.Fields.{next_at, members_at, whole_field_at, ending, read_field}
+use Rattle.sfv_model.specs.Members.{next_item_at, inner_items_at, inner_at, member_at, entry_at, member_value_at}
+use Rattle.sfv_model.specs.{Members.keyed_at, Places.OpenListIsRead}
 use Rattle.sfv_model.specs.Reader.{Fault, Reader, Apart, at_reach, after_events, fail, give, ◌>>=◌, led, branch, ahead}
 use Rattle.sfv_model.specs.Reader.{many}
-use Rattle.sfv_model.specs.Members.{next_item_at, inner_items_at, inner_at, member_at, entry_at, member_value_at}
-use Rattle.sfv_model.specs.Members.{keyed_at}
-use Rattle.sfv_model.specs.Fields.{next_at, members_at, whole_field_at, ending, read_field}
-use Rattle.sfv_model.proofs.sound.Combinators.{run_head, run_tail, Reads, Goes}
-use Rattle.sfv_model.proofs.sound.Separated.{IsNext, comma_complete, members_met, blank_ends}
-use Rattle.sfv_model.proofs.complete.Items.{blank_ends as blank_ends_item, lengthens_item, key_complete, item_no}
-use Rattle.sfv_model.proofs.complete.Items.{item_begun, begun_some}
-use Rattle.sfv_model.proofs.complete.Fields.{comma_ends}
+use Rattle.sfv_model.proofs.Types.{FieldKind, item_field, list_field, dictionary_field, Version, UnterminatedInnerList}
 use Rattle.sfv_model.proofs.complete.Combinators.{ahead_take, Apart-nil, Apart-cons, Apart-part, branch_past}
 use Rattle.sfv_model.proofs.complete.Combinators.{branch_take, ahead_any, bind_complete, span_complete}
-use Rattle.sfv_model.proofs.sound.Members.{IsClosed, IsNextItem, Consumes-next_item, IsItems, Sound-entry, Sound-keyed}
-use Rattle.sfv_model.proofs.texts.Joining.{events_push, split_joined, joining_none, joining_into, joining_push}
+use Rattle.sfv_model.proofs.complete.Fields.{comma_ends}
+use Rattle.sfv_model.proofs.complete.Items.{blank_ends as blank_ends_item, lengthens_item, key_complete, item_no}
+use Rattle.sfv_model.proofs.complete.Items.{item_begun, begun_some}
 use Rattle.sfv_model.proofs.complete.Members.{inner_item_complete, next_item_complete, inner_parts, entry_complete}
 use Rattle.sfv_model.proofs.complete.Members.{entry_fresh, keyed_complete, keyed_fresh}
-use Rattle.sfv_model.specs.Places.{OpenListIsRead}
-use Rattle.sfv_spec.proofs.Bare.{is_bare_start}
-use Rattle.sfv_model.proofs.faults.PiecesToFault.{bind_met, led_met, many_met}
 use Rattle.sfv_model.proofs.faults.ItemEnds.{parted, tight_after, not_last, outer_parenthesis, item_tight}
 use Rattle.sfv_model.proofs.faults.ItemEnds.{parameters_tight, key_tight, tight_both}
+use Rattle.sfv_model.proofs.faults.PiecesToFault.{bind_met, led_met, many_met}
+use Rattle.sfv_model.proofs.sound.Combinators.{run_head, run_tail, Reads, Goes}
+use Rattle.sfv_model.proofs.sound.Members.{IsClosed, IsNextItem, Consumes-next_item, IsItems, Sound-entry, Sound-keyed}
+use Rattle.sfv_model.proofs.sound.Separated.{IsNext, comma_complete, members_met, blank_ends}
+use Rattle.sfv_model.proofs.texts.Joining.{events_push, split_joined, joining_none, joining_into, joining_push}
 
 abbrev pub IsCut : Fault → Type 0
 IsCut e = (e.kind ≡ UnterminatedInnerList) × (e.rest ≡ []) × (e.exact ≡ true)
@@ -61,8 +53,7 @@ no_space_part : (s t : List ℕ) → NoSpace (s ++ t) → NoSpace t
 no_space_part s t h u e = h (s ++ u) (ap (λ (l : List ℕ). s ++ l) e ∙ sym (append_assoc s u (space ∷ [])))
 
 -- the last byte of two parts is that of the second
-tail_of : (s t y : List ℕ) (n : ℕ) → y ++ n ∷ [] ≡ s ++ t
-    → (t ≡ []) ⊎ ((w : List ℕ) × (t ≡ w ++ n ∷ []) × (y ≡ s ++ w))
+tail_of : (s t y : List ℕ) (n : ℕ) → y ++ n ∷ [] ≡ s ++ t → (t ≡ []) ⊎ ((w : List ℕ) × (t ≡ w ++ n ∷ []) × (y ≡ s ++ w))
 tail_of [] t y n e = inr (y, sym e, refl)
 tail_of (c ∷ s) t [] n e =
     let none : [] ≡ s ++ t = cc in
@@ -157,10 +148,9 @@ module _ {A : Type 0} (P : A → List ℕ → Type 0) (parts : A → List TreeEv
       → flat_map parts ((put b x n p h).0 ∷ (put b x n p h).1) ≡ front_events p ++ parts n
   unfolding put
   put_events b x n (spaces _ each) h = append-nil (parts n)
-  put_events _ x n (members m ms s t u c each k j sep) h =
-      ap (λ (l : List TreeEvent). parts m ++ l) (sym (append-nil (flat_map parts (ms ++ n ∷ [])))
-      ∙ events_push parts ms n [] ∙ ap (λ (l : List TreeEvent). flat_map parts ms ++ l) (append-nil (parts n)))
-      ∙ sym (append_assoc (parts m) (flat_map parts ms) (parts n))
+  put_events _ x n (members m ms s t u c each k j sep) h = ap (λ (l : List TreeEvent). parts m ++ l) (sym (append-nil
+      (flat_map parts (ms ++ n ∷ []))) ∙ events_push parts ms n [] ∙ ap (λ (l : List TreeEvent). flat_map parts ms ++ l)
+      (append-nil (parts n))) ∙ sym (append_assoc (parts m) (flat_map parts ms) (parts n))
 
   -- the last one, with what stands in front of it and the blanks after it
   pub record IsLast (u : List ℕ) : Type 0 where
@@ -230,10 +220,9 @@ module _ (version : Version) where
       let m = split_joined (IsNextItem version) IsClosed is o.back o.second in
       let z = m.second in
       let front : List ℕ = h.front ++ (o.front ++ m.front) in
-      let whole : x ++ right_parenthesis ∷ [] ≡ (front ++ z.front) ++ right_parenthesis ∷ [] =
-      h.text ∙ ap (λ (l : List ℕ). h.front ++ l) (o.text ∙ ap (λ (l : List ℕ). o.front ++ l) (m.text
-      ∙ ap (λ (l : List ℕ). m.front ++ l) (z.text ∙ ap (λ (l : List ℕ). z.front ++ l) z.second)))
-      ∙ simp append_assoc in
+      let whole : x ++ right_parenthesis ∷ [] ≡ (front ++ z.front) ++ right_parenthesis ∷ [] = h.text ∙ ap
+      (λ (l : List ℕ). h.front ++ l) (o.text ∙ ap (λ (l : List ℕ). o.front ++ l) (m.text ∙ ap
+      (λ (l : List ℕ). m.front ++ l) (z.text ∙ ap (λ (l : List ℕ). z.front ++ l) z.second))) ∙ simp append_assoc in
       let same : x ≡ front ++ z.front = append_cancel_right x (front ++ z.front) (right_parenthesis ∷ []) whole in
       let ended : z.front ≡ [] = run_none z.front z.first (no_space_part front z.front (subst NoSpace same none)) in
       let all : x ≡ h.front ++ (o.front ++ (m.front ++ [])) =
@@ -246,10 +235,9 @@ module _ (version : Version) where
         _,
         ap (inner_items_at version) all
             ∙ ahead_any _ _ (h.front ++ (o.front ++ q)) (omega (arith, some, length-append {A = ℕ}))
-            ∙ bind_complete _ _ _ _ _ (span_complete is_space h.front (o.front ++ q) h.first
-            (item_no space version i o.front q refl o.first))
-            ∙ branch_past _ _ _ (o.front ++ q) (item_no right_parenthesis version i o.front q refl o.first)
-            ∙ bind_complete _ _ _ _ _ (inner_item_complete version i o.front q o.first more.1)
+            ∙ bind_complete _ _ _ _ _ (span_complete is_space h.front (o.front ++ q) h.first (item_no space version i
+            o.front q refl o.first)) ∙ branch_past _ _ _ (o.front ++ q) (item_no right_parenthesis version i o.front q
+            refl o.first) ∙ bind_complete _ _ _ _ _ (inner_item_complete version i o.front q o.first more.1)
             ∙ led_met _ _ _ _ (bind_met _ _ _ _ more.0),
         (refl, refl, refl),
       )
@@ -267,27 +255,20 @@ module _ (version : Version) where
       let tail : x ++ right_parenthesis ∷ [] ≡ b ++ rest = cc in
       let same : b ≡ x ++ right_parenthesis ∷ [] =
       sym (append-nil b) ∙ ap (λ (l : List ℕ). b ++ l) (sym z) ∙ sym tail in
-      let cut = cut_items l.items x (subst (IsItems version l.items) same h) (no_space_part (c ∷ []) x none) in
-      let inner = cut_led (begins_inner_list ∷ []) (inner_at version) x (cut_bind (inner_items_at version) _ x cut) in (
-        (
-          inner.0,
-          ap (λ (c : ℕ). member_at version (c ∷ x)) head ∙ branch_take _ _ _ left_parenthesis x refl ∙ inner.1,
-          inner.2,
-        ),
+      let cut = cut_items _ _ (subst (IsItems version l.items) same h) (no_space_part (c ∷ []) _ none) in
+      let inner = cut_led _ _ _ (cut_bind _ _ _ cut) in (
+        (inner.0, ap (λ (c : ℕ). member_at version (c ∷ x)) head ∙ branch_take _ _ _ _ _ refl ∙ inner.1, inner.2),
         omega arith,
       )
 
   cut_member : (m : RawMember) (y : List ℕ) → IsMemberText version m (y ++ right_parenthesis ∷ []) → NoSpace y
       → Cut (member_at version) y × (1 ≤ length y)
-  cut_member (item i) y h none =
-      absurd (not_last right_parenthesis (y ++ right_parenthesis ∷ []) y
-      (item_tight right_parenthesis outer_parenthesis version i _ h) refl)
+  cut_member (item i) y h none = absurd (not_last _ _ _ (item_tight _ outer_parenthesis _ _ _ h) refl)
   cut_member (inner_list l) y h none =
-      let p = inner_parts version l.items l.parameters (y ++ right_parenthesis ∷ []) h in
-      elim (parameters_tight right_parenthesis outer_parenthesis version l.parameters p.rest p.are_parameters) [
-        | inl z ↦ cut_inner l p.items y p.rest p.are_items z p.text none
-        | inr k ↦ absurd (not_last right_parenthesis (left_parenthesis ∷ (p.items ++ p.rest)) y
-            (tight_after right_parenthesis (left_parenthesis ∷ p.items) p.rest k) (sym p.text))
+      let p = inner_parts _ _ _ _ h in
+      elim (parameters_tight _ outer_parenthesis _ _ _ p.are_parameters) [
+        | inl z ↦ cut_inner l _ _ _ p.are_items z p.text none
+        | inr k ↦ absurd (not_last _ _ _ (tight_after _ (left_parenthesis ∷ p.items) _ k) (sym p.text))
       ]
 
   cut_entry : (m : RawMember) (y : List ℕ) → IsMemberText version m (y ++ right_parenthesis ∷ []) → NoSpace y
@@ -350,11 +331,9 @@ module _ {A : Type 0} (P : A → List ℕ → Type 0) (parts : A → List TreeEv
   comma_cut c y h x some no_blank =
       let k = h.second in
       ap (next_at one) (comma_text c y h) ∙ bind_complete _ _ _ _ _ (span_complete is_space_or_tab h.front (comma ∷
-      (k.back ++ y)) h.first
-      (Apart-cons is_space_or_tab comma (k.back ++ y) refl)) ∙ ahead_any _ _ _ (omega arith)
-      ∙ ahead_take _ _ _ comma (k.back ++ y) refl
-      ∙ bind_complete _ _ _ _ _ (comma_complete P parts one k.back y k.second no_blank some)
-      ∙ bind_met _ _ _ _ x.1
+      (k.back ++ y)) h.first (Apart-cons is_space_or_tab comma (k.back ++ y) refl)) ∙ ahead_any _ _ _ (omega arith)
+      ∙ ahead_take _ _ _ comma (k.back ++ y) refl ∙ bind_complete _ _ _ _ _ (comma_complete P parts one k.back y
+      k.second no_blank some) ∙ bind_met _ _ _ _ x.1
 
   -- the last
   cut_last : (b y : List ℕ) → Before P parts one b → Cut one y → 1 ≤ length y → Apart is_space_or_tab y
@@ -371,12 +350,10 @@ module _ {A : Type 0} (P : A → List ℕ → Type 0) (parts : A → List TreeEv
       let blank = blank_ends P parts one (Apart lengthens_item) again fresh blank_ends_item comma_ends
       (Apart-nil lengthens_item) in (
         _,
-        ap (members_at parts one) (simp append_assoc)
-            ∙ members_met P parts one (Apart lengthens_item) again fresh blank_ends_item comma_ends
-            (Apart-nil lengthens_item) reads m ms (s ++ (t ++ u)) (c ++ y) x.0
-            (members_of P parts one s t u m ms each k j) (comma_cut c y h x some no_blank)
-            (subst (Apart lengthens_item) (sym (comma_text c y h))
-            (blank h.front (comma ∷ (h.second.back ++ y)) h.first (comma_ends _))),
+        ap (members_at parts one) (simp append_assoc) ∙ members_met P parts one (Apart lengthens_item) again fresh
+            blank_ends_item comma_ends (Apart-nil lengthens_item) reads m ms (s ++ (t ++ u)) (c ++ y) x.0
+            (members_of P parts one s t u m ms each k j) (comma_cut c y h x some no_blank) (subst (Apart lengthens_item)
+            (sym (comma_text c y h)) (blank h.front (comma ∷ (h.second.back ++ y)) h.first (comma_ends _))),
         x.2,
       )
 
@@ -392,9 +369,8 @@ module _ {A : Type 0} (P : A → List ℕ → Type 0) (parts : A → List TreeEv
         | inr w ↦
             let p : P l.value (w.0 ++ right_parenthesis ∷ []) = subst (P l.value) w.1 l.means in
             let c = cut l.value w.0 p (no_space_part l.before w.0 (subst NoSpace w.2 none)) in
-            subst (Cut (members_at parts one)) (sym w.2) (cut_last l.before w.0 l.place c.0 c.1
-            (apart_part is_space_or_tab w.0 (right_parenthesis ∷ [])
-            (apart_part is_space_or_tab (w.0 ++ right_parenthesis ∷ []) []
+            subst (Cut (members_at parts one)) (sym w.2) (cut_last l.before w.0 l.place c.0 c.1 (apart_part
+            is_space_or_tab w.0 (right_parenthesis ∷ []) (apart_part is_space_or_tab (w.0 ++ right_parenthesis ∷ []) []
             (fresh l.value (w.0 ++ right_parenthesis ∷ []) [] p).0)))
       ]
 

@@ -1,34 +1,23 @@
 -- What can stand in a bare item in place of a question mark or an asterisk.
 use Rattle.std.proofs.Common.{◌≡◌, ℕ, zero, suc, ◌<◌, Bool, true, false, ◌||◌, ℤ, List, [], ◌∷◌, ◌++◌, length, map}
-use Rattle.std.proofs.Common.{replicate, refl, sym, ap, subst, ◌∙◌, append_assoc, arith, inl, inr}
-use Rattle.std.specs.Prelude.{not, ◌==◌, ◌⊎◌, IsTrue, IsUtf8, codes}
+use Rattle.std.proofs.Common.{replicate, refl, sym, ap, subst, ◌∙◌, append_assoc, arith, inl, inr, not, ◌==◌, ◌⊎◌}
+use Rattle.std.proofs.Common.{IsTrue, IsUtf8, codes, true≢false, leb-true, append-nil, length-append, take_at}
 use Rattle.std.specs.List.{list_all}
-use Rattle.std.proofs.Math.Seq.{get_or-append_seam}
-use Rattle.std.proofs.lemmas.Bool.{and_parts, and_from, true≢false, both_ways, or_left, and_right, leb-true}
-use Rattle.std.proofs.lemmas.List.{append-nil, length-append, take_at}
-use Rattle.std.proofs.lemmas.List.Folds.{list_all-append}
-use Rattle.std.proofs.lemmas.Str.{IsUtf8-take, IsUtf8-append, IsCharBoundary-before_ascii}
-use Rattle.sfv_spec.proofs.Marks.{double_quote, percent_sign, asterisk, colon, minus_sign, dot, question_mark, at_sign}
-use Rattle.sfv_spec.proofs.Marks.{backslash, equals_sign, is_digit, minus_text, is_symbol, is_plain_in_string}
-use Rattle.sfv_spec.specs.Texts.{RunOf, IsJoining}
-use Rattle.sfv_spec.specs.Classes.{is_token_start, is_token_inner, is_token, is_string_byte, is_lower_hexadecimal}
+use Rattle.std.proofs.{Math.Seq.get_or-append_seam, lemmas.Bool.{and_parts, and_from, both_ways, or_left, and_right}}
+use Rattle.std.proofs.lemmas.{List.Folds.list_all-append, Str.{IsUtf8-take, IsUtf8-append, IsCharBoundary-before_ascii}}
+use Rattle.sfv_spec.specs.{Base64.symbol, Classes.{is_token_inner, is_token, is_string_byte, is_lower_hexadecimal}}
+use Rattle.sfv_spec.specs.{Grammar.IsBareText, Numbers.{signed, place_value, IsIntegerText, IsDecimalText}}
+use Rattle.sfv_spec.specs.{Strings.{IsStringPiece, is_plain_in_display, IsDisplayPiece}, Texts.{RunOf, IsJoining}}
 use Rattle.sfv_spec.specs.Values.{BareValue, integer, decimal, string, token, byte_sequence, boolean, date}
-use Rattle.sfv_spec.specs.Values.{display_string}
-use Rattle.sfv_spec.specs.declared.version.Version.{Version}
-use Rattle.sfv_spec.specs.Numbers.{signed, place_value, IsIntegerText, IsDecimalText}
-use Rattle.sfv_spec.specs.Base64.{symbol}
-use Rattle.sfv_spec.specs.Strings.{IsStringPiece, is_plain_in_display, IsDisplayPiece}
-use Rattle.sfv_spec.specs.Grammar.{IsBareText}
+use Rattle.sfv_spec.specs.{Values.display_string, declared.version.Version.Version}
+use Rattle.sfv_spec.proofs.Marks.{double_quote, percent_sign, colon, minus_sign, dot, question_mark, at_sign, backslash}
+use Rattle.sfv_spec.proofs.Marks.{equals_sign, is_digit, minus_text, is_symbol, is_plain_in_string}
 use Rattle.sfv_spec.proofs.Settled.{joining-nil, joining-cons}
-use Rattle.sfv_model.proofs.faults.ItemEnds.{parted}
-use Rattle.sfv_model.specs.Content.{IsBytesEnd}
-use Rattle.sfv_model.specs.Quoted.{IsStringEnd, IsDisplayEnd}
 use Rattle.sfv_model.specs.BareFaults.{MarkInside, AsteriskInside}
-use Rattle.sfv_model.proofs.base64.Shape.{are_symbols}
-use Rattle.sfv_model.proofs.quoted.DisplaySteps.{plain_utf8}
+use Rattle.sfv_model.specs.{Content.IsBytesEnd, Quoted.{IsStringEnd, IsDisplayEnd}}
+use Rattle.sfv_model.proofs.{base64.Shape.are_symbols, faults.ItemEnds.parted, quoted.DisplaySteps.plain_utf8}
 use Rattle.sfv_model.proofs.sound.Combinators.{run_cons, run_head}
-use Rattle.sfv_model.proofs.texts.Joining.{joining_none, joining_into, joining_append, joining_run}
-use Rattle.sfv_model.proofs.texts.Ranges.{run_weaker}
+use Rattle.sfv_model.proofs.texts.{Joining.{joining_none, joining_into, joining_append, joining_run}, Ranges.run_weaker}
 
 -- ---- a byte in a run
 
@@ -53,8 +42,7 @@ abbrev is_number_byte : ℕ → Bool
 is_number_byte c = is_digit c || (c == dot || c == minus_sign)
 
 number_run : (digits : List ℕ) → RunOf is_digit digits → RunOf is_number_byte digits
-number_run digits h = run_weaker is_digit is_number_byte (λ c e. or_left (is_digit c) (c == dot || c == minus_sign) e)
-    digits h
+number_run digits h = run_weaker is_digit is_number_byte (λ c e. or_left _ (c == dot || c == minus_sign) e) digits h
 
 minus_run : (negative : Bool) → RunOf is_number_byte (minus_text negative)
 minus_run true = refl
@@ -79,9 +67,8 @@ bytes_run : (bytes t : List ℕ) → IsBytesEnd bytes t → RunOf is_bytes_byte 
 unfolding is_symbol
 bytes_run bytes t h =
     let b = h.first in
-    let symbols : RunOf is_bytes_byte (map symbol b.values) =
-    run_weaker is_symbol is_bytes_byte (λ c e. or_left (is_symbol c) (c == equals_sign || c == colon) e)
-    (map symbol b.values) (are_symbols b.values b.in_range.0) in
+    let symbols : RunOf is_bytes_byte (map symbol b.values) = run_weaker is_symbol is_bytes_byte (λ c e. or_left
+    (is_symbol c) (c == equals_sign || c == colon) e) (map symbol b.values) (are_symbols b.values b.in_range.0) in
     let padding = run_replicate is_bytes_byte b.padding equals_sign refl in
     simp (h.text, b.text, h.second, list_all-append, symbols, padding)
 
@@ -107,9 +94,8 @@ module _ (P : ℕ → List ℕ → Type 0) (m : ℕ) (no_quote : m ≡ double_qu
       alone (a ∷ x) e = omega (arith, ap (length {A = ℕ}) e, length-append x (m ∷ q))
   part (c ∷ bytes) t x q j e =
       let k = joining-cons j in
-      let split : k.front ++ (k.back ++ double_quote ∷ []) ≡ x ++ m ∷ q =
-      sym (append_assoc k.front k.back (double_quote ∷ []))
-      ∙ ap (λ (l : List ℕ). l ++ double_quote ∷ []) (sym k.text) ∙ e in
+      let split : k.front ++ (k.back ++ double_quote ∷ []) ≡ x ++ m ∷ q = sym (append_assoc k.front k.back
+      (double_quote ∷ [])) ∙ ap (λ (l : List ℕ). l ++ double_quote ∷ []) (sym k.text) ∙ e in
       elim (goes c k.front x q (k.back ++ double_quote ∷ []) k.first split) as (λ z. Parted P m (c ∷ bytes) x) [
         | inl w ↦ record {
           front = [];
@@ -164,9 +150,8 @@ utf8_front : (s z : List ℕ) (m : ℕ) → m < 128 → IsUtf8 (s ++ m ∷ z) �
 utf8_front s z m l u =
     let bs : List ℕ = s ++ m ∷ z in
     let here = get_or-append_seam s m z 0 in
-    subst IsUtf8 (take_at s (m ∷ z) (length s) refl)
-    (IsUtf8-take bs (length s) u (IsCharBoundary-before_ascii bs (length s) (omega (arith, length-append s (m ∷ z)))
-    (omega (arith, here, l))))
+    subst IsUtf8 (take_at s (m ∷ z) (length s) refl) (IsUtf8-take _ _ u (IsCharBoundary-before_ascii _ _
+    (omega (arith, length-append s (m ∷ z))) (omega (arith, here, l))))
 
 -- where m stands, but not first, the bytes of run can stand
 module _ (version : Version) (m : ℕ) (run : List ℕ) (in_string : is_plain_in_string m ≡ true)
@@ -187,26 +172,24 @@ module _ (version : Version) (m : ℕ) (run : List ℕ) (in_string : is_plain_in
   in_string_end : (s x c : List ℕ) → IsStringEnd s (x ++ m ∷ c)
       → (w : List ℕ) × IsStringEnd w (x ++ run ++ double_quote ∷ [])
   in_string_end s x c h =
-      let p = part IsStringPiece m no_quote (after_string m in_string) s h.front x c h.first
+      let p = part _ _ no_quote (after_string _ in_string) _ _ _ _ h.first
       (ap (λ (l : List ℕ). h.front ++ l) (sym h.second) ∙ sym h.text) in (
         p.front ++ run,
-        parted (x ++ run) (codes "\"") _ refl (joining_append IsStringPiece p.front run x run p.text
-            (joining_run IsStringPiece is_plain_in_string (λ c e. inl (e, refl)) run run_string)) refl,
+        parted _ _ _ refl (joining_append _ _ _ _ _ p.text (joining_run _ _ (λ c e. inl (e, refl)) _ run_string)) refl,
       )
 
   in_display_end : (s x c : List ℕ) → IsDisplayEnd s (x ++ m ∷ c)
       → (w : List ℕ) × IsDisplayEnd w (x ++ run ++ double_quote ∷ [])
   in_display_end s x c h =
-      let p = part IsDisplayPiece m no_quote (after_display m in_display no_hexadecimal) s h.front x c h.first.0
+      let p = part _ _ no_quote (after_display _ in_display no_hexadecimal) _ _ _ _ h.first.0
       (ap (λ (l : List ℕ). h.front ++ l) (sym h.second) ∙ sym h.text) in
-      let byte = and_parts (is_string_byte m) _ in_display in
+      let byte = and_parts _ _ in_display in
       let ascii : m < 128 = omega (arith, leb-true m 0x7e (and_parts _ _ byte.0).1) in
-      let text : IsUtf8 p.front = utf8_front p.front p.past m ascii (subst IsUtf8 p.all h.first.1) in (
+      let text : IsUtf8 p.front = utf8_front _ _ _ ascii (subst IsUtf8 p.all h.first.1) in (
         p.front ++ run,
-        parted (x ++ run) (codes "\"") _ refl (
-          joining_append IsDisplayPiece p.front run x run p.text
-              (joining_run IsDisplayPiece is_plain_in_display (λ c e. inl (e, refl)) run run_display),
-          IsUtf8-append p.front run text (plain_utf8 run run_display),
+        parted _ _ _ refl (
+          joining_append _ _ _ _ _ p.text (joining_run _ _ (λ c e. inl (e, refl)) _ run_display),
+          IsUtf8-append _ _ text (plain_utf8 _ run_display),
         ) refl,
       )
 
@@ -223,15 +206,12 @@ module _ (version : Version) (m : ℕ) (run : List ℕ) (in_string : is_plain_in
       )
   inside (token s) b x c h =
       let all = subst (λ (s : List ℕ). IsTrue (is_token s)) (sym h.1) h.0 in
-      let p = and_parts (is_token_start b) (list_all is_token_inner (x ++ m ∷ c)) all in
+      let p = and_parts _ _ all in
       let word : RunOf is_token_inner (x ++ run) = list_all-append is_token_inner x run ∙ and_from _ _
       (run_parts is_token_inner x (m ∷ c) p.1).0 (run_token (run_holds is_token_inner x m c p.1)) in (
         token (b ∷ (x ++ run)),
         [],
-        (
-          and_from (is_token_start b) (list_all is_token_inner (x ++ run)) p.0 word,
-          append-nil (b ∷ (x ++ run)),
-        ),
+        (and_from _ _ p.0 word, append-nil (b ∷ (x ++ run))),
       )
   inside (byte_sequence s) b x c h =
       let text : b ∷ (x ++ m ∷ c) ≡ colon ∷ h.back = h.text ∙ ap (λ (l : List ℕ). l ++ h.back) h.first in
@@ -280,5 +260,4 @@ asterisk_inside version v [] c h = (
     value = refl;
   },
 )
-asterisk_inside version v (b ∷ x) c h = inside version asterisk (codes "1") refl refl refl refl refl refl refl
-    (λ _. refl) v b x c h
+asterisk_inside version v (b ∷ x) c h = inside _ _ _ refl refl refl refl refl refl refl (λ _. refl) _ _ _ _ h

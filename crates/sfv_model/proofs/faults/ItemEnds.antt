@@ -1,22 +1,15 @@
 -- The text of an item ends with no space, and with no parenthesis.
 use Rattle.std.proofs.Common.{◌≡◌, ℕ, ◌≤◌, Bool, true, false, eqb, List, [], ◌∷◌, ◌++◌, length, refl, sym, ap, subst}
-use Rattle.std.proofs.Common.{◌∙◌, append_assoc, arith, inl, inr, ◌⊎◌}
-use Rattle.std.specs.Prelude.{codes}
-use Rattle.std.specs.List.{list_all}
-use Rattle.std.proofs.lemmas.List.{append-nil, length-append}
-use Rattle.std.proofs.lemmas.Bool.{and_parts, both_ways, eq-eqb, true≢false}
-use Rattle.sfv_spec.proofs.Marks.{space, double_quote, colon, digit_zero, right_parenthesis, digit_one, is_digit}
-use Rattle.sfv_spec.specs.Texts.{IsJoining, RunOf, ◌⨾◌, Exactly}
+use Rattle.std.proofs.Common.{◌∙◌, append_assoc, arith, inl, inr, ◌⊎◌, codes, append-nil, length-append, eq-eqb}
+use Rattle.std.{proofs.Common.true≢false, specs.List.list_all, proofs.lemmas.Bool.{and_parts, both_ways}}
 use Rattle.sfv_spec.specs.Classes.{is_token_start, is_token_inner, is_key_start, is_key_inner}
-use Rattle.sfv_spec.specs.Values.{BareValue, integer, decimal, string, token, byte_sequence, boolean, date}
-use Rattle.sfv_spec.specs.Values.{display_string, RawParameters, RawItem}
-use Rattle.sfv_spec.specs.declared.version.Version.{Version}
-use Rattle.sfv_spec.specs.Numbers.{IsIntegerText, AreDigits}
 use Rattle.sfv_spec.specs.Grammar.{IsBareText, IsKeyText, IsValueText, IsParametersText, IsItemText}
-use Rattle.sfv_spec.proofs.Marks.{IsParameterText}
-use Rattle.sfv_spec.proofs.Settled.{joining-nil, joining-cons}
-use Rattle.sfv_model.proofs.sound.Combinators.{run_head, run_tail}
-use Rattle.sfv_model.proofs.complete.Bare.{apart_from}
+use Rattle.sfv_spec.specs.{Numbers.{IsIntegerText, AreDigits}, Texts.{IsJoining, RunOf, ◌⨾◌, Exactly}}
+use Rattle.sfv_spec.specs.Values.{BareValue, integer, decimal, string, token, byte_sequence, boolean, date}
+use Rattle.sfv_spec.specs.{Values.{display_string, RawParameters, RawItem}, declared.version.Version.Version}
+use Rattle.sfv_spec.proofs.Marks.{space, double_quote, colon, digit_zero, right_parenthesis, digit_one, is_digit}
+use Rattle.sfv_spec.proofs.{Marks.IsParameterText, Settled.{joining-nil, joining-cons}}
+use Rattle.sfv_model.proofs.{complete.Bare.apart_from, sound.Combinators.{run_head, run_tail}}
 
 -- a text in two parts
 abbrev pub parted : {P Q : List ℕ → Type 0} (a b t : List ℕ) → t ≡ a ++ b → P a → Q b → (P ⨾ Q) t
@@ -25,8 +18,7 @@ parted a b t e p q = record { front = a; back = b; text = e; first = p; second =
 -- with a longer second part
 pub second_longer : {P Q R : List ℕ → Type 0} (t more : List ℕ) (h : (P ⨾ Q) t) → R (h.back ++ more)
     → (P ⨾ R) (t ++ more)
-second_longer t more h k =
-    parted h.front (h.back ++ more) _ (ap (λ (l : List ℕ). l ++ more) h.text ∙ append_assoc h.front h.back more)
+second_longer t more h k = parted _ _ _ (ap (λ (l : List ℕ). l ++ more) h.text ∙ append_assoc h.front h.back more)
     h.first k
 
 -- the last byte is another one than n
@@ -107,8 +99,7 @@ module _ (n : ℕ) (outer : IsOuter n) where
 
   bare_tight : (version : Version) (v : BareValue) (t : List ℕ) → IsBareText version v t → IsTight n t
   bare_tight version (integer z) t h = integer_tight t h
-  bare_tight version (decimal z) t h =
-      rw h.text (tight_after n _ h.fraction (digits_tight 1 3 h.fraction (omega arith) h.counted.1))
+  bare_tight version (decimal z) t h = rw h.text (tight_after _ _ _ (digits_tight _ _ _ (omega arith) h.counted.1))
   bare_tight version (string s) t h = after_front t h (closed_tight double_quote h.back outer.closing.0 h.second)
   bare_tight version (token []) t h = absurd (true≢false (sym h.0))
   bare_tight version (token (c ∷ s)) t h =
@@ -154,6 +145,5 @@ module _ (n : ℕ) (outer : IsOuter n) where
   parameters_tight version ps t h = joining_tight (IsParameterText version) (parameter_tight version) ps t h
 
   pub item_tight : (version : Version) (i : RawItem) (t : List ℕ) → IsItemText version i t → IsTight n t
-  item_tight version i t h = subst (IsTight n) (sym h.text)
-      (tight_both h.front h.back (bare_tight version i.bare h.front h.first)
-      (parameters_tight version i.parameters h.back h.second))
+  item_tight version i t h = subst (IsTight n) (sym h.text) (tight_both _ _ (bare_tight _ _ _ h.first)
+      (parameters_tight _ _ _ h.second))

@@ -1,14 +1,10 @@
 -- Where the faults of many steps stand.
 use Rattle.std.proofs.Common.{◌≡◌, ℕ, zero, suc, ◌<◌, List, [], ◌∷◌, ◌++◌, length, Option, Some, None, Err, sym, ◌∙◌}
-use Rattle.std.proofs.Common.{append_assoc, arith, inl, inr}
-use Rattle.std.specs.Prelude.{flat_map}
-use Rattle.sfv_spec.specs.Texts.{IsJoining}
-use Rattle.sfv_spec.specs.Events.{TreeEvent}
-use Rattle.sfv_model.specs.Judgements.{Sound}
-use Rattle.sfv_model.specs.Reader.{Fault, Reader, after_events, give, ◌>>=◌, go_on, many}
+use Rattle.std.proofs.Common.{append_assoc, arith, inl, inr, flat_map}
+use Rattle.sfv_spec.specs.{Events.TreeEvent, Texts.IsJoining}
+use Rattle.sfv_model.specs.{Judgements.Sound, Reader.{Fault, Reader, after_events, give, ◌>>=◌, go_on, many}}
+use Rattle.sfv_model.proofs.{faults.Combinators.{Rules, led_fault, bind_fault}, sound.Many.{Step, Consumes, many_is}}
 use Rattle.sfv_model.proofs.texts.Joining.{joining_none, joining_push, events_push}
-use Rattle.sfv_model.proofs.sound.Many.{Step, Consumes, many_is}
-use Rattle.sfv_model.proofs.faults.Combinators.{Rules, led_fault, bind_fault}
 
 module _ {A : Type 0} (P : A → List ℕ → Type 0) (E : List ℕ → Type 0)
     (W : List ℕ → List TreeEvent → Type 0) (T : List TreeEvent → Type 0) (parts : A

@@ -1,25 +1,16 @@
 -- Members are read up to the end of the text.
 use Rattle.std.proofs.Common.{◌≡◌, ℕ, zero, suc, ◌<◌, List, [], ◌∷◌, length, Option, Some, None, Ok, Err, refl, sym, ap}
-use Rattle.std.proofs.Common.{◌∙◌, arith, inl, inr}
-use Rattle.std.proofs.lemmas.Bool.{cases_Bool}
-use Rattle.sfv_spec.proofs.Marks.{comma}
-use Rattle.sfv_spec.specs.Events.{TreeEvent, entry_events, keyed_events}
-use Rattle.sfv_spec.specs.Values.{RawField}
-use Rattle.sfv_spec.specs.declared.field_kind.FieldKind.{FieldKind}
-use Rattle.sfv_spec.specs.declared.field_kind.FieldKind.TheVariants.{Item as item_field, List as list_field}
-use Rattle.sfv_spec.specs.declared.field_kind.FieldKind.TheVariants.{Dictionary as dictionary_field}
-use Rattle.sfv_spec.specs.declared.version.Version.{Version}
-use Rattle.sfv_spec.specs.Grammar.{IsMemberText, IsDictionaryMemberText}
+use Rattle.std.proofs.{Common.{◌∙◌, arith, inl, inr}, lemmas.Bool.cases_Bool}
+use Rattle.sfv_spec.specs.{Events.{TreeEvent, keyed_events}, Grammar.{IsMemberText, IsDictionaryMemberText}}
+use Rattle.sfv_spec.{specs.Values.RawField, proofs.Marks.comma}
 use Rattle.sfv_model.specs.Commas.{HasManyMembers}
-use Rattle.sfv_spec.specs.declared.error_kind.ErrorKind.TheVariants.{TrailingComma, TrailingCharactersAfterMember}
+use Rattle.sfv_model.specs.{Fields.{comma_at, next_at, members_at, whole_field_at}, Members.keyed_at}
 use Rattle.sfv_model.specs.Reader.{Answer, Reader, any, byte, and_then, give, fail, ◌>>=◌, bind, led_answer, led, ahead}
 use Rattle.sfv_model.specs.Reader.{go_on, many, back, one_and_more}
-use Rattle.sfv_model.specs.Members.{entry_at, keyed_at}
-use Rattle.sfv_model.specs.Fields.{comma_at, next_at, members_at, whole_field_at}
-use Rattle.sfv_model.proofs.sound.Combinators.{Reads, Goes}
-use Rattle.sfv_model.proofs.sound.Many.{Consumes, many_is}
-use Rattle.sfv_model.proofs.sound.Members.{Sound-entry, Sound-keyed}
-use Rattle.sfv_model.proofs.sound.Separated.{Consumes-next}
+use Rattle.sfv_model.proofs.Types.{FieldKind, item_field, list_field, dictionary_field, Version, TrailingComma}
+use Rattle.sfv_model.proofs.Types.{TrailingCharactersAfterMember}
+use Rattle.sfv_model.proofs.sound.{Combinators.{Reads, Goes}, Many.{Consumes, many_is}}
+use Rattle.sfv_model.proofs.sound.{Members.{Sound-entry, Sound-keyed}, Separated.Consumes-next}
 
 -- what one reader after another has read
 pub bind_read : {A B : Type 0} (f : Reader A) (g : A → Reader B) (t r : List ℕ) (w : B) → (f >>= g) t ≡ Ok (w, r)
@@ -100,7 +91,6 @@ pub field_none : (version : Version) (kind : FieldKind) → HasManyMembers kind
     → (t r : List ℕ) (raw : RawField kind) → whole_field_at version kind t ≡ Ok (raw, r) → r ≡ []
 unfolding whole_field_at
 field_none version item_field many t r raw i = absurd many
-field_none version list_field many t r raw i = members_none (IsMemberText version) entry_events (entry_at version)
-    (Sound-entry version) t r raw i
+field_none version list_field many t r raw i = members_none (IsMemberText version) _ _ (Sound-entry _) _ _ _ i
 field_none version dictionary_field many t r raw i = members_none (IsDictionaryMemberText version) keyed_events
     (keyed_at version) (Sound-keyed version) t r raw i

@@ -1,36 +1,20 @@
 -- A parameter and a parenthesis stand nowhere after a whole field with a member.
 use Rattle.std.proofs.Common.{◌≡◌, ℕ, true, eqb, List, [], ◌∷◌, ◌++◌, refl, sym, ap, subst, ◌∙◌, append_assoc, inl, inr}
-use Rattle.std.specs.Prelude.{codes}
-use Rattle.std.proofs.lemmas.List.{append-nil}
-use Rattle.std.proofs.lemmas.Bool.{or_left, and_from}
-use Rattle.std.proofs.lemmas.List.Folds.{list_all-append}
-use Rattle.sfv_spec.proofs.Marks.{tab, semicolon, is_space, is_space_or_tab, true_with}
-use Rattle.sfv_spec.specs.Texts.{RunOf, ◌⨾◌}
+use Rattle.std.proofs.{Common.{codes, append-nil}, lemmas.Bool.{or_left, and_from}, lemmas.List.Folds.list_all-append}
+use Rattle.sfv_spec.specs.Events.{TreeEvent, entry_events, keyed_events}
+use Rattle.sfv_spec.specs.Grammar.{IsParametersText, IsMemberText, IsMemberValueText, IsDictionaryMemberText}
+use Rattle.sfv_spec.specs.{Grammar.{AreMembersText, IsItemText, Spaces, IsFieldText, IsAccepted}, Texts.{RunOf, ◌⨾◌}}
 use Rattle.sfv_spec.specs.Values.{RawField, RawMember, item, inner_list, boolean, RawParameters, RawItem, HasMember}
-use Rattle.sfv_spec.specs.declared.field_kind.FieldKind.{FieldKind}
-use Rattle.sfv_spec.specs.declared.field_kind.FieldKind.TheVariants.{Item as item_field, List as list_field}
-use Rattle.sfv_spec.specs.declared.field_kind.FieldKind.TheVariants.{Dictionary as dictionary_field}
-use Rattle.sfv_spec.specs.declared.version.Version.{Version}
-use Rattle.sfv_spec.specs.Grammar.{IsParametersText, IsMemberText, IsMemberValueText}
-use Rattle.sfv_spec.proofs.Marks.{IsParameterText}
-use Rattle.sfv_spec.specs.Grammar.{IsDictionaryMemberText, AreMembersText, IsItemText, Spaces, IsFieldText, IsAccepted}
-use Rattle.sfv_model.specs.Commas.{HasManyMembers}
-use Rattle.sfv_spec.specs.declared.error_kind.ErrorKind.TheVariants.{TrailingCharactersAfterMember}
-use Rattle.sfv_model.specs.Reader.{Apart, Reader, at_reach}
-use Rattle.sfv_model.specs.Members.{inner_of, entry_at, keyed_at}
-use Rattle.sfv_model.specs.Fields.{next_at, whole_field_at}
-use Rattle.sfv_model.proofs.sound.Combinators.{run_head}
-use Rattle.sfv_model.proofs.sound.Members.{inner_text}
-use Rattle.sfv_model.proofs.texts.Joining.{joining_push}
-use Rattle.sfv_model.proofs.complete.Combinators.{Apart-cons}
-use Rattle.sfv_model.proofs.complete.Items.{lengthens_item, blank_ends}
-use Rattle.sfv_model.proofs.complete.Members.{inner_parts}
-use Rattle.sfv_model.proofs.complete.Fields.{item_field_complete, field_complete}
+use Rattle.sfv_spec.proofs.Marks.{tab, semicolon, is_space, is_space_or_tab, true_with}
+use Rattle.sfv_model.specs.{Commas.HasManyMembers, Fields.{next_at, whole_field_at}}
+use Rattle.sfv_model.specs.{Members.{inner_of, entry_at, keyed_at}, Reader.{Apart, Reader}}
+use Rattle.sfv_model.proofs.Types.{FieldKind, item_field, list_field, dictionary_field, Version}
+use Rattle.sfv_model.proofs.complete.{Combinators.Apart-cons, Fields.{item_field_complete, field_complete}}
+use Rattle.sfv_model.proofs.complete.{Items.{lengthens_item, blank_ends}, Members.inner_parts}
 use Rattle.sfv_model.proofs.faults.BetweenInnerItems.{parameter_a, item_longer}
 use Rattle.sfv_model.proofs.faults.InnerListCutOff.{IsLast, last_of, put}
-use Rattle.sfv_model.proofs.faults.ItemEnds.{parted, second_longer}
-use Rattle.sfv_spec.specs.Events.{TreeEvent, entry_events, keyed_events}
-use Rattle.sfv_model.proofs.faults.TrailingCommas.{met, byte_met, not_bracketed}
+use Rattle.sfv_model.proofs.faults.{ItemEnds.{parted, second_longer}, TrailingCommas.{met, byte_met, not_bracketed}}
+use Rattle.sfv_model.proofs.{sound.Combinators.run_head, sound.Members.inner_text, texts.Joining.joining_push}
 
 -- ---- one more parameter
 
@@ -40,19 +24,17 @@ module _ (version : Version) where
 
   parameters_longer : (ps : RawParameters) (t : List ℕ) → IsParametersText version ps t
       → IsParametersText version (more_parameters ps) (t ++ codes ";a")
-  parameters_longer ps t h = joining_push (IsParameterText version) ps (codes "a", boolean true) t (codes ";a") h
-      (parameter_a version)
+  parameters_longer ps t h = joining_push _ _ _ _ _ h (parameter_a version)
 
   member_longer : (m : RawMember) (t : List ℕ) → IsMemberText version m t
       → (n : RawMember) × IsMemberText version n (t ++ codes ";a")
   member_longer (item i) t h = let j = item_longer version i t h in (item j.0, j.1)
   member_longer (inner_list l) t h =
-      let p = inner_parts version l.items l.parameters t h in (
+      let p = inner_parts _ _ _ _ h in (
         inner_of l.items (more_parameters l.parameters),
-        subst (IsMemberText version (inner_of l.items (more_parameters l.parameters)))
-            (sym (ap (λ (l : List ℕ). l ++ codes ";a") p.text ∙ simp append_assoc))
-            (inner_text version l.items (more_parameters l.parameters) p.items (p.rest ++ codes ";a") p.are_items
-            (parameters_longer l.parameters p.rest p.are_parameters)),
+        subst (IsMemberText version (inner_of l.items (more_parameters l.parameters))) (sym (ap
+            (λ (l : List ℕ). l ++ codes ";a") p.text ∙ simp append_assoc)) (inner_text _ _ _ _ _ p.are_items
+            (parameters_longer _ _ p.are_parameters)),
       )
 
   value_longer : (m : RawMember) (t : List ℕ) → IsMemberValueText version m t
@@ -104,12 +86,10 @@ not_spaced : (version : Version) (kind : FieldKind) (raw : RawField kind) (u t z
     → RunOf is_space_or_tab (c ∷ z) → ¬ IsAccepted version kind (u ++ codes ";a)")
 not_spaced version kind raw u t z c many has e h each a =
     let q : List ℕ = (c ∷ z) ++ codes ";a)" in
-    let fault = met version kind raw t q (at_reach TrailingCharactersAfterMember (codes ";a)")) many has h
-    (λ A one y blank. ap (next_at one) (sym (append_assoc y (c ∷ z) (codes ";a)")))
-    ∙ byte_met one semicolon (codes "a)") (y ++ c ∷ z) refl refl
-    (list_all-append is_space_or_tab y (c ∷ z) ∙ and_from _ _ blank each))
-    (blank_ends c (z ++ codes ";a)") (run_head is_space_or_tab c z each)) in
-    let read = field_complete version kind a.0 _ a.1 in
+    let fault = met _ _ _ _ _ _ many has h (λ A one y blank. ap (next_at one)
+    (sym (append_assoc y (c ∷ z) (codes ";a)"))) ∙ byte_met _ _ _ _ refl refl (list_all-append is_space_or_tab y (c ∷ z)
+    ∙ and_from _ _ blank each)) (blank_ends _ _ (run_head is_space_or_tab c z each)) in
+    let read = field_complete _ _ _ _ a.1 in
     let same : u ++ codes ";a)" ≡ t ++ q = ap (λ (l : List ℕ). l ++ codes ";a)") e ∙ append_assoc t (c ∷ z) _ in
     absurd (let both = sym read ∙ ap (whole_field_at version kind) same ∙ fault in cc)
 
@@ -141,12 +121,10 @@ pub not_longer : (version : Version) (kind : FieldKind) (raw : RawField kind) (u
     → IsFieldText version kind raw u → ¬ IsAccepted version kind (u ++ codes ";a)")
 not_longer version item_field raw u has h a = item_not version raw u h a
 not_longer version list_field [] u has h a = absurd (let none = has.2 in cc)
-not_longer version list_field (m ∷ ms) u has h a =
-    ending (IsMemberText version) entry_events (entry_at version) (member_longer version) m ms u ⊥ h
-    (λ ns k. not_after version list_field u (ns, k) a)
-    (λ n ns t c z e k each. not_spaced version list_field (n ∷ ns) u t z c tt (n, ns, refl) e k each a)
+not_longer version list_field (m ∷ ms) u has h a = ending (IsMemberText version) entry_events (entry_at version)
+    (member_longer version) m ms u ⊥ h (λ ns k. not_after version list_field u (ns, k) a) (λ n ns t c z e k each.
+    not_spaced version list_field (n ∷ ns) u t z c tt (n, ns, refl) e k each a)
 not_longer version dictionary_field [] u has h a = absurd (let none = has.2 in cc)
-not_longer version dictionary_field (m ∷ ms) u has h a =
-    ending (IsDictionaryMemberText version) keyed_events (keyed_at version) (keyed_longer version) m ms u ⊥ h
-    (λ ns k. not_after version dictionary_field u (ns, k) a)
-    (λ n ns t c z e k each. not_spaced version dictionary_field (n ∷ ns) u t z c tt (n, ns, refl) e k each a)
+not_longer version dictionary_field (m ∷ ms) u has h a = ending (IsDictionaryMemberText version) keyed_events
+    (keyed_at version) (keyed_longer version) m ms u ⊥ h (λ ns k. not_after version dictionary_field u (ns, k) a) (λ n
+    ns t c z e k each. not_spaced version dictionary_field (n ∷ ns) u t z c tt (n, ns, refl) e k each a)

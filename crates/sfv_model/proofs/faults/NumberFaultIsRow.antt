@@ -1,33 +1,23 @@
 -- A fault of a number or a Date is a row of the table of faults.
 use Rattle.std.proofs.Common.{◌≡◌, ℕ, ◌-◌, Bool, true, false, List, [], ◌∷◌, ◌++◌, length, Ok, Err, refl, sym, ap, ◌∙◌}
-use Rattle.std.proofs.Common.{append_assoc, arith, inl, inr}
-use Rattle.std.specs.Prelude.{◌⊎◌, ⊤}
-use Rattle.std.proofs.lemmas.Bool.{true≢false, both_ways}
-use Rattle.std.proofs.lemmas.Bool.Decides.{nat_tests}
-use Rattle.sfv_spec.proofs.Marks.{minus_sign, dot, at_sign, is_digit, at_text}
-use Rattle.sfv_spec.specs.Texts.{begins_with}
+use Rattle.std.{proofs.Common.{append_assoc, arith, inl, inr, ◌⊎◌, true≢false}, specs.Prelude.⊤}
+use Rattle.std.proofs.lemmas.Bool.{both_ways, Decides.nat_tests}
 use Rattle.sfv_spec.specs.Classes.{is_one_of}
-use Rattle.sfv_spec.specs.Values.{BareValue}
-use Rattle.sfv_spec.specs.declared.field_kind.FieldKind.{FieldKind}
-use Rattle.sfv_spec.specs.declared.version.Version.{Version}
-use Rattle.sfv_spec.specs.declared.version.Version.TheVariants.{Rfc8941, Rfc9651}
-use Rattle.sfv_spec.specs.declared.error_kind.ErrorKind.TheVariants.{NonIntegerDate, ExpectedStartOfBareItem}
-use Rattle.sfv_spec.specs.Faults.{RuledFault, point, decimal_date, long_decimal_date, bare, BareItemFault}
-use Rattle.sfv_spec.proofs.Marks.{WantsBetween}
-use Rattle.sfv_spec.specs.Faults.{old_date, no_digit, no_number, long_integer, late_point, long_decimal}
-use Rattle.sfv_model.specs.Reader.{Fault, Answer, byte, give, fail, and_then, bind, branch, back, at_start}
+use Rattle.sfv_spec.specs.Faults.{RuledFault, point, decimal_date, long_decimal_date, bare, BareItemFault, old_date}
+use Rattle.sfv_spec.specs.{Faults.{no_digit, no_number, long_integer, late_point, long_decimal}, Texts.begins_with}
+use Rattle.sfv_spec.{specs.Values.BareValue, proofs.Marks.{minus_sign, dot, at_sign, is_digit, at_text, WantsBetween}}
 use Rattle.sfv_model.specs.Bare.{number_at, as_date, date_at, is_number_start}
+use Rattle.sfv_model.specs.Reader.{Fault, Answer, byte, give, fail, and_then, bind, branch, back, at_start}
+use Rattle.sfv_model.proofs.Types.{FieldKind, Version, Rfc8941, Rfc9651, NonIntegerDate, ExpectedStartOfBareItem}
 use Rattle.sfv_model.proofs.faults.NumberShapes.{NumberShape, no_digits, sixteen_digits, point_too_late, no_fraction}
 use Rattle.sfv_model.proofs.faults.NumberShapes.{long_fraction, a_decimal, an_integer, number_shape, shape_read}
 use Rattle.sfv_model.proofs.faults.NumberShapes.{begins_neither}
 
 -- what the table says of a fault of the bare item that s begins with
 abbrev pub HasRow : Version → List ℕ → Fault → Type 0
-HasRow version s e =
-    ((e.exact ≡ true)
-    × (((e.kind ≡ ExpectedStartOfBareItem) × (e.rest ≡ s)) ⊎ BareItemFault version s e.rest e.kind))
-    ⊎ ((e.exact ≡ false) × ((kind : FieldKind) (whole before : List ℕ) → WantsBetween version kind whole before s
-    → RuledFault version kind whole e.kind (length whole - length e.rest)))
+HasRow version s e = ((e.exact ≡ true) × (((e.kind ≡ ExpectedStartOfBareItem) × (e.rest ≡ s))
+    ⊎ BareItemFault version s e.rest e.kind)) ⊎ ((e.exact ≡ false) × ((kind : FieldKind) (whole before : List ℕ)
+    → WantsBetween version kind whole before s → RuledFault version kind whole e.kind (length whole - length e.rest)))
 
 -- each fault of the answer is one of these
 abbrev pub HasRows : {A : Type 0} → Version → List ℕ → Answer A → Type 0

@@ -1,26 +1,21 @@
 -- What the reader of numbers gives, by the shape of the text: each text has one.
 use Rattle.std.proofs.Common.{◌≡◌, ℕ, zero, suc, ◌≤◌, ◌⊎◌, Bool, true, false, not, ℤ, List, [], ◌∷◌, ◌++◌, ◌||◌, length}
-use Rattle.std.proofs.Common.{Ok, Err, refl, sym, ap, ◌∙◌, append_assoc, arith, inl, inr}
-use Rattle.std.specs.Prelude.{◌==◌}
-use Rattle.std.proofs.lemmas.Bool.{cases_Bool, eqb-true, cases_lt, true≢false, or_from, le-ltb, lt-ltb}
-use Rattle.std.proofs.lemmas.List.{nil_from_length}
-use Rattle.sfv_spec.proofs.Marks.{minus_sign, dot, is_digit, minus_text}
-use Rattle.sfv_spec.specs.Texts.{begins_with, RunOf}
-use Rattle.sfv_spec.specs.Values.{BareValue, integer, decimal}
+use Rattle.std.proofs.Common.{Ok, Err, refl, sym, ap, ◌∙◌, append_assoc, arith, inl, inr, ◌==◌, eqb-true, true≢false}
+use Rattle.std.proofs.Common.{le-ltb, lt-ltb}
+use Rattle.std.proofs.lemmas.{Bool.{cases_Bool, cases_lt, or_from}, List.nil_from_length}
 use Rattle.sfv_spec.specs.Numbers.{AreDigits, signed, place_value, IsIntegerText, IsDecimalText}
-use Rattle.sfv_spec.specs.declared.error_kind.ErrorKind.TheVariants.{ExpectedDigit, TooManyDigits}
-use Rattle.sfv_spec.specs.declared.error_kind.ErrorKind.TheVariants.{TooManyDigitsBeforeDecimalPoint}
-use Rattle.sfv_spec.specs.declared.error_kind.ErrorKind.TheVariants.{TooManyDigitsAfterDecimalPoint}
-use Rattle.sfv_spec.specs.declared.error_kind.ErrorKind.TheVariants.{TrailingDecimalPoint}
+use Rattle.sfv_spec.specs.{Texts.{begins_with, RunOf}, Values.{BareValue, integer, decimal}}
+use Rattle.sfv_spec.proofs.Marks.{minus_sign, dot, is_digit, minus_text}
+use Rattle.sfv_model.specs.Bare.{long_at, decimal_at, fraction_at, point_at, whole_at, number_at}
 use Rattle.sfv_model.specs.Reader.{Apart, Answer, Reader, byte, give, fail, ruled, ahead, back, at_start, at_reach}
 use Rattle.sfv_model.specs.Reader.{by_rule, placed}
-use Rattle.sfv_model.specs.Bare.{long_at, decimal_at, fraction_at, point_at, whole_at, number_at}
+use Rattle.sfv_model.proofs.Types.{ExpectedDigit, TooManyDigits, TooManyDigitsBeforeDecimalPoint}
+use Rattle.sfv_model.proofs.Types.{TooManyDigitsAfterDecimalPoint, TrailingDecimalPoint}
 use Rattle.sfv_model.proofs.complete.Combinators.{Apart-nil, Apart-cons, branch_take, ahead_past, ahead_take}
 use Rattle.sfv_model.proofs.complete.Combinators.{bind_complete, up_to_taken}
 use Rattle.sfv_model.proofs.complete.Numbers.{goes_on, minus_apart, start_read, start_complete, some_eqb}
 use Rattle.sfv_model.proofs.complete.Numbers.{integer_complete, decimal_complete}
-use Rattle.sfv_model.proofs.sound.Combinators.{run_cons}
-use Rattle.sfv_model.proofs.sound.Numbers.{thousandths}
+use Rattle.sfv_model.proofs.sound.{Combinators.run_cons, Numbers.thousandths}
 
 -- ---- the next byte
 
@@ -100,8 +95,7 @@ pub data NumberShape (dated : Bool) (t : List ℕ) : Answer BareValue → Type 0
       → NumberShape dated t (Err (by_rule TrailingDecimalPoint (dot ∷ q)))
   long_fraction : (negative : Bool) (whole fraction q : List ℕ)
       → t ≡ minus_text negative ++ (whole ++ dot ∷ (fraction ++ q)) → AreDigits 1 12 whole → AreDigits 3 3 fraction
-      → begins_with is_digit q ≡ true
-      → NumberShape dated t (Err (placed (not dated) TooManyDigitsAfterDecimalPoint q))
+      → begins_with is_digit q ≡ true → NumberShape dated t (Err (placed (not dated) TooManyDigitsAfterDecimalPoint q))
   a_decimal : (z : ℤ) (number q : List ℕ) → IsDecimalText z number → t ≡ number ++ q → begins_with is_digit q ≡ false
       → NumberShape dated t (Ok (decimal z, q))
   an_integer : (z : ℤ) (number q : List ℕ) → IsIntegerText z number → t ≡ number ++ q → begins_with goes_on q ≡ false
@@ -112,8 +106,7 @@ pub data NumberShape (dated : Bool) (t : List ℕ) : Answer BareValue → Type 0
 digits_whole : (least : ℕ) (digits : List ℕ) → AreDigits (suc least) 15 digits → AreDigits 1 15 digits
 digits_whole least digits h = (omega (arith, h.0), h.1, h.2)
 
-long_read : (dated : Bool) (q : List ℕ)
-    → long_at dated q ≡ Err (placed (not dated) TooManyDigitsAfterDecimalPoint q)
+long_read : (dated : Bool) (q : List ℕ) → long_at dated q ≡ Err (placed (not dated) TooManyDigitsAfterDecimalPoint q)
 unfolding long_at fail ruled
 long_read true q = refl
 long_read false q = refl
@@ -124,34 +117,27 @@ up_to_point : (dated negative : Bool) (whole q : List ℕ) → AreDigits 1 12 wh
     ≡ at_start TrailingDecimalPoint (dot ∷ q) (fraction_at dated negative whole q)
 unfolding whole_at point_at back
 up_to_point dated negative whole q counted =
-    let point : Apart is_digit (dot ∷ q) = Apart-cons is_digit dot q refl in
-    start_complete dated negative whole (dot ∷ q) (counted.0, omega (arith, counted.1), counted.2) point
-    ∙ rw (some_eqb (length whole) counted.0) (ahead_past _ _ _ (dot ∷ q) point
-    ∙ ahead_take _ _ _ dot q refl
-    ∙ rw (le-ltb 12 (length whole) counted.1) (ap (at_start TrailingDecimalPoint (dot ∷ q))
-    (branch_take _ _ _ dot q refl)))
+    let point : Apart is_digit (dot ∷ q) = Apart-cons _ _ _ refl in
+    start_complete _ _ _ _ (counted.0, omega (arith, counted.1), counted.2) point ∙ rw
+    (some_eqb (length whole) counted.0) (ahead_past _ _ _ _ point ∙ ahead_take _ _ _ _ _ refl ∙ rw
+    (le-ltb 12 (length whole) counted.1) (ap (at_start TrailingDecimalPoint (dot ∷ q)) (branch_take _ _ _ _ _ refl)))
 
 pub shape_read : (dated : Bool) (t : List ℕ) (a : Answer BareValue) → NumberShape dated t a → number_at dated t ≡ a
 unfolding whole_at fraction_at decimal_at fail give
-shape_read dated t _ (no_digits negative q text h plain) = ap (number_at dated) text
-    ∙ start_read dated negative [] q refl (omega arith) (λ _. none_apart is_digit q h)
-    (λ e. none_apart (byte minus_sign) q (plain e))
-shape_read dated t _ (sixteen_digits negative whole q text counted h) = ap (number_at dated) text
-    ∙ start_read dated negative whole q counted.2 counted.1 (λ l. absurd (omega (arith, l, counted.0)))
-    (λ _. minus_apart whole q (digits_whole 14 whole counted))
-    ∙ rw (some_eqb (length whole) (omega (arith, counted.0))) (ahead_next _ _ _ q h)
+shape_read dated t _ (no_digits negative q text h plain) = ap (number_at dated) text ∙ start_read dated negative [] q
+    refl (omega arith) (λ _. none_apart is_digit q h) (λ e. none_apart (byte minus_sign) q (plain e))
+shape_read dated t _ (sixteen_digits negative whole q text counted h) = ap (number_at dated) text ∙ start_read dated
+    negative whole q counted.2 counted.1 (λ l. absurd (omega (arith, l, counted.0))) (λ _. minus_apart whole q
+    (digits_whole 14 whole counted)) ∙ rw (some_eqb (length whole) (omega (arith, counted.0))) (ahead_next _ _ _ q h)
 shape_read dated t _ (point_too_late negative whole q text counted h) =
     let n = next_of (byte dot) q h in
     let apart : begins_with is_digit q ≡ false = rw (n.text, eqb-true n.c dot n.is) refl in
-    ap (number_at dated) text
-    ∙ start_complete dated negative whole q (digits_whole 12 whole counted) (none_apart is_digit q apart)
-    ∙ rw (some_eqb (length whole) (omega (arith, counted.0))) (ahead_past _ _ _ q (none_apart is_digit q apart)
-    ∙ ahead_next _ _ _ q h
-    ∙ rw (lt-ltb 12 (length whole) counted.0) refl)
-shape_read dated t _ (no_fraction negative whole q text counted h) = ap (number_at dated) text
-    ∙ up_to_point dated negative whole q counted
-    ∙ ap (at_start TrailingDecimalPoint (dot ∷ q)) (bind_complete _ _ _ _ _
-    (up_to_taken is_digit 3 [] q refl (omega arith) (λ _. none_apart is_digit q h)))
+    ap (number_at dated) text ∙ start_complete dated negative whole q (digits_whole 12 whole counted)
+    (none_apart is_digit q apart) ∙ rw (some_eqb (length whole) (omega (arith, counted.0))) (ahead_past _ _ _ q
+    (none_apart is_digit q apart) ∙ ahead_next _ _ _ q h ∙ rw (lt-ltb 12 (length whole) counted.0) refl)
+shape_read dated t _ (no_fraction negative whole q text counted h) = ap (number_at dated) text ∙ up_to_point dated
+    negative whole q counted ∙ ap (at_start TrailingDecimalPoint (dot ∷ q)) (bind_complete _ _ _ _ _ (up_to_taken
+    is_digit 3 [] q refl (omega arith) (λ _. none_apart is_digit q h)))
 shape_read dated t _ (long_fraction negative whole fraction q text counted three h) =
     let after : fraction_at dated negative whole (fraction ++ q)
     ≡ Err (placed (not dated) TooManyDigitsAfterDecimalPoint q) = bind_complete _ _ _ _ _

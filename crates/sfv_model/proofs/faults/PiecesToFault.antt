@@ -1,15 +1,11 @@
 -- Pieces are read up to a fault that a step meets.
 use Rattle.std.proofs.Common.{◌≡◌, ℕ, List, [], ◌∷◌, ◌++◌, Option, Some, Ok, Err, refl, sym, ap, subst, ◌∙◌}
-use Rattle.std.proofs.Common.{append_assoc}
-use Rattle.std.specs.Prelude.{flat_map}
-use Rattle.sfv_spec.specs.Texts.{IsJoining}
-use Rattle.sfv_spec.specs.Events.{TreeEvent}
-use Rattle.sfv_spec.proofs.Settled.{joining-nil, joining-cons}
+use Rattle.std.proofs.Common.{append_assoc, flat_map}
+use Rattle.sfv_spec.{specs.Events.TreeEvent, specs.Texts.IsJoining, proofs.Settled.{joining-nil, joining-cons}}
 use Rattle.sfv_model.specs.Reader.{Fault, Reader, after_events, and_then, give, ◌>>=◌, bind, led_answer, led, many}
 use Rattle.sfv_model.proofs.sound.Many.{Consumes, many_is}
 
-pub after_twice : (es fs : List TreeEvent) (e : Fault)
-    → after_events es (after_events fs e) ≡ after_events (es ++ fs) e
+pub after_twice : (es fs : List TreeEvent) (e : Fault) → after_events es (after_events fs e) ≡ after_events (es ++ fs) e
 after_twice es fs e = simp append_assoc
 
 pub bind_met : {A B : Type 0} (f : Reader A) (g : A → Reader B) (t : List ℕ) (e : Fault) → f t ≡ Err e

@@ -1,20 +1,14 @@
 -- The faults of Strings and Display Strings: exactly these are given.
-use Rattle.std.proofs.Common.{◌≡◌, ℕ, true, false, List, ◌∷◌, ◌++◌, Ok, Err, refl, sym, ap, subst, ◌∙◌, inl, inr}
-use Rattle.std.specs.Prelude.{IsUtf8}
-use Rattle.std.specs.List.{concat, AllZip}
-use Rattle.std.specs.Str.{is_utf8}
-use Rattle.std.proofs.lemmas.Bool.{both_ways, cases_Bool}
-use Rattle.std.proofs.lemmas.List.{append-nil}
-use Rattle.std.proofs.lemmas.Str.{IsUtf8-from_is_utf8, is_utf8-from_IsUtf8}
-use Rattle.sfv_spec.proofs.Marks.{double_quote}
+use Rattle.std.proofs.Common.{◌≡◌, ℕ, true, false, List, ◌++◌, Ok, Err, refl, sym, ap, subst, ◌∙◌, inl, inr, IsUtf8}
+use Rattle.std.{proofs.Common.append-nil, specs.List.{concat, AllZip}, specs.Str.is_utf8}
+use Rattle.std.proofs.lemmas.{Bool.{both_ways, cases_Bool}, Str.{IsUtf8-from_is_utf8, is_utf8-from_IsUtf8}}
 use Rattle.sfv_spec.specs.Strings.{IsStringPiece, IsDisplayPiece}
-use Rattle.sfv_spec.specs.declared.error_kind.ErrorKind.{ErrorKind}
-use Rattle.sfv_spec.specs.declared.error_kind.ErrorKind.TheVariants.{InvalidUtf8InDisplayString}
-use Rattle.sfv_model.specs.Reader.{Fault, Answer, at_reach, by_rule}
+use Rattle.sfv_spec.specs.declared.error_kind.ErrorKind.{ErrorKind, TheVariants.InvalidUtf8InDisplayString}
 use Rattle.sfv_model.specs.Quoted.{after_bytes, string_at, outside, pieces_from, checked, display_at, StringStops}
 use Rattle.sfv_model.specs.Quoted.{DisplayStops, Traced, IsStringFault, IsDisplayFault}
-use Rattle.sfv_model.proofs.quoted.Traces.{Ends, trace_of_string, trace_of_display}
+use Rattle.sfv_model.specs.Reader.{Fault, Answer, at_reach, by_rule}
 use Rattle.sfv_model.proofs.quoted.Pieces.{past_string, past_display, quote_display, string_stops, display_stops}
+use Rattle.sfv_model.proofs.quoted.Traces.{Ends, trace_of_string, trace_of_display}
 use Rattle.sfv_model.proofs.sound.Quoted.{stopped_at, stopped}
 
 -- pieces, and what is left of the text
@@ -24,8 +18,7 @@ traced t bytes pieces left e h ends =
     record { bytes = bytes; pieces = pieces; left = left; text = e; content = h; ends = ends }
 
 -- Exactly such a fault is given.
-pub string_faulty : (t there : List ℕ) (k : ErrorKind) → IsStringFault t k there
-    → string_at t ≡ Err (at_reach k there)
+pub string_faulty : (t there : List ℕ) (k : ErrorKind) → IsStringFault t k there → string_at t ≡ Err (at_reach k there)
 string_faulty t there k h = ap string_at h.text ∙ past_string h.bytes h.pieces h.left h.content
     ∙ ap (after_bytes h.bytes) (string_stops k h.left there h.ends)
 
@@ -44,11 +37,9 @@ pub display_faulty : (t there : List ℕ) (k : ErrorKind) → IsDisplayFault t k
     → display_at t ≡ Err (by_rule k there)
 unfolding display_at
 display_faulty t there InvalidUtf8InDisplayString h =
-    let read : pieces_from outside t ≡ Ok (h.bytes, h.ends.0) =
-    ap (pieces_from outside) (h.text ∙ ap (λ (l : List ℕ). concat h.pieces ++ l) h.ends.1)
-    ∙ past_display h.bytes h.pieces (double_quote ∷ h.ends.0) h.content
-    ∙ ap (after_bytes h.bytes) (quote_display h.ends.0)
-    ∙ ap (λ (l : List ℕ). Ok (l, h.ends.0)) (append-nil h.bytes) in
+    let read : pieces_from outside t ≡ Ok (h.bytes, h.ends.0) = ap (pieces_from outside) (h.text ∙ ap
+    (λ (l : List ℕ). concat h.pieces ++ l) h.ends.1) ∙ past_display _ _ _ h.content ∙ ap (after_bytes h.bytes)
+    (quote_display _) ∙ ap (λ (l : List ℕ). Ok (l, h.ends.0)) (append-nil h.bytes) in
     ap (checked t) read ∙ rw (not_text h.bytes h.ends.2)
     (ap (λ (l : List ℕ). Err (by_rule InvalidUtf8InDisplayString l)) (sym h.ends.3))
 display_faulty t there k h = ap (checked t) (ap (pieces_from outside) h.text
@@ -78,5 +69,4 @@ fault_is t (Ok x) h = elim (cases_Bool (is_utf8 x.0)) [
 pub display_fault : (t : List ℕ) (e : Fault) → display_at t ≡ Err e
     → IsDisplayFault t e.kind e.rest × (e ≡ by_rule e.kind e.rest)
 unfolding display_at
-display_fault t e i = subst (λ (a : Answer (List ℕ)). FaultIs t a) i
-    (fault_is t (pieces_from outside t) (trace_of_display t))
+display_fault t e i = subst (λ (a : Answer (List ℕ)). FaultIs t a) i (fault_is _ _ (trace_of_display _))

@@ -1,35 +1,23 @@
 -- What stands after a field with a member, and is no more of it.
 use Rattle.std.proofs.Common.{◌≡◌, ℕ, false, eqb, List, [], ◌∷◌, ◌++◌, length, drop, Ok, Err, refl, sym, ap, ◌∙◌}
-use Rattle.std.proofs.Common.{append_assoc, arith}
-use Rattle.std.proofs.lemmas.List.{append-nil, drop_at}
-use Rattle.std.specs.Prelude.{codes, ◌≢◌}
-use Rattle.sfv_spec.proofs.Marks.{comma, right_parenthesis, is_space, is_space_or_tab}
-use Rattle.sfv_spec.specs.Texts.{RunOf}
-use Rattle.sfv_spec.specs.Values.{RawField, RawItem, HasMember}
-use Rattle.sfv_spec.specs.declared.field_kind.FieldKind.{FieldKind}
-use Rattle.sfv_spec.specs.declared.field_kind.FieldKind.TheVariants.{Item as item_field, List as list_field}
-use Rattle.sfv_spec.specs.declared.field_kind.FieldKind.TheVariants.{Dictionary as dictionary_field}
-use Rattle.sfv_spec.specs.declared.version.Version.{Version}
-use Rattle.sfv_spec.specs.Grammar.{IsMemberText, IsDictionaryMemberText, IsFieldText, IsAccepted}
+use Rattle.std.proofs.Common.{append_assoc, arith, append-nil, drop_at, codes, ◌≢◌}
 use Rattle.sfv_spec.specs.Events.{TreeEvent, events, entry_events, keyed_events}
-use Rattle.sfv_model.specs.Commas.{HasManyMembers}
-use Rattle.sfv_spec.specs.declared.error_kind.ErrorKind.TheVariants.{TrailingComma, TrailingCharactersAfterMember}
-use Rattle.sfv_model.specs.Reader.{Fault, Reader, Apart, any, byte, at_reach, by_rule, after_events, at_start, give}
-use Rattle.sfv_model.specs.Reader.{fail, back, span, branch, ahead, bind, led}
-use Rattle.sfv_model.specs.Judgements.{IsFault}
-use Rattle.sfv_model.specs.Bare.{token_at, bare_at}
-use Rattle.sfv_model.specs.Items.{key_at, item_at}
-use Rattle.sfv_model.specs.Members.{member_at, entry_at, keyed_at}
+use Rattle.sfv_spec.specs.{Grammar.{IsFieldText, IsAccepted}, Texts.RunOf, Values.{RawField, RawItem, HasMember}}
+use Rattle.sfv_spec.proofs.Marks.{comma, right_parenthesis, is_space, is_space_or_tab}
+use Rattle.sfv_model.specs.{Bare.{token_at, bare_at}, Claims.CommaRow, Commas.HasManyMembers}
 use Rattle.sfv_model.specs.Fields.{comma_at, next_at, members_at, whole_field_at, ending, read_field}
-use Rattle.sfv_model.specs.Claims.{CommaRow}
+use Rattle.sfv_model.specs.{Items.{key_at, item_at}, Judgements.IsFault, Members.{member_at, entry_at, keyed_at}}
+use Rattle.sfv_model.specs.Reader.{Fault, Reader, Apart, at_reach, by_rule, after_events, at_start, give, fail, back}
+use Rattle.sfv_model.specs.Reader.{span, branch, ahead, bind, led}
+use Rattle.sfv_model.proofs.Types.{FieldKind, item_field, list_field, dictionary_field, Version, TrailingComma}
+use Rattle.sfv_model.proofs.Types.{TrailingCharactersAfterMember}
 use Rattle.sfv_model.proofs.complete.Combinators.{Apart-nil, Apart-cons, branch_take, ahead_past, ahead_take, ahead_any}
 use Rattle.sfv_model.proofs.complete.Combinators.{bind_complete, span_complete}
-use Rattle.sfv_model.proofs.sound.Members.{Sound-entry, Sound-keyed}
-use Rattle.sfv_model.proofs.sound.Separated.{members_met}
+use Rattle.sfv_model.proofs.complete.Fields.{spaces_end, comma_ends, item_field_complete, field_complete}
 use Rattle.sfv_model.proofs.complete.Items.{lengthens_item, blank_ends}
 use Rattle.sfv_model.proofs.complete.Members.{entry_complete, entry_fresh, keyed_complete, keyed_fresh}
-use Rattle.sfv_model.proofs.complete.Fields.{spaces_end, comma_ends, item_field_complete, field_complete}
 use Rattle.sfv_model.proofs.faults.PiecesToFault.{bind_met}
+use Rattle.sfv_model.proofs.sound.{Members.{Sound-entry, Sound-keyed}, Separated.members_met}
 
 -- a type of field is a list or a dictionary unless it is an item
 pub not_item : (kind : FieldKind) → HasManyMembers kind → kind ≢ item_field
@@ -48,19 +36,17 @@ comma_met : {A : Type 0} (one : Reader A) (w z : List ℕ) → RunOf is_space_or
 unfolding next_at comma_at back give
 comma_met one w z each' each =
     let end : span is_space_or_tab w ≡ Ok (w, []) = ap (span is_space_or_tab) (sym (append-nil w))
-    ∙ span_complete is_space_or_tab w [] each' (Apart-nil is_space_or_tab) in
-    bind_complete _ _ _ _ _ (span_complete is_space_or_tab z (comma ∷ w) each (Apart-cons is_space_or_tab comma w refl))
-    ∙ ahead_any _ _ _ (omega arith) ∙ ahead_take _ _ _ comma w refl
-    ∙ bind_met _ _ _ _ (ap (at_start TrailingComma (comma ∷ w)) (branch_take _ _ _ comma w refl
-    ∙ bind_complete _ _ _ _ _ end ∙ ahead_past _ _ _ [] (Apart-nil any)))
+    ∙ span_complete _ _ _ each' (Apart-nil _) in
+    bind_complete _ _ _ _ _ (span_complete _ _ _ each (Apart-cons _ _ _ refl)) ∙ ahead_any _ _ _ (omega arith)
+    ∙ ahead_take _ _ _ _ _ refl ∙ bind_met _ _ _ _ (ap (at_start TrailingComma (comma ∷ w)) (branch_take _ _ _ _ _ refl
+    ∙ bind_complete _ _ _ _ _ end ∙ ahead_past _ _ _ _ (Apart-nil _)))
 
 -- blanks, and another byte
 pub byte_met : {A : Type 0} (one : Reader A) (c : ℕ) (w z : List ℕ) → is_space_or_tab c ≡ false → eqb c comma ≡ false
     → RunOf is_space_or_tab z → next_at one (z ++ c ∷ w) ≡ Err (at_reach TrailingCharactersAfterMember (c ∷ w))
 unfolding next_at fail
-byte_met one c w z none no_comma each =
-    bind_complete _ _ _ _ _ (span_complete is_space_or_tab z (c ∷ w) each (Apart-cons is_space_or_tab c w none))
-    ∙ ahead_any _ _ _ (omega arith) ∙ ahead_past _ _ _ (c ∷ w) (Apart-cons (byte comma) c w no_comma)
+byte_met one c w z none no_comma each = bind_complete _ _ _ _ _ (span_complete _ _ _ each (Apart-cons _ _ _ none))
+    ∙ ahead_any _ _ _ (omega arith) ∙ ahead_past _ _ _ _ (Apart-cons _ _ _ no_comma)
 
 -- a fault that comes after any member is the field's
 pub met : (version : Version) (kind : FieldKind) (raw : RawField kind) (t q : List ℕ) (e : Fault) → HasManyMembers kind
@@ -70,24 +56,21 @@ pub met : (version : Version) (kind : FieldKind) (raw : RawField kind) (t q : Li
 unfolding whole_field_at
 met version item_field raw t q e many has h after f = absurd many
 met version list_field [] t q e many has h after f = absurd (let none = has.2 in cc)
-met version list_field (m ∷ ms) t q e many has h after f =
-    members_met (IsMemberText version) entry_events (entry_at version) (Apart lengthens_item) (entry_complete version)
-    (entry_fresh version) blank_ends comma_ends (Apart-nil lengthens_item) (Sound-entry version) m ms t q e h
-    (after _ (entry_at version) h.second.back h.second.second) f
+met version list_field (m ∷ ms) t q e many has h after f = members_met _ _ _ (Apart lengthens_item) (entry_complete _)
+    (entry_fresh _) blank_ends comma_ends (Apart-nil _) (Sound-entry _) _ _ t q _ h (after _ (entry_at version)
+    h.second.back h.second.second) f
 met version dictionary_field [] t q e many has h after f = absurd (let none = has.2 in cc)
-met version dictionary_field (m ∷ ms) t q e many has h after f =
-    members_met (IsDictionaryMemberText version) keyed_events (keyed_at version) (Apart lengthens_item)
-    (keyed_complete version) (keyed_fresh version) blank_ends comma_ends (Apart-nil lengthens_item)
-    (Sound-keyed version) m ms t q e h (after _ (keyed_at version) h.second.back h.second.second) f
+met version dictionary_field (m ∷ ms) t q e many has h after f = members_met _ _ _ (Apart lengthens_item)
+    (keyed_complete _) (keyed_fresh _) blank_ends comma_ends (Apart-nil _) (Sound-keyed _) _ _ t q _ h (after _
+    (keyed_at version) h.second.back h.second.second) f
 
 -- a comma and blanks at the end
 pub comma_after : (version : Version) (kind : FieldKind) (raw : RawField kind) (t w : List ℕ) → HasManyMembers kind
     → HasMember kind raw → IsFieldText version kind raw t → RunOf is_space_or_tab w
     → whole_field_at version kind (t ++ comma ∷ w)
     ≡ Err (after_events (events kind raw) (by_rule TrailingComma (comma ∷ w)))
-comma_after version kind raw t w many has h each =
-    met version kind raw t (comma ∷ w) (by_rule TrailingComma (comma ∷ w)) many has h
-    (λ A one z blank. comma_met one w z each blank) (comma_ends w)
+comma_after version kind raw t w many has h each = met _ _ _ _ _ _ many has h
+    (λ A one z blank. comma_met _ _ _ each blank) (comma_ends _)
 
 -- a byte that is none of the field, nor a blank or a comma
 pub byte_after : (version : Version) (kind : FieldKind) (raw : RawField kind) (t w : List ℕ) (c : ℕ)
@@ -95,9 +78,8 @@ pub byte_after : (version : Version) (kind : FieldKind) (raw : RawField kind) (t
     → eqb c comma ≡ false → lengthens_item c ≡ false
     → whole_field_at version kind (t ++ c ∷ w)
     ≡ Err (after_events (events kind raw) (at_reach TrailingCharactersAfterMember (c ∷ w)))
-byte_after version kind raw t w c many has h none no_comma no_more =
-    met version kind raw t (c ∷ w) (at_reach TrailingCharactersAfterMember (c ∷ w)) many has h
-    (λ A one z blank. byte_met one c w z none no_comma blank) (Apart-cons lengthens_item c w no_more)
+byte_after version kind raw t w c many has h none no_comma no_more = met _ _ _ _ _ _ many has h (λ A one z blank.
+    byte_met _ _ _ _ none no_comma blank) (Apart-cons _ _ _ no_more)
 
 -- ---- a parenthesis
 
@@ -149,6 +131,5 @@ comma_row version kind t index h =
     ∙ ap (drop (length h.before)) text ∙ drop_at h.before (comma ∷ h.whitespace) _ refl in (
       h.raw,
       ap (λ (l : List ℕ). ending (events kind) (whole_field_at version kind l)) text ∙ ap (ending (events kind))
-          (comma_after version kind h.raw h.before h.whitespace h.many h.member h.accepted h.blank)
-          ∙ rw (left, append-nil) refl,
+          (comma_after _ _ _ _ _ h.many h.member h.accepted h.blank) ∙ rw (left, append-nil) refl,
     )

@@ -1,12 +1,7 @@
 -- On how much of the text a bare item rests.
-use Rattle.sfv_spec.specs.declared.version.Version.{Version}
-use Rattle.sfv_spec.specs.declared.version.Version.TheVariants.{Rfc8941, Rfc9651}
-use Rattle.sfv_model.specs.Judgements.{Local}
-use Rattle.sfv_model.specs.Bare.{boolean_at, token_at, date_at, quoted_at, bare_at}
-use Rattle.sfv_model.proofs.local.Combinators.{local_rules}
-use Rattle.sfv_model.proofs.local.ByteSequences.{Local-bytes}
-use Rattle.sfv_model.proofs.local.Quoted.{Local-string, Local-display}
-use Rattle.sfv_model.proofs.local.Numbers.{Local-number}
+use Rattle.sfv_model.specs.{Bare.{boolean_at, token_at, date_at, quoted_at, bare_at}, Judgements.Local}
+use Rattle.sfv_model.proofs.{Types.{Version, Rfc8941, Rfc9651}, local.ByteSequences.Local-bytes}
+use Rattle.sfv_model.proofs.local.{Combinators.local_rules, Numbers.Local-number, Quoted.{Local-string, Local-display}}
 
 -- ---- what an answer rests on
 

@@ -1,19 +1,13 @@
 -- On how much of the text a Byte Sequence rests.
-use Rattle.std.proofs.lemmas.Bool.{not-true, and_parts, cases_Bool, true≢false}
 use Rattle.std.proofs.Common.{◌≡◌, ℕ, ◌<◌, ◌+◌, List, [], ◌∷◌, ◌++◌, length, take, drop, get_or, refl, sym, ◌∙◌, ap}
-use Rattle.std.proofs.Common.{true, append_assoc, arith, inl, inr, Option, Some, None}
-use Rattle.std.specs.Prelude.{not}
-use Rattle.std.specs.List.{list_all, list_any}
-use Rattle.std.proofs.lemmas.List.{length-append, take_more, drop_more, drop-append-le, length-take-le}
-use Rattle.std.proofs.lemmas.List.{take-append-drop}
-use Rattle.std.proofs.lemmas.List.Folds.{list_all-append}
+use Rattle.std.proofs.Common.{true, append_assoc, arith, inl, inr, Option, Some, None, true≢false, not, length-append}
+use Rattle.std.proofs.Common.{length-take-le, take-append-drop}
+use Rattle.std.{specs.List.{list_all, list_any}, proofs.lemmas.Bool.{not-true, and_parts, cases_Bool}}
+use Rattle.std.proofs.lemmas.List.{take_more, drop_more, drop-append-le, Folds.list_all-append}
 use Rattle.sfv_spec.proofs.Marks.{colon}
-use Rattle.sfv_model.specs.Reader.{first}
-use Rattle.sfv_model.specs.Judgements.{IsFault, Lasts, Local}
 use Rattle.sfv_model.specs.Content.{valid_from, bytes_of, fault_place, is_colon, HasNoColon, content_in, closed_by}
-use Rattle.sfv_model.specs.Content.{bytes_at}
-use Rattle.sfv_model.proofs.base64.Shape.{valid_local}
-use Rattle.sfv_model.proofs.base64.Contents.{rejected_at}
+use Rattle.sfv_model.specs.{Content.bytes_at, Judgements.{IsFault, Lasts, Local}, Reader.first}
+use Rattle.sfv_model.proofs.base64.{Contents.rejected_at, Shape.valid_local}
 use Rattle.sfv_model.proofs.sound.ByteSequences.{content_split, after_colon, read_closed, read_value, read_fault}
 use Rattle.sfv_model.proofs.sound.ByteSequences.{read_unclosed, fault_at, front_of}
 
@@ -58,8 +52,7 @@ lasts_closed : (content rest : List ℕ) (value : Option (List ℕ)) → HasNoCo
 lasts_closed content rest (Some bytes) h e = (
   content ++ colon ∷ [],
   rw (after_colon content rest) (sym (append_assoc content (colon ∷ []) rest)),
-  λ r i.
-      rw (append_assoc content (colon ∷ []) r) (read_value content r bytes h e),
+  λ r i. rw (append_assoc content (colon ∷ []) r) (read_value content r bytes h e),
 )
 lasts_closed content rest None h e = λ l. let t = content ++ colon ∷ rest in
     let f = fault_at content l in

@@ -1,9 +1,7 @@
 -- An answer rests on the bytes up to its place, and on the one that stands there.
 use Rattle.std.proofs.Common.{◌≡◌, ℕ, zero, suc, Bool, true, false, cond, List, [], ◌∷◌, ◌++◌, Option, Some, None, Ok}
-use Rattle.std.proofs.Common.{Err, refl, sym, ap, ◌∙◌, append_assoc, inl, inr}
-use Rattle.sfv_spec.specs.Events.{TreeEvent}
-use Rattle.sfv_spec.specs.declared.error_kind.ErrorKind.{ErrorKind}
-use Rattle.std.proofs.lemmas.Bool.{true≢false, cases_Bool}
+use Rattle.std.proofs.{Common.{Err, refl, sym, ap, ◌∙◌, append_assoc, inl, inr, true≢false}, lemmas.Bool.cases_Bool}
+use Rattle.sfv_spec.specs.{Events.TreeEvent, declared.error_kind.ErrorKind.ErrorKind}
 use Rattle.sfv_model.specs.Judgements.{Lasts, Local}
 use Rattle.sfv_model.specs.Reader.{first, Answer, Reader, after_events, and_then, give, fail, ruled, ◌>>=◌, bind}
 use Rattle.sfv_model.specs.Reader.{led_answer, led, branch, ahead, at_start, back, up_to, span}
@@ -19,14 +17,7 @@ Local-give v = record { lasts = λ t. ([], refl, λ r e. refl) }
 pub Local-fail : {A : Type 0} (k : ErrorKind) → Local {A = A} (fail k)
 unfolding fail
 Local-fail k = record {
-  lasts = λ t l. (
-    [],
-    refl,
-    λ r e. (
-      record { kind = k; exact = true; rest = r; events = [] },
-      refl,
-    ),
-  );
+  lasts = λ t l. ([], refl, λ r e. (record { kind = k; exact = true; rest = r; events = [] }, refl));
 }
 
 pub Local-ruled : {A : Type 0} (k : ErrorKind) → Local {A = A} (ruled k)
@@ -72,9 +63,8 @@ instead f g t a h same = after f g [] t a h (λ p r e q i. same (p ++ q) (first_
 pub bind_on : {A B : Type 0} (f : Reader A) (g : A → Reader B) (t : List ℕ) (a : Answer A) → Lasts f t a
     → ((v : A) → Local (g v)) → Lasts (f >>= g) t (and_then a g)
 unfolding bind
-bind_on f g t (Ok x) h k =
-    rw h.1 (after (f >>= g) (g x.0) h.0 x.1 (g x.0 x.1) ((k x.0).lasts x.1)
-    (λ p r e q i. ap (λ a. and_then a g) (h.2 (p ++ q) (first_after p q r i ∙ ap first (sym e)))))
+bind_on f g t (Ok x) h k = rw h.1 (after (f >>= g) (g x.0) _ _ _ ((k x.0).lasts x.1) (λ p r e q i. ap
+    (λ a. and_then a g) (h.2 (p ++ q) (first_after _ _ _ i ∙ ap first (sym e)))))
 bind_on f g t (Err x) h k = λ l. let w = h l in (w.0, w.1, λ r e. let m = w.2 r e in (m.0, ap (λ a. and_then a g) m.1))
 
 pub Local-bind : {A B : Type 0} (f : Reader A) (g : A → Reader B) → Local f → ((v : A) → Local (g v)) → Local (f >>= g)
@@ -112,8 +102,7 @@ unfolding ahead
 looks class taken other [] b c e i = absurd cc
 looks class taken other (d ∷ r) b c e i = let same : d ≡ c = cc in
     rw (same, e) (elim b as (λ (b : Bool). cond b (taken (c ∷ r)) (other (c ∷ r)) ≡ cond b taken other (c ∷ r)) [
-      | true ↦
-          refl
+      | true ↦ refl
       | false ↦ refl
     ])
 
@@ -174,9 +163,8 @@ span_lasts class [] = ([], refl, λ r e. span_empty r e)
     span_empty (d ∷ q) e = absurd cc
 span_lasts class (c ∷ r) = elim (cases_Bool (class c)) [
   | inl e ↦ rw e (after (span class) (span class >>= λ cs. give (c ∷ cs)) (c ∷ []) r
-      (and_then (span class r) (λ cs. give (c ∷ cs)))
-      (bind_on (span class) (λ cs. give (c ∷ cs)) r (span class r) (span_lasts class r) (λ cs. Local-give (c ∷ cs)))
-      (λ p q i s j. rw e refl))
+      (and_then (span class r) (λ cs. give (c ∷ cs))) (bind_on (span class) (λ cs. give (c ∷ cs)) r (span class r)
+      (span_lasts class r) (λ cs. Local-give (c ∷ cs))) (λ p q i s j. rw e refl))
   | inr e ↦ rw e (instead (span class) (give []) (c ∷ r) (Ok ([], c ∷ r)) ([], refl, λ r e. refl)
       (λ q i. span_none class c q e i))
 ]

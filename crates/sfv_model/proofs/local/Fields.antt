@@ -1,23 +1,11 @@
 -- On how much of the text a field rests.
-use Rattle.sfv_spec.specs.declared.field_kind.FieldKind.{FieldKind}
-use Rattle.sfv_spec.specs.declared.field_kind.FieldKind.TheVariants.{Item as item_field, List as list_field}
-use Rattle.sfv_spec.specs.declared.field_kind.FieldKind.TheVariants.{Dictionary as dictionary_field}
-use Rattle.sfv_spec.specs.declared.version.Version.{Version}
-use Rattle.sfv_spec.specs.Grammar.{IsMemberText, IsDictionaryMemberText}
-use Rattle.sfv_spec.specs.Events.{entry_events, keyed_events}
-use Rattle.sfv_model.specs.Judgements.{Local}
-use Rattle.sfv_model.specs.Members.{entry_at, keyed_at}
-use Rattle.sfv_model.specs.Fields.{whole_field_at}
-use Rattle.sfv_model.proofs.local.Combinators.{local_rules}
-use Rattle.sfv_model.proofs.local.Items.{Local-item}
-use Rattle.sfv_model.proofs.sound.Members.{Sound-entry, Sound-keyed}
-use Rattle.sfv_model.proofs.local.Members.{Local-entry, Local-keyed}
-use Rattle.sfv_model.proofs.sound.Separated.{Local-members}
+use Rattle.sfv_model.specs.{Fields.whole_field_at, Judgements.Local}
+use Rattle.sfv_model.proofs.Types.{FieldKind, item_field, list_field, dictionary_field, Version}
+use Rattle.sfv_model.proofs.local.{Combinators.local_rules, Items.Local-item, Members.{Local-entry, Local-keyed}}
+use Rattle.sfv_model.proofs.sound.{Members.{Sound-entry, Sound-keyed}, Separated.Local-members}
 
 pub Local-field : (version : Version) (kind : FieldKind) → Local (whole_field_at version kind)
 unfolding whole_field_at
 Local-field version item_field = search (local_rules, Local-item) depth 40
-Local-field version list_field = Local-members (IsMemberText version) entry_events (entry_at version)
-    (Sound-entry version) (Local-entry version)
-Local-field version dictionary_field = Local-members (IsDictionaryMemberText version) keyed_events (keyed_at version)
-    (Sound-keyed version) (Local-keyed version)
+Local-field version list_field = Local-members _ _ _ (Sound-entry _) (Local-entry _)
+Local-field version dictionary_field = Local-members _ _ _ (Sound-keyed _) (Local-keyed _)

@@ -1,11 +1,7 @@
 -- On how much of the text keys, parameters and items rest.
-use Rattle.sfv_spec.specs.declared.version.Version.{Version}
-use Rattle.sfv_model.specs.Judgements.{Local}
-use Rattle.sfv_model.specs.Items.{key_at, value_at, parameter_at, parameter_event, parameters_at, item_at}
-use Rattle.sfv_model.proofs.local.Combinators.{local_rules}
-use Rattle.sfv_model.proofs.sound.Many.{Local-many}
-use Rattle.sfv_model.proofs.local.Bare.{Local-bare}
-use Rattle.sfv_model.proofs.sound.Items.{Consumes-parameter}
+use Rattle.sfv_model.specs.{Items.{key_at, value_at, parameter_at, parameters_at, item_at}, Judgements.Local}
+use Rattle.sfv_model.proofs.{Types.Version, local.Bare.Local-bare, local.Combinators.local_rules}
+use Rattle.sfv_model.proofs.sound.{Items.Consumes-parameter, Many.Local-many}
 
 -- ---- what an answer rests on
 
@@ -23,8 +19,7 @@ Local-parameter version = search (local_rules, Local-key, Local-value) depth 40
 
 pub Local-parameters : (version : Version) → Local (parameters_at version)
 unfolding parameters_at
-Local-parameters version = Local-many parameter_event (parameter_at version) (Consumes-parameter version)
-    (Local-parameter version)
+Local-parameters version = Local-many _ _ (Consumes-parameter _) (Local-parameter _)
 
 pub Local-item : (version : Version) → Local (item_at version)
 unfolding item_at

@@ -1,14 +1,10 @@
 -- On how much of the text inner lists and members rest.
-use Rattle.sfv_spec.specs.declared.version.Version.{Version}
-use Rattle.sfv_spec.specs.Events.{inner_item_events}
+use Rattle.sfv_spec.specs.{Events.inner_item_events, declared.version.Version.Version}
 use Rattle.sfv_model.specs.Judgements.{Local}
-use Rattle.sfv_model.specs.Reader.{many}
 use Rattle.sfv_model.specs.Members.{inner_item_at, next_item_at, inner_items_at, inner_at, member_at, entry_at}
-use Rattle.sfv_model.specs.Members.{member_value_at, keyed_at}
-use Rattle.sfv_model.proofs.local.Combinators.{local_rules}
-use Rattle.sfv_model.proofs.sound.Many.{Local-many}
-use Rattle.sfv_model.proofs.local.Items.{Local-key, Local-parameters, Local-item}
-use Rattle.sfv_model.proofs.sound.Members.{Consumes-next_item}
+use Rattle.sfv_model.specs.{Members.{member_value_at, keyed_at}, Reader.many}
+use Rattle.sfv_model.proofs.local.{Combinators.local_rules, Items.{Local-key, Local-parameters, Local-item}}
+use Rattle.sfv_model.proofs.sound.{Many.Local-many, Members.Consumes-next_item}
 
 -- ---- what an answer rests on
 
@@ -21,8 +17,7 @@ unfolding next_item_at
 Local-next_item version = search (local_rules, Local-inner_item) depth 40
 
 pub Local-next_items : (version : Version) → Local (many inner_item_events (next_item_at version))
-Local-next_items version = Local-many inner_item_events (next_item_at version) (Consumes-next_item version)
-    (Local-next_item version)
+Local-next_items version = Local-many _ _ (Consumes-next_item _) (Local-next_item _)
 
 pub Local-items : (version : Version) → Local (inner_items_at version)
 unfolding inner_items_at

@@ -1,8 +1,7 @@
 -- On how much of the text a number rests.
 use Rattle.std.proofs.Common.{Bool}
-use Rattle.sfv_model.specs.Judgements.{Local}
 use Rattle.sfv_model.specs.Bare.{sign_at, long_at, decimal_at, fraction_at, point_at, whole_at, number_at}
-use Rattle.sfv_model.proofs.local.Combinators.{local_rules}
+use Rattle.sfv_model.{specs.Judgements.Local, proofs.local.Combinators.local_rules}
 
 -- ---- what an answer rests on
 

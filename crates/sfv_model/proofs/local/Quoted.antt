@@ -1,23 +1,15 @@
 -- On how much of the text a String and a Display String rest.
 use Rattle.std.proofs.Common.{inl, inr, ◌≡◌, ℕ, Bool, true, false, List, [], ◌∷◌, ◌++◌, Ok, Err, refl, sym, ap, ◌∙◌}
-use Rattle.std.proofs.Common.{append_assoc}
-use Rattle.std.specs.List.{concat, AllZip}
-use Rattle.std.specs.Str.{is_utf8}
-use Rattle.std.proofs.lemmas.Bool.{cases_Bool, true≢false}
-use Rattle.std.proofs.lemmas.List.{append-nil}
-use Rattle.std.proofs.lemmas.Str.{IsUtf8-from_is_utf8}
+use Rattle.std.{proofs.Common.{append_assoc, true≢false, append-nil}, specs.List.{concat, AllZip}, specs.Str.is_utf8}
+use Rattle.std.proofs.lemmas.{Bool.cases_Bool, Str.IsUtf8-from_is_utf8}
 use Rattle.sfv_spec.proofs.Marks.{double_quote}
-use Rattle.sfv_spec.specs.Strings.{IsStringPiece, IsDisplayPiece}
-use Rattle.sfv_spec.specs.declared.error_kind.ErrorKind.{ErrorKind}
-use Rattle.sfv_model.specs.Reader.{first, Fault, Answer, Reader, placed}
 use Rattle.sfv_model.specs.Judgements.{Lasts, Local, with_rest, Stays, StaysButText}
-use Rattle.sfv_model.specs.Quoted.{after_bytes, string_at, outside, pieces_from, checked, display_at, StringStops}
-use Rattle.sfv_model.specs.Quoted.{DisplayStops, Traced}
-use Rattle.sfv_model.proofs.quoted.Traces.{Ends, trace_of_string, trace_of_display}
+use Rattle.sfv_model.specs.Quoted.{after_bytes, string_at, outside, pieces_from, checked, display_at, Traced}
+use Rattle.sfv_model.specs.Reader.{first, Fault, Answer, Reader, placed}
+use Rattle.sfv_model.proofs.{Types.ErrorKind, complete.Quoted.passes, faults.Quoted.display_fault}
 use Rattle.sfv_model.proofs.quoted.Pieces.{past_string, past_display, quote_string, quote_display, string_stops}
 use Rattle.sfv_model.proofs.quoted.Pieces.{display_stops, string_stops_whole, display_stops_whole}
-use Rattle.sfv_model.proofs.complete.Quoted.{passes}
-use Rattle.sfv_model.proofs.faults.Quoted.{display_fault}
+use Rattle.sfv_model.proofs.quoted.Traces.{Ends, trace_of_string, trace_of_display}
 
 -- a reading with the same front, and a rest that begins alike
 stays : (exact : Bool) (P : ℕ → List ℕ → Type 0) (Stops : ErrorKind → List ℕ → List ℕ → Type 0) (f : Reader (List ℕ))
@@ -46,8 +38,7 @@ lasts_from f t (Ok x) h = (h.0, h.1, λ r e. h.2 r)
 lasts_from f t (Err e) h = λ l. (h.0, h.1, λ r i. (with_rest e r, h.2 r i))
 
 pub string_stays : (t : List ℕ) → Stays string_at t (string_at t)
-string_stays t = stays true IsStringPiece StringStops string_at past_string quote_string string_stops string_stops_whole
-    t (string_at t) (trace_of_string t)
+string_stays t = stays _ _ _ _ past_string quote_string string_stops string_stops_whole _ _ (trace_of_string _)
 
 -- An answer rests on the bytes up to its place, and on the one that stands there.
 pub Local-string : Local string_at
@@ -55,8 +46,7 @@ Local-string = record { lasts = λ t. lasts_from string_at t (string_at t) (stri
 
 -- the pieces, without the look at UTF-8
 pub pieces_stay : (t : List ℕ) → Stays (pieces_from outside) t (pieces_from outside t)
-pieces_stay t = stays false IsDisplayPiece DisplayStops (pieces_from outside) past_display quote_display display_stops
-    display_stops_whole t (pieces_from outside t) (trace_of_display t)
+pieces_stay t = stays _ _ _ _ past_display quote_display display_stops display_stops_whole _ _ (trace_of_display _)
 
 display_stays_on : (t : List ℕ) (a : Answer (List ℕ)) → Stays (pieces_from outside) t a
     → StaysButText display_at t (checked t a)
@@ -79,6 +69,5 @@ display_lasts t (Err e) h l = λ i. absurd (true≢false (sym i ∙ l e refl))
 
 pub Local-display : Local display_at
 Local-display = record {
-  lasts = λ t. display_lasts t (display_at t) (display_stays t)
-      (λ e i. ap (λ (e : Fault). e.exact) (display_fault t e i).1);
+  lasts = λ t. display_lasts _ _ (display_stays _) (λ e i. ap (λ (e : Fault). e.exact) (display_fault _ _ i).1);
 }

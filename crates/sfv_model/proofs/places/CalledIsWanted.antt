@@ -1,42 +1,23 @@
 -- Where the readers of a field call that of bare items, or of keys, one is wanted.
 use Rattle.std.proofs.Common.{◌≡◌, ℕ, Bool, true, false, List, [], ◌∷◌, ◌++◌, length, drop, Ok, Err, refl, sym, ap}
-use Rattle.std.proofs.Common.{subst, ◌∙◌, append_assoc, arith, inl, inr, ◌⊎◌, length-drop}
-use Rattle.std.specs.Prelude.{codes}
-use Rattle.std.proofs.lemmas.List.{append-nil, take_at, drop_at, length-append}
+use Rattle.std.proofs.Common.{subst, ◌∙◌, append_assoc, arith, inl, inr, ◌⊎◌, length-drop, codes, append-nil, take_at}
+use Rattle.std.proofs.Common.{drop_at, length-append}
+use Rattle.sfv_spec.specs.{Events.events, Faults.{WantedFault, delimiter, end}, Grammar.{IsFieldText, IsAccepted}}
+use Rattle.sfv_spec.specs.{Reach.{BeginsAccepted, WantsBareItem, WantsKey}, Values.{RawField, BareValue}}
 use Rattle.sfv_spec.proofs.Marks.{space, asterisk, comma, digit_one, question_mark}
-use Rattle.sfv_spec.specs.Values.{RawField, BareValue}
-use Rattle.sfv_spec.specs.declared.field_kind.FieldKind.{FieldKind}
-use Rattle.sfv_spec.specs.declared.field_kind.FieldKind.TheVariants.{Item as item_field, List as list_field}
-use Rattle.sfv_spec.specs.declared.field_kind.FieldKind.TheVariants.{Dictionary as dictionary_field}
-use Rattle.sfv_spec.specs.declared.version.Version.{Version}
-use Rattle.sfv_spec.specs.Grammar.{IsFieldText, IsAccepted}
-use Rattle.sfv_spec.specs.Events.{events}
-use Rattle.sfv_spec.specs.Reach.{BeginsAccepted, WantsBareItem, WantsKey}
-use Rattle.sfv_spec.specs.declared.error_kind.ErrorKind.{ErrorKind}
-use Rattle.sfv_spec.specs.declared.error_kind.ErrorKind.TheVariants.{TrailingComma, TrailingCharactersAfterMember}
-use Rattle.sfv_spec.specs.declared.error_kind.ErrorKind.TheVariants.{TrailingCharactersAfterParsedValue}
-use Rattle.sfv_spec.specs.declared.error_kind.ErrorKind.TheVariants.{ExpectedInnerListDelimiter, UnterminatedInnerList}
-use Rattle.sfv_spec.specs.declared.error_kind.ErrorKind.TheVariants.{ExpectedStartOfKey}
-use Rattle.sfv_spec.specs.Faults.{WantedFault, delimiter, end}
-use Rattle.sfv_model.specs.Judgements.{Reached, IsFault}
-use Rattle.sfv_model.specs.Reader.{Fault, Answer, fail, give, bind, branch, span}
-use Rattle.sfv_model.specs.Bare.{boolean_at, bare_at}
-use Rattle.sfv_model.specs.Items.{key_at}
-use Rattle.sfv_model.specs.Fields.{whole_field_at, ending, read_field}
-use Rattle.sfv_model.specs.Claims.{IsPlacedFault}
+use Rattle.sfv_model.specs.{Bare.{boolean_at, bare_at}, Claims.IsPlacedFault}
+use Rattle.sfv_model.specs.{Fields.{whole_field_at, ending, read_field}, Items.key_at, Judgements.{Reached, IsFault}}
 use Rattle.sfv_model.specs.Places.{IsOfBare, IsOfComma, IsOfWanted, IsOfOpenList, BareIsWanted}
-use Rattle.sfv_model.proofs.Theorems.{read_is_accepted, fault_is_placed}
-use Rattle.sfv_model.proofs.TrailingBytes.{key_fault, comes_from}
-use Rattle.sfv_model.proofs.sound.Combinators.{Somewhere}
-use Rattle.sfv_model.proofs.sound.Fields.{FieldGoes, Sound-field}
-use Rattle.sfv_model.proofs.faults.ItemEnds.{not_last}
-use Rattle.sfv_model.proofs.faults.BetweenInnerItems.{Stands, IsLastComma}
-use Rattle.sfv_model.proofs.faults.TrailingCommas.{not_item}
-use Rattle.sfv_model.proofs.faults.Fields.{HasMembers, field_rules}
-use Rattle.sfv_model.proofs.faults.MembersToEnd.{field_none}
-use Rattle.sfv_model.proofs.places.Calls.{bare, key, Stuck, Calls}
+use Rattle.sfv_model.specs.Reader.{Fault, Answer, fail, give, bind, branch, span}
+use Rattle.sfv_model.proofs.{Theorems.{read_is_accepted, fault_is_placed}, TrailingBytes.{key_fault, comes_from}}
+use Rattle.sfv_model.proofs.Types.{FieldKind, item_field, list_field, dictionary_field, Version, ErrorKind}
+use Rattle.sfv_model.proofs.Types.{TrailingComma, TrailingCharactersAfterMember, TrailingCharactersAfterParsedValue}
+use Rattle.sfv_model.proofs.Types.{ExpectedInnerListDelimiter, UnterminatedInnerList, ExpectedStartOfKey}
+use Rattle.sfv_model.proofs.faults.{BetweenInnerItems.{Stands, IsLastComma}, Fields.{HasMembers, field_rules}}
+use Rattle.sfv_model.proofs.faults.{ItemEnds.not_last, MembersToEnd.field_none, TrailingCommas.not_item}
+use Rattle.sfv_model.proofs.places.{Calls.{bare, key, Stuck, Calls}, CallsOfReaders.Ever}
 use Rattle.sfv_model.proofs.places.FaultsOfCalls.{faulty, Met, Elsewhere, Found, called, elsewhere}
-use Rattle.sfv_model.proofs.places.CallsOfReaders.{Ever}
+use Rattle.sfv_model.proofs.sound.{Combinators.Somewhere, Fields.{FieldGoes, Sound-field}}
 
 -- what stands in front of an exact fault begins an accepted text
 pub begins_to : (version : Version) (kind : FieldKind) (u r : List ℕ) (e : Fault)
@@ -49,16 +30,14 @@ begins_to version kind u r e i exact rest =
     rw (← take_at u r h.0 (sym n)) h.2.holds
 
 -- a fault of the readers is one of the field
-pub ends_faulty : (version : Version) (kind : FieldKind) (t : List ℕ) (e : Fault) → whole_field_at version kind t
-    ≡ Err e
-    → read_field version kind t ≡ Err e
+pub ends_faulty : (version : Version) (kind : FieldKind) (t : List ℕ) (e : Fault)
+    → whole_field_at version kind t ≡ Err e → read_field version kind t ≡ Err e
 unfolding read_field
 ends_faulty version kind t e i = ap (ending (events kind)) i
 
 -- what is read up to the byte 0 begins an accepted text
 pub begins_stuck : (version : Version) (kind : FieldKind) (u : List ℕ)
-    → Stuck (whole_field_at version kind (u ++ 0 ∷ []))
-    → BeginsAccepted version kind u
+    → Stuck (whole_field_at version kind (u ++ 0 ∷ [])) → BeginsAccepted version kind u
 unfolding read_field
 begins_stuck version kind u s = on (whole_field_at version kind (u ++ 0 ∷ [])) refl s
   where
@@ -89,10 +68,8 @@ pub wants_key : (version : Version) (kind : FieldKind) (u : List ℕ)
     → Calls version key (whole_field_at version kind) u → WantsKey version kind u
 unfolding key_at branch fail span bind give
 wants_key version kind u h = record {
-  key_follows = begins_stuck version kind (u ++ codes "*")
-      (rw (append_assoc u (codes "*") (0 ∷ [])) (h.follows asterisk (0 ∷ []) refl refl));
-  not_in_word = λ b. not_accepted version kind ((u ++ codes "1") ++ b.0)
-      (let m = h.follows digit_one b.0 refl in
+  key_follows = begins_stuck _ _ _ (rw (append_assoc u (codes "*") (0 ∷ [])) (h.follows asterisk (0 ∷ []) refl refl));
+  not_in_word = λ b. not_accepted _ _ _ (let m = h.follows digit_one b.0 refl in
       (m.0, ap (whole_field_at version kind) (append_assoc u (codes "1") b.0) ∙ m.1)) b.1;
 }
 
@@ -102,9 +79,8 @@ abbrev Sorted : Version → FieldKind → List ℕ → Fault → Type 0
 Sorted version kind t e = IsOfBare version kind t e ⊎ (IsOfComma version kind t e
     ⊎ ((e.exact ≡ true) × (IsOfWanted version kind t e ⊎ IsOfOpenList version kind t e)))
 
-at_comma : (version : Version) (kind : FieldKind) (t : List ℕ) (e : Fault)
-    → IsLastComma (IsFieldText version kind) (HasMembers kind) t e.rest → e.kind ≡ TrailingComma → e.exact ≡ false
-    → IsOfComma version kind t e
+at_comma : (version : Version) (kind : FieldKind) (t : List ℕ) (e : Fault) → IsLastComma (IsFieldText version kind)
+    (HasMembers kind) t e.rest → e.kind ≡ TrailingComma → e.exact ≡ false → IsOfComma version kind t e
 at_comma version kind t e c k x = record {
   index = length c.front;
   here = ap (drop (length c.front)) c.text ∙ drop_at c.front (comma ∷ c.whitespace) _ refl ∙ sym c.here;
@@ -129,11 +105,7 @@ by_kind : (version : Version) (kind : FieldKind) (t : List ℕ) (e : Fault) (k :
     → Stands (IsFieldText version kind) (events kind) (HasMembers kind) k t e.rest e.events → Sorted version kind t e
 by_kind version kind t e ExpectedInnerListDelimiter true i x h s = inr (inr (
   x,
-  inl (record {
-    before = s.front;
-    text = s.text;
-    wanted = rw i (delimiter (s.longer refl));
-  }),
+  inl (record { before = s.front; text = s.text; wanted = rw i (delimiter (s.longer refl)) }),
 ))
 by_kind version kind t e UnterminatedInnerList true i x h s =
     let whole : t ≡ s.front = s.text ∙ ap (λ (l : List ℕ). s.front ++ l) (s.ends refl) ∙ append-nil s.front in
@@ -195,8 +167,7 @@ of_field : (version : Version) (kind : FieldKind) (t : List ℕ) (e : Fault) →
     → Found version (faulty e) (whole_field_at version kind) Ever t → Sorted version kind t e
 of_field version kind t e i (called bare before s parts c some m) = of_bare version kind t before s e parts c m
 of_field version kind t e i (called key before s parts c some m) = of_key version kind t before s e parts c m
-of_field version kind t e i (elsewhere o) = by_kind version kind t e e.kind e.exact refl refl o
-    ((field_rules version kind).rules t e i)
+of_field version kind t e i (elsewhere o) = by_kind _ _ _ _ _ _ refl refl o ((field_rules _ _).rules t e i)
 
 -- something stands after an item
 after_item : (version : Version) (kind : FieldKind) (raw : RawField kind) (t s r : List ℕ) (c : ℕ)

@@ -1,17 +1,11 @@
 -- A reader calls the reader of bare items, or of keys, after some text.
 use Rattle.std.proofs.Common.{◌≡◌, ℕ, Bool, true, false, eqb, ◌||◌, List, [], ◌∷◌, ◌++◌, Ok, Err, refl, ap, ◌∙◌}
-use Rattle.std.proofs.Common.{append_assoc}
-use Rattle.std.proofs.lemmas.Bool.{or_parts}
+use Rattle.std.proofs.{Common.append_assoc, lemmas.Bool.or_parts}
+use Rattle.sfv_spec.specs.{Events.TreeEvent, Values.BareValue, declared.version.Version.Version}
 use Rattle.sfv_spec.proofs.Marks.{left_parenthesis, right_parenthesis, is_space_or_tab}
-use Rattle.sfv_spec.specs.Values.{BareValue}
-use Rattle.sfv_spec.specs.declared.version.Version.{Version}
-use Rattle.sfv_spec.specs.Events.{TreeEvent}
-use Rattle.sfv_model.specs.Judgements.{IsFault}
+use Rattle.sfv_model.specs.{Bare.{token_at, bare_at}, Items.key_at, Judgements.IsFault, Places.IsLike}
 use Rattle.sfv_model.specs.Reader.{Fault, Answer, Reader, after_events, and_then, ◌>>=◌, bind, led_answer, led, branch}
 use Rattle.sfv_model.specs.Reader.{ahead, fail}
-use Rattle.sfv_model.specs.Bare.{token_at, bare_at}
-use Rattle.sfv_model.specs.Items.{key_at}
-use Rattle.sfv_model.specs.Places.{IsLike}
 
 -- which of the two
 pub data Leaf : Type 0 where
@@ -71,10 +65,7 @@ pub calls_as : {A : Type 0} (version : Version) (leaf : Leaf) (f g : Reader A) (
 calls_as version leaf f g p u h same = record {
   follows = λ c r b. rw (ap f (append_assoc p u (c ∷ r)) ∙ same c r (no_blank leaf c b)) (h.follows c r b);
   barred = λ r.
-      let m = h.barred r in (
-        m.0,
-        simp (append_assoc, same left_parenthesis (left_parenthesis ∷ r) refl, m.1),
-      );
+      let m = h.barred r in (m.0, simp (append_assoc, same left_parenthesis (left_parenthesis ∷ r) refl, m.1));
 }
 
 pub stuck_led : {A : Type 0} (es : List TreeEvent) (b : Answer A) → Stuck b → Stuck (led_answer es b)

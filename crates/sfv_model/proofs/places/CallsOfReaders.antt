@@ -1,46 +1,35 @@
 -- What the readers of parameters, items and members call.
-use Rattle.sfv_model.proofs.sound.Combinators.{sound_at, run_cons, Found, Sound-back, Steady-span, Reads, Goes}
-use Rattle.std.proofs.lemmas.Bool.Decides.{nat_tests}
 use Rattle.std.proofs.Common.{◌≡◌, ℕ, Bool, true, false, eqb, List, [], ◌∷◌, ◌++◌, Option, Some, None, Ok, Err, refl}
-use Rattle.std.proofs.Common.{inl, inr, sym, ap, subst, ◌∙◌, length, arith}
-use Rattle.std.proofs.lemmas.Bool.{cases_Bool, or_left}
+use Rattle.std.proofs.Common.{inl, inr, sym, ap, subst, ◌∙◌, length, arith, length-append}
+use Rattle.std.proofs.lemmas.Bool.{cases_Bool, or_left, Decides.nat_tests}
+use Rattle.sfv_spec.specs.Events.{TreeEvent, inner_item_events, entry_events, keyed_events}
+use Rattle.sfv_spec.specs.{Grammar.{IsMemberText, IsDictionaryMemberText}, Texts.RunOf, Values.{RawParameters, RawItem}}
 use Rattle.sfv_spec.proofs.Marks.{space, tab, comma, left_parenthesis, right_parenthesis, is_space, is_space_or_tab}
 use Rattle.sfv_spec.proofs.Marks.{true_with}
-use Rattle.sfv_spec.specs.Texts.{RunOf}
-use Rattle.sfv_spec.specs.Values.{RawParameters, RawItem}
-use Rattle.sfv_spec.specs.declared.version.Version.{Version}
-use Rattle.sfv_spec.specs.Events.{TreeEvent, inner_item_events, entry_events, keyed_events}
-use Rattle.sfv_spec.specs.declared.error_kind.ErrorKind.TheVariants.{TrailingComma, UnterminatedInnerList}
+use Rattle.sfv_model.specs.{Bare.{token_at, bare_at}, Fields.{comma_at, next_at, members_at, whole_field_at}}
+use Rattle.sfv_model.specs.Items.{value_at, parameter_at, parameter_event, parameters_at, item_at}
 use Rattle.sfv_model.specs.Judgements.{Reached, Local, IsFault}
-use Rattle.sfv_model.specs.Reader.{Fault, Answer, Reader, at_start, give, fail, ◌>>=◌, bind, led, branch, ahead, back}
-use Rattle.sfv_model.specs.Reader.{span, many_within, many, byte, at_reach, one_and_more}
-use Rattle.sfv_model.specs.Bare.{token_at, bare_at}
-use Rattle.sfv_model.specs.Items.{value_at, parameter_at, parameter_event, parameters_at, item_of, item_at}
 use Rattle.sfv_model.specs.Members.{inner_item_at, next_item_at, inner_items_at, inner_at, member_at, entry_at}
 use Rattle.sfv_model.specs.Members.{member_value_at, keyed_at, inner_of}
-use Rattle.sfv_model.specs.Fields.{comma_at, next_at, members_at, whole_field_at}
-use Rattle.sfv_spec.specs.declared.field_kind.FieldKind.{FieldKind}
-use Rattle.sfv_spec.specs.declared.field_kind.FieldKind.TheVariants.{Item as item_field, List as list_field}
-use Rattle.sfv_spec.specs.declared.field_kind.FieldKind.TheVariants.{Dictionary as dictionary_field}
-use Rattle.sfv_spec.specs.Grammar.{IsMemberText, IsDictionaryMemberText}
-use Rattle.sfv_model.proofs.sound.Members.{Sound-entry, Sound-keyed, Consumes-next_item}
-use Rattle.sfv_model.proofs.sound.Many.{Local-many}
-use Rattle.sfv_model.proofs.local.Members.{Local-entry, Local-keyed, Local-inner_item, Local-next_item}
-use Rattle.sfv_model.proofs.local.Members.{Local-next_items, Local-items, Local-member_value}
-use Rattle.std.proofs.lemmas.List.{length-append}
-use Rattle.sfv_model.proofs.sound.Items.{Consumes-parameter}
-use Rattle.sfv_model.proofs.sound.Separated.{IsComma, Sound-comma, Consumes-next, Local-next}
-use Rattle.sfv_model.proofs.local.Combinators.{local_rules, Local-span}
-use Rattle.sfv_model.proofs.local.Items.{Local-key, Local-value, Local-parameter, Local-parameters, Local-item}
-use Rattle.sfv_model.proofs.local.Bare.{Local-bare}
+use Rattle.sfv_model.specs.Reader.{Fault, Answer, Reader, at_start, give, fail, ◌>>=◌, bind, led, branch, ahead, back}
+use Rattle.sfv_model.specs.Reader.{span, many_within, many, byte, at_reach, one_and_more}
+use Rattle.sfv_model.proofs.Types.{Version, TrailingComma, UnterminatedInnerList, FieldKind, item_field, list_field}
+use Rattle.sfv_model.proofs.Types.{dictionary_field}
 use Rattle.sfv_model.proofs.complete.Combinators.{Apart-cons, span_complete, back_complete, branch_take, bind_complete}
 use Rattle.sfv_model.proofs.complete.Combinators.{ahead_any}
-use Rattle.sfv_model.proofs.texts.Ranges.{run_weaker}
+use Rattle.sfv_model.proofs.local.{Bare.Local-bare, Combinators.{local_rules, Local-span}}
+use Rattle.sfv_model.proofs.local.Items.{Local-key, Local-value, Local-parameter, Local-parameters, Local-item}
+use Rattle.sfv_model.proofs.local.Members.{Local-entry, Local-keyed, Local-inner_item, Local-next_item}
+use Rattle.sfv_model.proofs.local.Members.{Local-next_items, Local-items, Local-member_value}
 use Rattle.sfv_model.proofs.places.Calls.{Leaf, bare, key, blocked, Stuck, stuck_led, stuck_bind}
 use Rattle.sfv_model.proofs.places.FaultsOfCalls.{Mark, Met, Other, met_fail, met_give, Elsewhere, Never, Only}
 use Rattle.sfv_model.proofs.places.FaultsOfCalls.{is_skipped, Skips, Walk, Walk-weaker, Walk-bare, Walk-key, Walk-give}
 use Rattle.sfv_model.proofs.places.FaultsOfCalls.{Walk-fail, Walk-led, Walk-bind, Walk-skip, Walk-skip_some}
 use Rattle.sfv_model.proofs.places.FaultsOfCalls.{Walk-branch, Walk-branch_never, Walk-any, Walk-ahead, Walk-many}
+use Rattle.sfv_model.proofs.sound.Combinators.{sound_at, run_cons, Found, Sound-back, Steady-span, Reads, Goes}
+use Rattle.sfv_model.proofs.sound.{Items.Consumes-parameter, Many.Local-many}
+use Rattle.sfv_model.proofs.sound.Members.{Sound-entry, Sound-keyed, Consumes-next_item}
+use Rattle.sfv_model.proofs.{sound.Separated.{IsComma, Sound-comma, Consumes-next, Local-next}, texts.Ranges.run_weaker}
 
 -- a run of blanks
 pub skips_span : (class : ℕ → Bool) → ((c : ℕ) → class c ≡ true → is_space_or_tab c ≡ true) → Skips (span class)
@@ -84,12 +73,10 @@ comma_and_more = back TrailingComma comma_at
 comma_again : (after : List ℕ) → RunOf is_space_or_tab after → (c : ℕ) (q : List ℕ) → is_space_or_tab c ≡ false
     → comma_and_more (comma ∷ (after ++ c ∷ q)) ≡ Ok (tt, c ∷ q)
 unfolding comma_at give
-comma_again after each c q none = back_complete _ _ _ _ _ (branch_take _ _ _ comma (after ++ c ∷ q) refl
-    ∙ bind_complete _ _ _ _ _ (span_complete is_space_or_tab after (c ∷ q) each (Apart-cons is_space_or_tab c q none))
-    ∙ ahead_any _ _ (c ∷ q) (omega arith))
+comma_again after each c q none = back_complete _ _ _ _ _ (branch_take _ _ _ _ _ refl ∙ bind_complete _ _ _ _ _
+    (span_complete _ _ _ each (Apart-cons _ _ _ none)) ∙ ahead_any _ _ _ (omega arith))
 
-comma_read : (t r : List ℕ) (v : Unit {0}) → comma_and_more t ≡ Ok (v, r)
-    → (s : List ℕ) × (t ≡ s ++ r) × IsComma v s
+comma_read : (t r : List ℕ) (v : Unit {0}) → comma_and_more t ≡ Ok (v, r) → (s : List ℕ) × (t ≡ s ++ r) × IsComma v s
 comma_read t r v i = sound_at (Sound-back TrailingComma comma_at IsComma (λ _ _. Unit {0}) (λ _. Unit {0}) refl tt
     (Sound-comma _ _)) t _ i
 
@@ -111,12 +98,11 @@ skips_comma = record {
 
 comma_some : (r : List ℕ) (v : Unit {0}) → ¬ (comma_and_more r ≡ Ok (v, r))
 comma_some r v i =
-    let m = comma_read r r v i in
+    let m = comma_read _ _ _ i in
     omega (
       arith,
       ap (length {A = ℕ}) m.1,
-      ap (length {A = ℕ})
-          (m.2.text ∙ ap (λ (l : List ℕ). l ++ m.2.back) m.2.first),
+      ap (length {A = ℕ}) (m.2.text ∙ ap (λ (l : List ℕ). l ++ m.2.back) m.2.first),
       length-append {A = ℕ},
     )
 
@@ -186,16 +172,13 @@ module _ (version : Version) (mark : Mark) where
 
   walk-parameter : Walk version mark (parameter_at version) Never
   unfolding parameter_at
-  walk-parameter = Walk-branch_never (refl, refl)
-      (λ _ _. Walk-skip skips_spaces (Local-span _) (λ _. Walk-bind Walk-key Local-key
-      (λ k. Walk-bind walk-value (Local-value version) (λ v. Walk-give _) (λ v. stuck_give _))
-      (λ k. stuck_then _ _ (stuck_value version) (λ v. stuck_give _))))
-      (Walk-give _)
+  walk-parameter = Walk-branch_never (refl, refl) (λ _ _. Walk-skip skips_spaces (Local-span _) (λ _. Walk-bind Walk-key
+      Local-key (λ k. Walk-bind walk-value (Local-value _) (λ v. Walk-give _) (λ v. stuck_give _)) (λ k. stuck_then _ _
+      (stuck_value _) (λ v. stuck_give _)))) (Walk-give _)
 
   walk-parameters : Walk version mark (parameters_at version) Never
   unfolding parameters_at
-  walk-parameters = Walk-many parameter_event (parameter_at version) (Consumes-parameter version)
-      (Local-parameter version) walk-parameter (stuck_parameters version)
+  walk-parameters = Walk-many _ _ (Consumes-parameter _) (Local-parameter _) walk-parameter (stuck_parameters _)
 
   -- parameters, of which a value is made
   walk-last : {A : Type 0} (make : RawParameters → A)
@@ -204,8 +187,7 @@ module _ (version : Version) (mark : Mark) where
 
   walk-item : Walk version mark (item_at version) (Only bare)
   unfolding item_at
-  walk-item = Walk-bind Walk-bare (Local-bare version) (λ b. Walk-led _ (walk-last (item_of b)))
-      (λ b. stuck_after _ _ (stuck_last version (item_of b)))
+  walk-item = Walk-bind Walk-bare (Local-bare _) (λ b. Walk-led _ (walk-last _)) (λ b. stuck_after _ _ (stuck_last _ _))
 
   walk-inner_item : Walk version mark (inner_item_at version) (Only bare)
   unfolding inner_item_at
@@ -226,12 +208,11 @@ module _ (version : Version) (mark : Mark) where
 
   pub walk-next_item : Walk version mark (next_item_at version) Never
   unfolding next_item_at
-  walk-next_item = Walk-branch_never (refl, refl)
-      (λ _ _. Walk-skip skips_spaces (Local-span _) (λ _. Walk-branch {E' = Never} (refl, refl) (λ _ _. Walk-give _)
-      (Walk-bind walk-inner_item (Local-inner_item version) (λ i. Walk-give _) (λ i. stuck_give _))
-      (λ leaf is. (λ c free. (no_bracket leaf is c free).1, λ r. barred-another (left_parenthesis ∷ r)))))
-      (Walk-branch_never {E' = Never} (refl, refl) (λ _ _. Walk-give _)
-      (Walk-ahead _ (Walk-fail _ tt) (Walk-fail _ tt)))
+  walk-next_item = Walk-branch_never (refl, refl) (λ _ _. Walk-skip skips_spaces (Local-span _) (λ _. Walk-branch
+      {E' = Never} (refl, refl) (λ _ _. Walk-give _) (Walk-bind walk-inner_item (Local-inner_item _) (λ i. Walk-give _)
+      (λ i. stuck_give _)) (λ leaf is. (λ c free. (no_bracket _ is _ free).1, λ r. barred-another _))))
+      (Walk-branch_never {E' = Never} (refl, refl) (λ _ _. Walk-give _) (Walk-ahead _ (Walk-fail _ tt)
+      (Walk-fail _ tt)))
 
   barred-items : (r : List ℕ) → IsFault (branch (byte right_parenthesis) (λ _. give [])
       (one_and_more inner_item_events (inner_item_at version) (next_item_at version)) (left_parenthesis ∷ r))
@@ -244,14 +225,11 @@ module _ (version : Version) (mark : Mark) where
 
   walk-items : Walk version mark (inner_items_at version) (Only bare)
   unfolding inner_items_at
-  walk-items = Walk-any _
-      (Walk-skip skips_spaces (Local-span _) (λ _. Walk-branch {E' = Never} (refl, refl) (λ _ _. Walk-give _)
-      (Walk-bind walk-inner_item (Local-inner_item version) (λ i. Walk-led _ (Walk-bind
-      (Walk-many inner_item_events (next_item_at version) (Consumes-next_item version) (Local-next_item version)
-      walk-next_item (stuck_next_items version)) (Local-next_items version) (λ is. Walk-give _) (λ is. stuck_give _)))
-      (λ i. stuck_after _ _ (stuck_then _ _ (stuck_next_items version) (λ is. stuck_give _))))
-      (λ leaf is. (λ c free. (no_bracket leaf is c free).1, λ r. barred-items (left_parenthesis ∷ r)))))
-      met_end
+  walk-items = Walk-any _ (Walk-skip skips_spaces (Local-span _) (λ _. Walk-branch {E' = Never} (refl, refl)
+      (λ _ _. Walk-give _) (Walk-bind walk-inner_item (Local-inner_item _) (λ i. Walk-led _ (Walk-bind (Walk-many _ _
+      (Consumes-next_item _) (Local-next_item _) walk-next_item (stuck_next_items _)) (Local-next_items _)
+      (λ is. Walk-give _) (λ is. stuck_give _))) (λ i. stuck_after _ _ (stuck_then _ _ (stuck_next_items _)
+      (λ is. stuck_give _)))) (λ leaf is. (λ c free. (no_bracket _ is _ free).1, λ r. barred-items _)))) met_end
 
   walk-inner : Walk version mark (inner_at version) (Only bare)
   unfolding inner_at
@@ -264,9 +242,8 @@ module _ (version : Version) (mark : Mark) where
 
   walk-member : Walk version mark (member_at version) (Only bare)
   unfolding member_at
-  walk-member = Walk-branch (refl, refl) (λ _ _. Walk-led _ walk-inner)
-      (Walk-led _ (Walk-bind walk-item (Local-item version) (λ i. Walk-give _) (λ i. stuck_give _)))
-      (λ leaf is. (λ c free. (no_bracket leaf is c free).0, λ r. barred-member r))
+  walk-member = Walk-branch (refl, refl) (λ _ _. Walk-led _ walk-inner) (Walk-led _ (Walk-bind walk-item (Local-item _)
+      (λ i. Walk-give _) (λ i. stuck_give _))) (λ leaf is. (λ c free. (no_bracket _ is _ free).0, λ r. barred-member _))
 
   walk-entry : Walk version mark (entry_at version) (Only bare)
   unfolding entry_at
@@ -278,10 +255,9 @@ module _ (version : Version) (mark : Mark) where
 
   walk-keyed : Walk version mark (keyed_at version) (Only key)
   unfolding keyed_at
-  walk-keyed = Walk-bind Walk-key Local-key
-      (λ k. Walk-led _ (Walk-bind walk-member_value (Local-member_value version) (λ m. Walk-give _)
+  walk-keyed = Walk-bind Walk-key Local-key (λ k. Walk-led _ (Walk-bind walk-member_value (Local-member_value _)
+      (λ m. Walk-give _) (λ m. stuck_give _))) (λ k. stuck_after _ _ (stuck_then _ _ (stuck-member_value _)
       (λ m. stuck_give _)))
-      (λ k. stuck_after _ _ (stuck_then _ _ (stuck-member_value version) (λ m. stuck_give _)))
 
   -- ---- members
 
@@ -295,12 +271,10 @@ module _ (version : Version) (mark : Mark) where
 
     walk-members : Walk version mark (members_at parts one) E
     unfolding members_at
-    walk-members = Walk-skip skips_spaces (Local-span _) (λ _. Walk-any _ (Walk-bind h l
-        (λ m. Walk-led _ (Walk-bind (Walk-many parts (next_at one) (Consumes-next P parts one reads)
-        (Local-next P parts one l) walk-next (stuck_next parts one)) (Local-many parts (next_at one)
-        (Consumes-next P parts one reads) (Local-next P parts one l)) (λ ms. Walk-give _) (λ ms. stuck_give _)))
-        (λ m. stuck_after _ _ (stuck_then _ _ (stuck_next parts one) (λ ms. stuck_give _))))
-        (λ m. met_nothing mark [] m))
+    walk-members = Walk-skip skips_spaces (Local-span _) (λ _. Walk-any _ (Walk-bind h l (λ m. Walk-led _ (Walk-bind
+        (Walk-many _ _ (Consumes-next _ _ _ reads) (Local-next P parts _ l) walk-next (stuck_next _ _)) (Local-many _ _
+        (Consumes-next _ _ _ reads) (Local-next P parts _ l)) (λ ms. Walk-give _) (λ ms. stuck_give _))) (λ m.
+        stuck_after _ _ (stuck_then _ _ (stuck_next _ _) (λ ms. stuck_give _)))) (λ m. met_nothing _ _ m))
 
   -- ---- fields
 

@@ -1,28 +1,19 @@
 -- A fault of a reader, or a byte that it takes, is that of the reader of bare items, or of keys, which it calls.
-use Rattle.std.proofs.lemmas.Bool.{cases_lt, true≢false, cases_Bool}
 use Rattle.std.proofs.Common.{◌≡◌, ℕ, zero, suc, ◌<◌, ◌≤◌, Bool, true, false, eqb, ◌||◌, List, [], ◌∷◌, ◌++◌, length}
 use Rattle.std.proofs.Common.{Option, Some, None, Ok, Err, refl, sym, ap, subst, ◌∙◌, append_assoc, arith, inl, inr}
-use Rattle.std.proofs.Common.{◌⊎◌}
-use Rattle.std.specs.Prelude.{⊤}
-use Rattle.std.proofs.lemmas.List.{append_cancel_right, length-append}
+use Rattle.std.{proofs.Common.{◌⊎◌, true≢false, length-append}, specs.Prelude.⊤}
+use Rattle.std.proofs.lemmas.{Bool.{cases_lt, cases_Bool}, List.append_cancel_right}
+use Rattle.sfv_spec.specs.{Events.TreeEvent, Texts.RunOf}
 use Rattle.sfv_spec.proofs.Marks.{asterisk, comma, left_parenthesis, question_mark, is_space_or_tab}
-use Rattle.sfv_spec.specs.Texts.{RunOf}
-use Rattle.sfv_spec.specs.declared.version.Version.{Version}
-use Rattle.sfv_spec.specs.Events.{TreeEvent}
-use Rattle.sfv_spec.specs.declared.error_kind.ErrorKind.{ErrorKind}
-use Rattle.sfv_spec.specs.declared.error_kind.ErrorKind.TheVariants.{TrailingComma, TrailingCharactersAfterMember}
-use Rattle.sfv_spec.specs.declared.error_kind.ErrorKind.TheVariants.{ExpectedInnerListDelimiter, UnterminatedInnerList}
-use Rattle.sfv_model.specs.Judgements.{IsFault, Lasts, Local}
+use Rattle.sfv_model.specs.{Bare.bare_at, Items.key_at, Judgements.{IsFault, Lasts, Local}, Places.IsLike}
 use Rattle.sfv_model.specs.Reader.{Fault, Answer, Reader, first, any, at_reach, and_then, give, fail, ◌>>=◌, bind}
 use Rattle.sfv_model.specs.Reader.{led_answer, led, branch, ahead, go_on, many}
-use Rattle.sfv_model.specs.Bare.{bare_at}
-use Rattle.sfv_model.specs.Items.{key_at}
-use Rattle.sfv_model.specs.Places.{IsLike}
-use Rattle.sfv_model.proofs.sound.Combinators.{run_head, run_tail}
-use Rattle.sfv_model.proofs.sound.Many.{Consumes, many_is}
+use Rattle.sfv_model.proofs.Types.{Version, ErrorKind, TrailingComma, TrailingCharactersAfterMember}
+use Rattle.sfv_model.proofs.Types.{ExpectedInnerListDelimiter, UnterminatedInnerList}
 use Rattle.sfv_model.proofs.complete.Combinators.{branch_take, ahead_any, bind_complete}
 use Rattle.sfv_model.proofs.places.Calls.{Leaf, bare, key, leaf_at, blocked, Stuck, Calls, calls_bare, calls_key}
 use Rattle.sfv_model.proofs.places.Calls.{calls_as, calls_led, calls_bind, stuck_led, stuck_bind}
+use Rattle.sfv_model.proofs.sound.{Combinators.{run_head, run_tail}, Many.{Consumes, many_is}}
 
 -- a byte that nothing but bare items and keys takes
 abbrev pub marked : Bool → ℕ
@@ -160,15 +151,13 @@ met_give (eaten b m) t v h =
     absurd (omega (arith, h.2, ap (length {A = ℕ}) h.1, length-append h.0 (marked b ∷ m)))
 
 pub met_fail : (A : Type 0) (mark : Mark) (t : List ℕ) (x : Fault) → Elsewhere x.kind x.exact
-    → Met {A = A} mark t (Err x)
-    → Other mark
+    → Met {A = A} mark t (Err x) → Other mark
 met_fail A (faulty e) t x h m = rw (← m.exact) (rw (← m.kind) h)
 met_fail A (eaten b m) t x h g = g
 
 -- a value made of it
 met_map : {A B : Type 0} (mark : Mark) (t : List ℕ) (m : A → B) (a : Answer A)
-    → Met mark t (and_then a (λ v. give (m v)))
-    → Met mark t a
+    → Met mark t (and_then a (λ v. give (m v))) → Met mark t a
 unfolding give
 met_map (faulty e) t m (Ok x) h = h
 met_map (faulty e) t m (Err x) h = h
@@ -189,12 +178,10 @@ pub record Walk {A : Type 0} (version : Version) (mark : Mark) (f : Reader A) (E
 
 -- a leaf that the second reader calls after some byte
 after : {A B : Type 0} (version : Version) (f : Reader A) (g : A → Reader B) (v : A) (p r : List ℕ)
-    → ((q : List ℕ) → first q ≡ first r → f (p ++ q) ≡ Ok (v, q)) → (leaf : Leaf) (before s : List ℕ) → r
-    ≡ before ++ s
-    → ¬ (before ≡ []) → Calls version leaf (g v) before → Calls version leaf (f >>= g) (p ++ before)
-after version f g v p r reads leaf before s e some c = calls_as version leaf (f >>= g) (g v) p before c
-    (λ b q _. bind_complete f g (p ++ (before ++ b ∷ q)) (before ++ b ∷ q) v (reads (before ++ b ∷ q)
-    (some_first before (b ∷ q) s some ∙ ap first (sym e))))
+    → ((q : List ℕ) → first q ≡ first r → f (p ++ q) ≡ Ok (v, q)) → (leaf : Leaf) (before s : List ℕ)
+    → r ≡ before ++ s → ¬ (before ≡ []) → Calls version leaf (g v) before → Calls version leaf (f >>= g) (p ++ before)
+after version f g v p r reads leaf before s e some c = calls_as _ _ _ _ _ _ c (λ b q _. bind_complete _ _ _ _ _ (reads
+    (before ++ b ∷ q) (some_first _ _ _ some ∙ ap first (sym e))))
 
 -- the other reader goes on where no byte of the class stands first
 abbrev pub Passed : {A : Type 0} → (ℕ → Bool) → (ℕ → Reader A) → Reader A → Leaf → Type 0
@@ -203,8 +190,7 @@ Passed class taken other leaf = ((c : ℕ) → blocked leaf c ≡ false → clas
 
 -- a leaf that is called by the other reader
 past : {A : Type 0} (version : Version) (class : ℕ → Bool) (taken : ℕ → Reader A) (other : Reader A) (leaf : Leaf)
-    (u : List ℕ)
-    → ((c : ℕ) (r : List ℕ) → u ≡ c ∷ r → class c ≡ false) → (u ≡ [] → Passed class taken other leaf)
+    (u : List ℕ) → ((c : ℕ) (r : List ℕ) → u ≡ c ∷ r → class c ≡ false) → (u ≡ [] → Passed class taken other leaf)
     → Calls version leaf other u → Calls version leaf (branch class taken other) u
 unfolding branch
 past version class taken other leaf [] out h c =
@@ -255,8 +241,7 @@ module _ {version : Version} {mark : Mark} where
       → Walk version mark (led es f) E
   unfolding led
   Walk-led es {f} h = record {
-    walk = λ t m. here (λ leaf before s e some c. calls_led version leaf es f before c)
-        (h.walk t (met_led mark es t (f t) m));
+    walk = λ t m. here (λ leaf before s e some c. calls_led _ _ _ _ _ c) (h.walk t (met_led _ _ _ _ m));
   }
 
   -- one reader after another that calls no leaf at once
@@ -286,13 +271,12 @@ module _ {version : Version} {mark : Mark} where
   skip_on {A} {B} f g E E' h some k t (Ok x) i l m =
       let w = h.skips t x.1 x.0 i in
       let same : l.0 ≡ w.0 = append_cancel_right l.0 w.0 x.1 (sym l.1 ∙ w.1) in
-      let reads : (q : List ℕ) → first q ≡ first x.1 → f (w.0 ++ q) ≡ Ok (x.0, q) =
-      λ q e. rw (← same) (l.2 q e) in
+      let reads : (q : List ℕ) → first q ≡ first x.1 → f (w.0 ++ q) ≡ Ok (x.0, q) = λ q e. rw (← same) (l.2 q e) in
       elim (met_split mark t w.0 x.1 x.0 (g x.0 x.1) w.1 m) [
         | inl o ↦ absurd (met_skip mark t w.0 x.1 x.0 w.1 w.2 o)
         | inr o ↦ lift w.0 w.1 (λ leaf before s e at_once c. (
           on w.0 reads w.3 leaf before s e c,
-          λ z. some w.0 x.1 x.0 (ap f (sym w.1) ∙ i) (no_back w.0 before z) leaf (at_once (no_front w.0 before z)),
+          λ z. some w.0 x.1 x.0 (ap f (sym w.1) ∙ i) (no_back _ before z) leaf (at_once (no_front w.0 _ z)),
         )) ((k x.0).walk x.1 o)
       ]
     where
@@ -363,9 +347,8 @@ module _ {version : Version} {mark : Mark} where
           (h.walk (c ∷ r) m)
 
   -- a leaf that is called by one reader is called by another that does the same at this byte
-  looking : {A : Type 0} {f g : Reader A} {t : List ℕ}
-      → ((c : ℕ) (r q : List ℕ) → t ≡ c ∷ r → f (c ∷ q) ≡ g (c ∷ q)) → Found version mark g Never t
-      → Found version mark f Never t
+  looking : {A : Type 0} {f g : Reader A} {t : List ℕ} → ((c : ℕ) (r q : List ℕ) → t ≡ c ∷ r → f (c ∷ q) ≡ g (c ∷ q))
+      → Found version mark g Never t → Found version mark f Never t
   looking {A} {f} {g} {t} same = here (λ leaf before s e some d. on leaf before s e some d)
     where
       on : (leaf : Leaf) (before s : List ℕ) → t ≡ before ++ s → ¬ (before ≡ []) → Calls version leaf g before
@@ -392,8 +375,7 @@ module _ {version : Version} {mark : Mark} where
     stuck_on : (o : Option A) → Stuck (go_on parts (many parts step) o (0 ∷ []))
     unfolding give led bind
     stuck_on None = refl
-    stuck_on (Some v) = stuck_led (parts v) _ (stuck_bind (λ vs. give (v ∷ vs)) (many parts step (0 ∷ []))
-        (λ vs. refl) s)
+    stuck_on (Some v) = stuck_led _ _ (stuck_bind _ _ (λ vs. refl) s)
 
     -- as the first step and what goes on after it
     abbrev Unrolled : Reader (List A)
@@ -403,9 +385,8 @@ module _ {version : Version} {mark : Mark} where
         → Found version mark (many parts step) Never t
     unfolding bind give led
     within zero t lt m = absurd (omega arith)
-    within (suc n) t lt m = here (λ leaf before s e some d. calls_as version leaf (many parts step) Unrolled [] before d
-        (λ b q none. many_is parts step c (before ++ b ∷ q)))
-        (on (λ r less m. within n r less m) (step t) refl (l.lasts t) (rw (← many_is parts step c t) m))
+    within (suc n) t lt m = here (λ leaf before s e some d. calls_as _ _ _ _ [] _ d (λ b q none. many_is _ _ c _)) (on
+        (λ r less m. within _ _ less m) (step t) refl (l.lasts t) (rw (← many_is parts step c t) m))
       where
         left : Met mark t (step t) → Found version mark Unrolled Never t
         left w = here (λ leaf before s' e some d.

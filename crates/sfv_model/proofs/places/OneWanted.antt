@@ -1,33 +1,17 @@
 -- Only one thing is wanted after a text.
-use Rattle.sfv_model.specs.Places.{IsLike}
-use Rattle.sfv_model.specs.Judgements.{IsFault}
-use Rattle.std.proofs.Common.{◌≡◌, ℕ, List, [], ◌++◌, Err, refl, sym, ap, ◌∙◌, inl, inr, ◌⊎◌}
-use Rattle.std.specs.Prelude.{codes}
+use Rattle.std.proofs.Common.{◌≡◌, ℕ, List, [], ◌++◌, Err, refl, sym, ap, ◌∙◌, inl, inr, ◌⊎◌, codes}
+use Rattle.sfv_spec.specs.{Events.events, Faults.{WantedFault, bare_item, key, delimiter, end}, Grammar.IsAccepted}
 use Rattle.sfv_spec.proofs.Marks.{comma, semicolon, is_space}
-use Rattle.sfv_spec.specs.declared.field_kind.FieldKind.{FieldKind}
-use Rattle.sfv_spec.specs.declared.field_kind.FieldKind.TheVariants.{Item as item_field, List as list_field}
-use Rattle.sfv_spec.specs.declared.field_kind.FieldKind.TheVariants.{Dictionary as dictionary_field}
-use Rattle.sfv_spec.specs.declared.version.Version.{Version}
-use Rattle.sfv_spec.specs.Grammar.{IsAccepted}
-use Rattle.sfv_spec.specs.Events.{events}
-use Rattle.sfv_spec.specs.Faults.{WantedFault, bare_item, key, delimiter, end}
-use Rattle.sfv_spec.specs.declared.error_kind.ErrorKind.{ErrorKind}
-use Rattle.sfv_spec.specs.declared.error_kind.ErrorKind.TheVariants.{TrailingComma, TrailingCharactersAfterMember}
-use Rattle.sfv_spec.specs.declared.error_kind.ErrorKind.TheVariants.{TrailingCharactersAfterParsedValue}
-use Rattle.sfv_spec.specs.declared.error_kind.ErrorKind.TheVariants.{ExpectedInnerListDelimiter}
-use Rattle.sfv_spec.specs.declared.error_kind.ErrorKind.TheVariants.{ExpectedStartOfBareItem, ExpectedStartOfKey}
-use Rattle.sfv_model.specs.Reader.{Fault, fail, branch, ahead}
-use Rattle.sfv_model.specs.Bare.{token_at, bare_at}
-use Rattle.sfv_model.specs.Items.{key_at}
-use Rattle.sfv_model.specs.Fields.{whole_field_at, ending, read_field}
-use Rattle.sfv_model.proofs.complete.Combinators.{Apart-cons}
-use Rattle.sfv_model.proofs.complete.Fields.{spaces_end, comma_ends, item_field_complete}
-use Rattle.sfv_model.proofs.faults.TrailingCommas.{comma_after, has_many}
-use Rattle.sfv_model.proofs.faults.NothingAfterField.{not_longer}
-use Rattle.sfv_model.proofs.places.Calls.{Calls}
-use Rattle.sfv_model.proofs.places.Calls as calls
+use Rattle.sfv_model.specs.{Bare.{token_at, bare_at}, Fields.{whole_field_at, ending, read_field}}
+use Rattle.sfv_model.specs.{Items.key_at, Judgements.IsFault, Places.IsLike, Reader.{Fault, fail, branch, ahead}}
+use Rattle.sfv_model.proofs.Types.{FieldKind, item_field, list_field, dictionary_field, Version, ErrorKind}
+use Rattle.sfv_model.proofs.Types.{TrailingComma, TrailingCharactersAfterMember, TrailingCharactersAfterParsedValue}
+use Rattle.sfv_model.proofs.Types.{ExpectedInnerListDelimiter, ExpectedStartOfBareItem, ExpectedStartOfKey}
+use Rattle.sfv_model.proofs.complete.{Combinators.Apart-cons, Fields.{spaces_end, comma_ends, item_field_complete}}
+use Rattle.sfv_model.proofs.faults.{NothingAfterField.not_longer, TrailingCommas.{comma_after, has_many}}
 use Rattle.sfv_model.proofs.places.CalledIsWanted.{ends_faulty, not_accepted}
-use Rattle.sfv_model.proofs.places.WantedIsCalled.{calls_wanted, calls_wanted_key}
+use Rattle.sfv_model.proofs.places.{Calls.Calls, WantedIsCalled.{calls_wanted, calls_wanted_key}}
+use Rattle.sfv_model.proofs.places.Calls as calls
 
 -- what is wanted, by the fault of a comma that stands there
 abbrev by_comma : ErrorKind → ErrorKind
@@ -84,10 +68,9 @@ tells version kind u f (key w) = inr (tells_key version kind u (calls_wanted_key
 tells version kind u f (delimiter a) = inl (refl, a)
 tells version kind u f (WantedFault.comma raw other h has) = inr (record {
   fault = _;
-  is_fault = ends_faulty version kind (u ++ codes ",") _
-      (comma_after version kind raw u [] (has_many kind other) has h refl);
+  is_fault = ends_faulty _ _ _ _ (comma_after _ _ _ _ _ (has_many _ other) has h refl);
   kind_of = refl;
-  outside = not_longer version kind raw u has h;
+  outside = not_longer _ _ _ _ has h;
 })
 tells version kind u f (end e a) = inr (tells_end version kind u e a)
 

@@ -1,45 +1,28 @@
 -- Where a bare item or a key is wanted, the readers of a field call the reader of it.
-use Rattle.sfv_model.proofs.visits.BareFaultOffReach.{no_bare, nothing_there}
-use Rattle.sfv_spec.specs.Events.{TreeEvent}
-use Rattle.sfv_model.proofs.sound.Combinators.{Reads, sound_at, run_cons, run_head, run_tail}
-use Rattle.std.proofs.lemmas.Bool.Decides.{nat_tests}
 use Rattle.std.proofs.Common.{◌≡◌, ℕ, ◌≤◌, Bool, true, false, List, [], ◌∷◌, ◌++◌, length, Ok, Err, refl, sym, ap}
-use Rattle.std.proofs.Common.{subst, ◌∙◌, append_assoc, arith, inl, inr, ◌⊎◌}
-use Rattle.std.specs.Prelude.{codes, IsTrue}
-use Rattle.std.specs.List.{list_all}
-use Rattle.std.proofs.lemmas.Bool.{true≢false, and_from, and_parts, cases_Bool, not-true}
-use Rattle.std.proofs.lemmas.List.{append-nil, append_cancel_right, length-append}
-use Rattle.sfv_spec.proofs.Marks.{asterisk, question_mark}
-use Rattle.sfv_spec.specs.Texts.{RunOf, begins_with}
-use Rattle.sfv_spec.specs.Classes.{is_key_start, is_key_inner, is_key, is_token_inner}
-use Rattle.sfv_spec.specs.Values.{RawField, BareValue}
-use Rattle.sfv_spec.specs.declared.field_kind.FieldKind.{FieldKind}
-use Rattle.sfv_spec.specs.declared.version.Version.{Version}
-use Rattle.sfv_spec.specs.Grammar.{IsAccepted, IsBareText, IsKeyText}
-use Rattle.sfv_spec.specs.Reach.{BeginsAccepted, WantsBareItem, WantsKey}
-use Rattle.sfv_spec.specs.declared.error_kind.ErrorKind.TheVariants.{ExpectedStartOfBareItem}
-use Rattle.sfv_spec.proofs.Bare.{is_bare_start, bare_begins}
+use Rattle.std.proofs.Common.{subst, ◌∙◌, append_assoc, arith, inl, inr, ◌⊎◌, codes, IsTrue, true≢false, append-nil}
+use Rattle.std.{proofs.Common.length-append, specs.List.list_all}
+use Rattle.std.proofs.lemmas.Bool.{and_from, and_parts, cases_Bool, not-true, Decides.nat_tests}
+use Rattle.std.proofs.lemmas.List.{append_cancel_right}
+use Rattle.sfv_spec.specs.{Classes.{is_key_start, is_key_inner, is_key, is_token_inner}, Events.TreeEvent}
+use Rattle.sfv_spec.specs.{Grammar.{IsAccepted, IsBareText, IsKeyText}, Reach.{BeginsAccepted, WantsBareItem, WantsKey}}
+use Rattle.sfv_spec.specs.{Texts.{RunOf, begins_with}, Values.{RawField, BareValue}}
+use Rattle.sfv_spec.proofs.{Bare.{is_bare_start, bare_begins}, Marks.{asterisk, question_mark}}
+use Rattle.sfv_model.specs.{Bare.bare_at, Fields.whole_field_at, Places.{is_beginning, WantedBareIsRead}}
 use Rattle.sfv_model.specs.Reader.{Fault, Answer, Reader, at_reach}
-use Rattle.sfv_model.specs.Bare.{bare_at}
-use Rattle.sfv_model.specs.Fields.{whole_field_at}
-use Rattle.sfv_model.specs.Places.{is_beginning, WantedBareIsRead}
-use Rattle.sfv_model.proofs.faults.InsideBareItem.{mark_inside, asterisk_inside}
-use Rattle.sfv_model.proofs.sound.Bare.{Sound-bare}
-use Rattle.sfv_model.proofs.sound.Items.{Sound-key}
-use Rattle.sfv_model.proofs.complete.Combinators.{Apart-cons}
-use Rattle.sfv_model.proofs.complete.Bare.{bare_complete}
-use Rattle.sfv_model.proofs.complete.Items.{key_complete}
-use Rattle.sfv_model.proofs.complete.Fields.{field_complete}
-use Rattle.sfv_model.proofs.places.Calls.{bare, key, blocked, Follows, Calls}
-use Rattle.sfv_model.proofs.places.FaultsOfCalls.{eaten, marked, Met, Found, called, elsewhere, run_has}
-use Rattle.sfv_model.proofs.places.CallsOfReaders.{Ever, walk-field}
+use Rattle.sfv_model.proofs.Types.{FieldKind, Version, ExpectedStartOfBareItem}
+use Rattle.sfv_model.proofs.complete.{Bare.bare_complete, Combinators.Apart-cons, Fields.field_complete}
+use Rattle.sfv_model.proofs.{complete.Items.key_complete, faults.InsideBareItem.{mark_inside, asterisk_inside}}
 use Rattle.sfv_model.proofs.places.CalledIsWanted.{ends_faulty, begins_stuck}
+use Rattle.sfv_model.proofs.places.{Calls.{bare, key, blocked, Follows, Calls}, CallsOfReaders.{Ever, walk-field}}
+use Rattle.sfv_model.proofs.places.FaultsOfCalls.{eaten, marked, Met, Found, called, elsewhere, run_has}
+use Rattle.sfv_model.proofs.sound.{Bare.Sound-bare, Combinators.{Reads, sound_at, run_cons, run_head, run_tail}}
+use Rattle.sfv_model.proofs.{sound.Items.Sound-key, visits.BareFaultOffReach.{no_bare, nothing_there}}
 
 -- ---- lists
 
 -- a byte that was read stands in what was read
-front_split : (u m p r : List ℕ) (c : ℕ) → u ++ c ∷ m ≡ p ++ r → length r ≤ length m
-    → (w : List ℕ) × (p ≡ u ++ c ∷ w)
+front_split : (u m p r : List ℕ) (c : ℕ) → u ++ c ∷ m ≡ p ++ r → length r ≤ length m → (w : List ℕ) × (p ≡ u ++ c ∷ w)
 front_split u m [] r c e le = absurd (omega (arith, le, ap (length {A = ℕ}) e, length-append u (c ∷ m)))
 front_split [] m (x ∷ p) r c e le = let same : x ≡ c = cc in (p, ap (λ (x : ℕ). x ∷ p) same)
 front_split (y ∷ u) m (x ∷ p) r c e le =
@@ -130,9 +113,8 @@ module _ (version : Version) (kind : FieldKind) where
   -- ---- bare items
 
   no_mark_in_key : (x w v : List ℕ) → IsKeyText v (x ++ question_mark ∷ w) → ⊥
-  no_mark_in_key x w v h = true≢false (sym
-      (run_has is_key_inner x w (x ++ question_mark ∷ w) [] question_mark (sym (append-nil _)) (omega arith)
-      (key_run v (x ++ question_mark ∷ w) h)))
+  no_mark_in_key x w v h = true≢false (sym (run_has is_key_inner x w (x ++ question_mark ∷ w) [] question_mark
+      (sym (append-nil _)) (omega arith) (key_run v (x ++ question_mark ∷ w) h)))
 
   -- the mark begins a bare item, or two parentheses can stand in its place
   by_mark : (u before x w : List ℕ) (v : BareValue) → u ≡ before ++ x → Calls version bare Field before
@@ -187,8 +169,7 @@ module _ (version : Version) (kind : FieldKind) where
       (rw (← sym (append_assoc before (d ∷ x) (codes "1")) ∙ ap (λ (l : List ℕ). l ++ codes "1") (sym parts)) b))
 
   pub calls_wanted_key : (u : List ℕ) → WantsKey version kind u → Calls version key Field u
-  calls_wanted_key u h =
-      on (found u false h.key_follows.0 (rw (← append_assoc u (codes "*") h.key_follows.0) h.key_follows.1))
+  calls_wanted_key u h = on (found _ _ _ (rw (← append_assoc u (codes "*") h.key_follows.0) h.key_follows.1))
     where
       on : Found version (eaten false h.key_follows.0) Field Ever (u ++ asterisk ∷ h.key_follows.0) → Calls version key Field u
       on (called bare before s parts c some met) =

@@ -1,25 +1,16 @@
 -- The steps over the inside of a Display String in an input.
-use Rattle.std.proofs.lemmas.Bool.Decides.{nat_tests}
 use Rattle.std.proofs.Common.{◌≡◌, ℕ, suc, ◌<◌, ◌≤◌, ◌+◌, Bool, true, false, cond, not, ◌||◌, List, [], ◌∷◌, ◌++◌}
 use Rattle.std.proofs.Common.{length, drop, Ok, Err, refl, sym, ap, subst, ◌∙◌, append_assoc, length-drop, arith, inl}
-use Rattle.std.proofs.Common.{inr}
-use Rattle.std.specs.Prelude.{◌==◌, IsUtf8, slice_index}
-use Rattle.std.specs.List.{concat, AllZip}
-use Rattle.std.proofs.lemmas.Bool.{cases_Bool, and_parts, or_parts, not-true, both_ways, eqb-true}
-use Rattle.std.proofs.lemmas.List.{append-nil, drop-drop}
+use Rattle.std.proofs.Common.{inr, ◌==◌, IsUtf8, slice_index, eqb-true, append-nil, drop-drop}
+use Rattle.std.specs.{List.{concat, AllZip}, Str.Lossy.utf8_valid_len}
+use Rattle.std.proofs.lemmas.Bool.{cases_Bool, and_parts, or_parts, not-true, both_ways, Decides.nat_tests}
+use Rattle.sfv_spec.specs.{Classes.is_string_byte, Strings.{is_plain_in_display, IsDisplayPiece}, Texts.RunOf}
 use Rattle.sfv_spec.proofs.Marks.{double_quote, percent_sign}
-use Rattle.sfv_spec.specs.Texts.{RunOf}
-use Rattle.sfv_spec.specs.Classes.{is_string_byte}
-use Rattle.sfv_spec.specs.Strings.{is_plain_in_display, IsDisplayPiece}
-use Rattle.sfv_spec.specs.declared.error_kind.ErrorKind.TheVariants.{InvalidUtf8InDisplayString}
-use Rattle.sfv_model.specs.Reader.{Answer, by_rule}
 use Rattle.sfv_model.specs.Quoted.{outside, pieces_from, after_pieces, checked, display_at, DisplayStops, Traced}
-use Rattle.std.specs.Str.Lossy.{utf8_valid_len}
-use Rattle.sfv_model.proofs.complete.Quoted.{passes}
-use Rattle.sfv_model.proofs.faults.Quoted.{not_text}
+use Rattle.sfv_model.specs.Reader.{Answer, by_rule}
+use Rattle.sfv_model.proofs.{Types.InvalidUtf8InDisplayString, complete.Quoted.passes, faults.Quoted.not_text}
+use Rattle.sfv_model.proofs.quoted.{Pieces.{past_display, quote_display}, Traces.{Ends, trace_of_display}}
 use Rattle.sfv_model.proofs.texts.Ranges.{byte_at, string_utf8, run_weaker}
-use Rattle.sfv_model.proofs.quoted.Traces.{Ends, trace_of_display}
-use Rattle.sfv_model.proofs.quoted.Pieces.{past_display, quote_display}
 
 pub plain_utf8 : (run : List ℕ) → RunOf is_plain_in_display run → IsUtf8 run
 plain_utf8 run h = string_utf8 run (run_weaker is_plain_in_display is_string_byte
@@ -75,16 +66,15 @@ one_piece (b ∷ bytes) (p ∷ pieces) left rest t h e f n =
     let whole : t ≡ p ++ tail = f ∙ append_assoc p (concat pieces) left in
     elim h.0 as (λ x. OnePiece t (b ∷ bytes) rest) [
       | inl q ↦
-          let a = and_parts (is_string_byte b) (not ((b == percent_sign) || (b == double_quote))) q.0 in
-          let o = or_parts (b == percent_sign) (b == double_quote)
-          (not-true ((b == percent_sign) || (b == double_quote)) a.1) in
+          let a = and_parts _ _ q.0 in
+          let o = or_parts _ _ (not-true ((b == percent_sign) || (b == double_quote)) a.1) in
           record {
             c = b;
             r = tail;
             text = whole ∙ ap (λ (l : List ℕ). l ++ tail) q.1;
             long = λ i. absurd (both_ways (b == percent_sign) o.0 (rw i refl));
             later = bytes;
-            read = rw o.0 (read_pieces bytes pieces left rest h.1 e);
+            read = rw o.0 (read_pieces _ _ _ _ h.1 e);
             count = refl;
           }
       | inr q ↦ let here : t ≡ percent_sign ∷ q.0 ∷ q.1 ∷ tail = cc in
@@ -94,7 +84,7 @@ one_piece (b ∷ bytes) (p ∷ pieces) left rest t h e f n =
             text = here;
             long = λ i. let len = ap (length {A = ℕ}) here in omega (arith, len);
             later = bytes;
-            read = read_pieces bytes pieces left rest h.1 e;
+            read = read_pieces _ _ _ _ h.1 e;
             count = refl;
           }
     ]

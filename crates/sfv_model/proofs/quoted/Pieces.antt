@@ -1,22 +1,15 @@
 -- Pieces are read one by one, and a reader stops where no piece follows.
 use Rattle.std.proofs.Common.{◌≡◌, ℕ, zero, suc, ◌≤◌, Bool, true, false, cond, not, ◌&&◌, ◌||◌, List, [], ◌∷◌, ◌++◌}
-use Rattle.std.proofs.Common.{length, take, Ok, Err, refl, sym, ap, ◌∙◌, append_assoc, arith, inl, inr}
-use Rattle.std.specs.Prelude.{◌==◌}
-use Rattle.std.specs.List.{concat, AllZip}
-use Rattle.std.proofs.lemmas.Bool.{and_parts, and_left, ne_eqb, or_parts, not-true, both_ways}
-use Rattle.std.proofs.lemmas.List.{append-nil}
-use Rattle.sfv_spec.proofs.Marks.{double_quote, percent_sign, backslash}
-use Rattle.sfv_spec.specs.Texts.{RunOf}
+use Rattle.std.proofs.Common.{length, take, Ok, Err, refl, sym, ap, ◌∙◌, append_assoc, arith, inl, inr, ◌==◌, ne_eqb}
+use Rattle.std.{proofs.Common.append-nil, specs.List.{concat, AllZip}}
+use Rattle.std.proofs.lemmas.Bool.{and_parts, and_left, or_parts, not-true, both_ways}
 use Rattle.sfv_spec.specs.Classes.{is_string_byte, is_lower_hexadecimal}
 use Rattle.sfv_spec.specs.Strings.{is_escaped_in_string, is_plain_in_display, IsStringPiece, IsDisplayPiece}
-use Rattle.sfv_spec.specs.declared.error_kind.ErrorKind.{ErrorKind}
-use Rattle.sfv_spec.specs.declared.error_kind.ErrorKind.TheVariants.{InvalidStringCharacter, UnterminatedString}
-use Rattle.sfv_spec.specs.declared.error_kind.ErrorKind.TheVariants.{UnterminatedEscapeSequence, InvalidEscapeSequence}
-use Rattle.sfv_spec.specs.declared.error_kind.ErrorKind.TheVariants.{InvalidDisplayStringCharacter}
-use Rattle.sfv_spec.specs.declared.error_kind.ErrorKind.TheVariants.{UnterminatedDisplayString}
-use Rattle.sfv_model.specs.Reader.{has_rule, first, Answer, Reader, at_reach, by_rule}
+use Rattle.sfv_spec.{specs.Texts.RunOf, proofs.Marks.{double_quote, percent_sign, backslash}}
 use Rattle.sfv_model.specs.Quoted.{after_bytes, string_from, Place, outside, percent, digit, pieces_from, StringStops}
-use Rattle.sfv_model.specs.Quoted.{DisplayStops}
+use Rattle.sfv_model.specs.{Quoted.DisplayStops, Reader.{has_rule, first, Answer, Reader, at_reach, by_rule}}
+use Rattle.sfv_model.proofs.Types.{ErrorKind, InvalidStringCharacter, UnterminatedString, UnterminatedEscapeSequence}
+use Rattle.sfv_model.proofs.Types.{InvalidEscapeSequence, InvalidDisplayStringCharacter, UnterminatedDisplayString}
 
 -- ---- values in front
 
@@ -71,9 +64,8 @@ module _ (P : ℕ → List ℕ → Type 0) (f : Reader (List ℕ)) (step : (c : 
   past_pieces [] [] t h = sym (after_bytes_none (f t))
   past_pieces [] (p ∷ ps) t h = absurd h
   past_pieces (c ∷ bytes) [] t h = absurd h
-  past_pieces (c ∷ bytes) (p ∷ ps) t h =
-      ap f (append_assoc p (concat ps) t) ∙ step c p (concat ps ++ t) h.0
-      ∙ ap (after_bytes (c ∷ [])) (past_pieces bytes ps t h.1) ∙ after_bytes_more (c ∷ []) bytes (f t)
+  past_pieces (c ∷ bytes) (p ∷ ps) t h = ap f (append_assoc p (concat ps) t) ∙ step c p (concat ps ++ t) h.0 ∙ ap
+      (after_bytes (c ∷ [])) (past_pieces bytes ps t h.1) ∙ after_bytes_more (c ∷ []) bytes (f t)
 
 pub past_string : (bytes : List ℕ) (pieces : List (List ℕ)) (t : List ℕ) → AllZip IsStringPiece bytes pieces
     → string_from false (concat pieces ++ t) ≡ after_bytes bytes (string_from false t)
@@ -273,6 +265,5 @@ pub stuck : (k : ErrorKind) (left there : List ℕ) → DisplayStops k left ther
 stuck UnterminatedDisplayString left there h = rw h.0 (λ n m. absurd (omega (arith, m)))
 stuck UnterminatedEscapeSequence left there h = rw h.1 (stuck_cut h.0 h.3 h.4)
 stuck InvalidEscapeSequence left there h = rw h.3 (stuck_wrong h.0 h.1 h.2 h.5 h.6 h.7)
-stuck InvalidDisplayStringCharacter left there h =
-    rw h.2 (stuck_byte h.0 h.1 (not_byte h.0 percent_sign h.4 refl) (and_left (is_string_byte h.0) _ h.4))
+stuck InvalidDisplayStringCharacter left there h = rw h.2 (stuck_byte _ _ (not_byte _ _ h.4 refl) (and_left _ _ h.4))
 stuck _ left there h = absurd h

@@ -1,17 +1,11 @@
 -- The steps over the inside of a String in an input.
-use Rattle.std.proofs.Common.{arith, ◌≡◌, ℕ, true, false, not, List, [], ◌∷◌, Ok, refl, subst, inl, inr}
-use Rattle.std.proofs.lemmas.Bool.Decides.{nat_tests}
-use Rattle.std.specs.Prelude.{IsUtf8}
+use Rattle.std.proofs.Common.{arith, ◌≡◌, ℕ, true, false, not, List, [], ◌∷◌, Ok, refl, subst, inl, inr, IsUtf8}
 use Rattle.std.specs.List.{AllZip, list_all}
-use Rattle.std.proofs.lemmas.Bool.{and_parts, and_from}
-use Rattle.sfv_spec.specs.Texts.{RunOf}
-use Rattle.sfv_spec.specs.Classes.{is_string_byte}
-use Rattle.sfv_spec.specs.Strings.{is_escaped_in_string, IsStringPiece}
+use Rattle.std.proofs.lemmas.Bool.{and_parts, and_from, Decides.nat_tests}
+use Rattle.sfv_spec.specs.{Classes.is_string_byte, Strings.{is_escaped_in_string, IsStringPiece}, Texts.RunOf}
 use Rattle.sfv_spec.proofs.Marks.{is_plain_in_string}
-use Rattle.sfv_model.specs.Reader.{Answer}
-use Rattle.sfv_model.specs.Quoted.{string_from, StringStops, Traced}
-use Rattle.sfv_model.proofs.quoted.Traces.{Ends, trace_of_string}
-use Rattle.sfv_model.proofs.texts.Ranges.{run_weaker, string_utf8}
+use Rattle.sfv_model.specs.{Quoted.{string_from, StringStops, Traced}, Reader.Answer}
+use Rattle.sfv_model.proofs.{quoted.Traces.{Ends, trace_of_string}, texts.Ranges.{run_weaker, string_utf8}}
 
 -- the bytes of a plain run are of a string
 pub plain_bytes : (run : List ℕ) → RunOf is_plain_in_string run → RunOf is_string_byte run

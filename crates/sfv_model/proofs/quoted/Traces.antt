@@ -1,22 +1,15 @@
 -- Each reading is a run of pieces, and what stands after them.
 use Rattle.std.proofs.Common.{arith, ◌≡◌, ℕ, ◌+◌, ◌*◌, Bool, true, false, List, [], ◌∷◌, ◌++◌, Ok, Err, refl, sym, ap}
-use Rattle.std.proofs.Common.{◌∙◌, append_assoc, lit≤, inl, inr}
-use Rattle.std.proofs.lemmas.Bool.Decides.{nat_tests}
-use Rattle.std.specs.Prelude.{◌==◌, IsTrue}
-use Rattle.std.specs.List.{concat}
-use Rattle.std.proofs.lemmas.Bool.{and_from, eqb-true, cases_Bool}
-use Rattle.sfv_spec.proofs.Marks.{double_quote, percent_sign, backslash}
+use Rattle.std.proofs.Common.{◌∙◌, append_assoc, lit≤, inl, inr, ◌==◌, IsTrue, eqb-true}
+use Rattle.std.specs.{Char.digit_value as hexadecimal_value, List.concat}
+use Rattle.std.proofs.lemmas.Bool.{and_from, cases_Bool, Decides.nat_tests}
 use Rattle.sfv_spec.specs.Classes.{is_string_byte, is_lower_hexadecimal}
 use Rattle.sfv_spec.specs.Strings.{is_escaped_in_string, IsStringPiece, IsDisplayPiece}
-use Rattle.std.specs.Char.{digit_value as hexadecimal_value}
-use Rattle.sfv_spec.specs.declared.error_kind.ErrorKind.{ErrorKind}
-use Rattle.sfv_spec.specs.declared.error_kind.ErrorKind.TheVariants.{InvalidStringCharacter, UnterminatedString}
-use Rattle.sfv_spec.specs.declared.error_kind.ErrorKind.TheVariants.{UnterminatedEscapeSequence, InvalidEscapeSequence}
-use Rattle.sfv_spec.specs.declared.error_kind.ErrorKind.TheVariants.{InvalidDisplayStringCharacter}
-use Rattle.sfv_spec.specs.declared.error_kind.ErrorKind.TheVariants.{UnterminatedDisplayString}
-use Rattle.sfv_model.specs.Reader.{Answer, placed, at_reach, by_rule}
+use Rattle.sfv_spec.proofs.Marks.{double_quote, percent_sign, backslash}
 use Rattle.sfv_model.specs.Quoted.{after_bytes, string_from, Place, outside, percent, digit, pieces_from, StringStops}
-use Rattle.sfv_model.specs.Quoted.{DisplayStops, Traced}
+use Rattle.sfv_model.specs.{Quoted.{DisplayStops, Traced}, Reader.{Answer, placed, at_reach, by_rule}}
+use Rattle.sfv_model.proofs.Types.{ErrorKind, InvalidStringCharacter, UnterminatedString, UnterminatedEscapeSequence}
+use Rattle.sfv_model.proofs.Types.{InvalidEscapeSequence, InvalidDisplayStringCharacter, UnterminatedDisplayString}
 
 -- the bytes that were read and the closing quote, or a fault
 abbrev pub Ends : Bool → (ErrorKind → List ℕ → List ℕ → Type 0) → Answer (List ℕ) → List ℕ → List ℕ → Type 0
@@ -24,16 +17,13 @@ Ends exact Stops (Ok x) bytes left = (x.0 ≡ bytes) × (left ≡ double_quote �
 Ends exact Stops (Err e) bytes left = (e ≡ placed exact e.kind e.rest) × Stops e.kind left e.rest
 
 -- after one more piece
-more_ends : (exact : Bool)
-    (Stops : ErrorKind → List ℕ → List ℕ → Type 0) (c : ℕ) (a : Answer (List ℕ)) (bytes left : List ℕ)
-    → Ends exact Stops a bytes left
-    → Ends exact Stops (after_bytes (c ∷ []) a) (c ∷ bytes) left
+more_ends : (exact : Bool) (Stops : ErrorKind → List ℕ → List ℕ → Type 0) (c : ℕ) (a : Answer (List ℕ))
+    (bytes left : List ℕ) → Ends exact Stops a bytes left → Ends exact Stops (after_bytes (c ∷ []) a) (c ∷ bytes) left
 more_ends exact Stops c (Ok x) bytes left h = (ap (λ (l : List ℕ). c ∷ l) h.0, h.1)
 more_ends exact Stops c (Err e) bytes left h = h
 
-add : (exact : Bool) (P : ℕ → List ℕ → Type 0)
-    (Stops : ErrorKind → List ℕ → List ℕ → Type 0) (c : ℕ) (piece t : List ℕ) (a : Answer (List ℕ)) → P c piece
-    → Traced P t (Ends exact Stops a)
+add : (exact : Bool) (P : ℕ → List ℕ → Type 0) (Stops : ErrorKind → List ℕ → List ℕ → Type 0)
+    (c : ℕ) (piece t : List ℕ) (a : Answer (List ℕ)) → P c piece → Traced P t (Ends exact Stops a)
     → Traced P (piece ++ t) (Ends exact Stops (after_bytes (c ∷ []) a))
 add exact P Stops c piece t a p h = record {
   bytes = c ∷ h.bytes;
@@ -44,9 +34,8 @@ add exact P Stops c piece t a p h = record {
   ends = more_ends exact Stops c a h.bytes h.left h.ends;
 }
 
-stop : (exact : Bool) (P : ℕ → List ℕ → Type 0)
-    (Stops : ErrorKind → List ℕ → List ℕ → Type 0) (t : List ℕ) (a : Answer (List ℕ)) → Ends exact Stops a [] t
-    → Traced P t (Ends exact Stops a)
+stop : (exact : Bool) (P : ℕ → List ℕ → Type 0) (Stops : ErrorKind → List ℕ → List ℕ → Type 0)
+    (t : List ℕ) (a : Answer (List ℕ)) → Ends exact Stops a [] t → Traced P t (Ends exact Stops a)
 stop exact P Stops t a h = record { bytes = []; pieces = []; left = t; text = refl; content = tt; ends = h }
 
 -- ---- strings
@@ -118,12 +107,15 @@ trace_display percent (c ∷ r) h = elim (cases_Bool (is_lower_hexadecimal c)) [
 ]
 trace_display (digit d) (c ∷ r) h = elim (cases_Bool (is_lower_hexadecimal c)) [
   | inl i ↦ rw i (add false IsDisplayPiece DisplayStops (16 * hexadecimal_value d + hexadecimal_value c)
-      (percent_sign ∷ d ∷ c ∷ []) r (pieces_from outside r)
-      (inr (d, c, and_from (is_lower_hexadecimal d) (is_lower_hexadecimal c) h i, refl, refl))
-      (trace_display outside r tt))
-  | inr i ↦ rw i (stop false IsDisplayPiece DisplayStops (percent_sign ∷ d ∷ c ∷ r)
-      (Err (by_rule InvalidEscapeSequence (c ∷ r)))
-      (refl, (d ∷ [], c, r, refl, refl, and_from (is_lower_hexadecimal d) true h refl, lit≤ tt, i)))
+      (percent_sign ∷ d ∷ c ∷ []) r (pieces_from outside r) (inr (
+        d,
+        c,
+        and_from (is_lower_hexadecimal d) (is_lower_hexadecimal c) h i,
+        refl,
+        refl,
+      )) (trace_display outside r tt))
+  | inr i ↦ rw i (stop false IsDisplayPiece DisplayStops (percent_sign ∷ d ∷ c ∷ r) (Err (by_rule InvalidEscapeSequence
+      (c ∷ r))) (refl, (d ∷ [], c, r, refl, refl, and_from (is_lower_hexadecimal d) true h refl, lit≤ tt, i)))
 ]
 trace_display outside (c ∷ r) h = elim (cases_Bool (c == double_quote)) [
   | inl i ↦ rw i (stop false IsDisplayPiece DisplayStops (c ∷ r) (Ok ([], r))

@@ -1,24 +1,15 @@
 -- What the reader of a Byte Sequence gives.
-use Rattle.std.proofs.lemmas.Bool.Decides.{nat_tests}
-use Rattle.std.proofs.lemmas.Bool.{not-true, and_parts, eqb-true, eqb-false, cases_Bool, true≢false}
 use Rattle.std.proofs.Common.{◌≡◌, ℕ, zero, suc, ◌<◌, ◌≤◌, ◌+◌, List, [], ◌∷◌, ◌++◌, length, take, drop, replicate, map}
 use Rattle.std.proofs.Common.{refl, sym, ◌∙◌, ap, true, false, append_assoc, arith, inl, inr, Option, Some, None, Ok}
-use Rattle.std.proofs.Common.{Err}
-use Rattle.std.specs.Prelude.{◌==◌, not}
-use Rattle.std.specs.List.{list_all, list_any}
-use Rattle.std.proofs.lemmas.List.{take-append-le, drop_at, take-append-drop, drop-drop}
-use Rattle.std.proofs.lemmas.List.Folds.{list_all-append}
-use Rattle.sfv_spec.proofs.Marks.{colon, equals_sign, is_symbol}
-use Rattle.sfv_spec.specs.Base64.{IsBase64Text, symbol}
-use Rattle.sfv_spec.specs.declared.error_kind.ErrorKind.TheVariants.{UnterminatedByteSequence}
-use Rattle.sfv_model.specs.Reader.{by_rule}
-use Rattle.sfv_model.specs.Judgements.{Reached, Sound, Mute, Quiet}
+use Rattle.std.proofs.Common.{Err, eqb-true, true≢false, ◌==◌, not, drop_at, take-append-drop, drop-drop}
+use Rattle.std.{specs.List.{list_all, list_any}, proofs.lemmas.Bool.{not-true, and_parts, eqb-false, cases_Bool}}
+use Rattle.std.proofs.lemmas.{Bool.Decides.nat_tests, List.take-append-le, List.Folds.list_all-append}
+use Rattle.sfv_spec.{specs.Base64.{IsBase64Text, symbol}, proofs.Marks.{colon, equals_sign, is_symbol}}
 use Rattle.sfv_model.specs.Content.{valid_from, bytes_of, fault_place, IsBytesEnd, is_colon, HasNoColon, content_in}
-use Rattle.sfv_model.specs.Content.{content_fault, closed_by, bytes_at}
-use Rattle.sfv_model.proofs.texts.Ranges.{run_weaker}
-use Rattle.sfv_model.proofs.base64.Shape.{are_symbols}
-use Rattle.sfv_model.proofs.base64.Contents.{gives_the_bytes, longest_valid}
-use Rattle.sfv_model.proofs.texts.Joining.{in_turn}
+use Rattle.sfv_model.specs.{Content.{content_fault, closed_by, bytes_at}, Judgements.{Reached, Sound, Mute, Quiet}}
+use Rattle.sfv_model.{specs.Reader.by_rule, proofs.Types.UnterminatedByteSequence}
+use Rattle.sfv_model.proofs.base64.{Contents.{gives_the_bytes, longest_valid}, Shape.are_symbols}
+use Rattle.sfv_model.proofs.texts.{Joining.in_turn, Ranges.run_weaker}
 
 -- no colon among symbols, nor in padding
 symbol_apart : (c : ℕ) → is_symbol c ≡ true → not (c == colon) ≡ true
@@ -86,8 +77,7 @@ pub read_fault : (content rest : List ℕ) → HasNoColon content → bytes_of c
     (drop (fault_place content) (content ++ colon ∷ rest)))
 read_fault content rest h e = read_closed content rest h ∙ rw e refl
 
-pub read_unclosed : (t : List ℕ) → list_any is_colon t ≡ false
-    → bytes_at t ≡ Err (by_rule UnterminatedByteSequence [])
+pub read_unclosed : (t : List ℕ) → list_any is_colon t ≡ false → bytes_at t ≡ Err (by_rule UnterminatedByteSequence [])
 unfolding bytes_at
 read_unclosed t h = rw h refl
 
@@ -147,13 +137,12 @@ sound_closed content rest None e =
 -- What is read is a Byte Sequence, and an exact fault stands after a beginning of one.
 pub Sound-bytes : Sound bytes_at IsBytesEnd (Mute IsBytesEnd) Quiet
 Sound-bytes = record {
-  sound = λ t. elim (cases_Bool (list_any is_colon t)) [
+  sound = λ t. elim (cases_Bool _) [
     | inl y ↦
-        let s = content_split t y in
+        let s = content_split _ y in
         let content : List ℕ = content_in t in
         let r : Reached IsBytesEnd (Mute IsBytesEnd) Quiet (content ++ colon ∷ s.0)
-        (bytes_at (content ++ colon ∷ s.0)) =
-        rw (read_closed content s.0 s.2) (sound_closed content s.0 (bytes_of content) refl) in
+        (bytes_at (content ++ colon ∷ s.0)) = rw (read_closed content s.0 s.2) (sound_closed _ _ _ refl) in
         rw s.1 r
     | inr n ↦ rw (read_unclosed t n) (λ l. absurd (true≢false (sym l)), λ l. (refl, refl))
   ];

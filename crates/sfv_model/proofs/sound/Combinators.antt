@@ -1,13 +1,9 @@
 -- Readers give what the grammar has, and a fault carries a text that shows how far the reading was right.
 use Rattle.std.proofs.Common.{subst, ◌≡◌, ℕ, zero, suc, ◌≤◌, Bool, true, false, cond, List, [], ◌∷◌, ◌++◌, length}
 use Rattle.std.proofs.Common.{Option, Some, None, Ok, Err, refl, sym, ap, ◌∙◌, append_assoc, arith, inl, inr}
-use Rattle.std.specs.Prelude.{⊤}
-use Rattle.std.specs.List.{list_all}
-use Rattle.std.proofs.lemmas.Bool.{and_from, and_parts, true≢false, eqb-true, cases_Bool}
-use Rattle.std.proofs.lemmas.List.{append-nil}
-use Rattle.sfv_spec.specs.Texts.{RunOf}
-use Rattle.sfv_spec.specs.Events.{TreeEvent}
-use Rattle.sfv_spec.specs.declared.error_kind.ErrorKind.{ErrorKind}
+use Rattle.std.proofs.Common.{true≢false, eqb-true, append-nil}
+use Rattle.std.{specs.List.list_all, specs.Prelude.⊤, proofs.lemmas.Bool.{and_from, and_parts, cases_Bool}}
+use Rattle.sfv_spec.specs.{Events.TreeEvent, Texts.RunOf, declared.error_kind.ErrorKind.ErrorKind}
 use Rattle.sfv_model.specs.Judgements.{GoesOn, Reached, Sound}
 use Rattle.sfv_model.specs.Reader.{has_rule, Fault, Answer, Reader, and_then, give, fail, ruled, ◌>>=◌, bind}
 use Rattle.sfv_model.specs.Reader.{led_answer, led, branch, ahead, at_start, back, up_to, span, byte}
@@ -22,9 +18,8 @@ further W s q e g = record {
 }
 
 -- after a text that was read before
-pub after : {A : Type 0} (P : A → List ℕ → Type 0) (W : List ℕ → List TreeEvent → Type 0)
-    (V : List TreeEvent → Type 0) (s q : List ℕ) (a : Answer A)
-    → Reached (λ v u. P v (s ++ u)) (λ u es. W (s ++ u) es) V q a
+pub after : {A : Type 0} (P : A → List ℕ → Type 0) (W : List ℕ → List TreeEvent → Type 0) (V : List TreeEvent → Type 0)
+    (s q : List ℕ) (a : Answer A) → Reached (λ v u. P v (s ++ u)) (λ u es. W (s ++ u) es) V q a
     → Reached P W V (s ++ q) a
 after P W V s q (Ok x) h = (s ++ h.0, ap (λ (l : List ℕ). s ++ l) h.1 ∙ sym (append_assoc s h.0 x.1), h.2)
 after P W V s q (Err e) h = ((λ x. further W s q e (h.0 x)), h.1)
@@ -43,15 +38,11 @@ pub Sound-fail : {A : Type 0} (k : ErrorKind) (P : A → List ℕ → Type 0)
     (W : List ℕ → List TreeEvent → Type 0) (V : List TreeEvent → Type 0) (c : List ℕ) → W c [] → Sound (fail k) P W V
 unfolding fail
 Sound-fail k P W V c q = record {
-  sound = λ t. (
-    (λ _. record { front = []; more = c; parts = refl; holds = q }),
-    λ e. absurd (true≢false e),
-  );
+  sound = λ t. ((λ _. record { front = []; more = c; parts = refl; holds = q }), λ e. absurd (true≢false e));
 }
 
-pub Sound-ruled : {A : Type 0} (k : ErrorKind) (P : A → List ℕ → Type 0)
-    (W : List ℕ → List TreeEvent → Type 0) (V : List TreeEvent → Type 0) → has_rule k ≡ true → V []
-    → Sound (ruled k) P W V
+pub Sound-ruled : {A : Type 0} (k : ErrorKind) (P : A → List ℕ → Type 0) (W : List ℕ → List TreeEvent → Type 0)
+    (V : List TreeEvent → Type 0) → has_rule k ≡ true → V [] → Sound (ruled k) P W V
 unfolding ruled
 Sound-ruled k P W V r q = record { sound = λ t. ((λ e. absurd (true≢false (sym e))), λ _. (q, r)) }
 
@@ -180,10 +171,7 @@ pub record Steady {A : Type 0} (f : Reader A) (P : A → List ℕ → Type 0) : 
 
 pub Sound-steady : {A : Type 0} (P : A → List ℕ → Type 0) (f : Reader A)
     (W : List ℕ → List TreeEvent → Type 0) (V : List TreeEvent → Type 0) → Steady f P → Sound f P W V
-Sound-steady P f W V h = record {
-  sound = λ t. let m = h.steady t in
-      rw m.3 (m.0, m.4, m.5);
-}
+Sound-steady P f W V h = record { sound = λ t. let m = h.steady t in rw m.3 (m.0, m.4, m.5) }
 
 -- ---- bytes of a class
 
@@ -264,8 +252,7 @@ pub Sound-span : {B : Type 0} (class : ℕ → Bool) (g : List ℕ → Reader B)
     → List TreeEvent → Type 0) (V : List TreeEvent → Type 0)
     → ((v : List ℕ) → RunOf class v → Sound (g v) (λ w u. Q w (v ++ u)) (λ u es. W (v ++ u) es) V)
     → Sound (span class >>= g) Q W V
-Sound-span class g Q W V h = Sound-bind (IsSpan class) (span class) g Q W V (Sound-steady _ _ W V (Steady-span class))
-    (λ s v k. rw k.0 (h v k.1))
+Sound-span class g Q W V h = Sound-bind _ _ _ _ _ _ (Sound-steady _ _ _ _ (Steady-span _)) (λ s v k. rw k.0 (h v k.1))
 
 pub Sound-up_to : {B : Type 0} (class : ℕ → Bool) (n : ℕ) (g : List ℕ → Reader B) (Q : B → List ℕ → Type 0) (W : List ℕ
     → List TreeEvent → Type 0) (V : List TreeEvent → Type 0)
@@ -276,9 +263,8 @@ Sound-up_to class n g Q W V h = Sound-bind (IsRun class n) (up_to class n) g Q W
 
 -- after a byte that is named
 pub Sound-byte : {A : Type 0} (n : ℕ) {f other : Reader A} {P : A → List ℕ → Type 0}
-    {W : List ℕ → List TreeEvent → Type 0} {V : List TreeEvent → Type 0}
-    → Sound f (λ v s. P v (n ∷ s)) (λ s es. W (n ∷ s) es) V → Sound other P W V
-    → Sound (branch (byte n) (λ _. f) other) P W V
+    {W : List ℕ → List TreeEvent → Type 0} {V : List TreeEvent → Type 0} → Sound f (λ v s. P v (n ∷ s))
+    (λ s es. W (n ∷ s) es) V → Sound other P W V → Sound (branch (byte n) (λ _. f) other) P W V
 Sound-byte n h k = Sound-branch (byte n) _ _ _ _ _ (λ c e. rw (eqb-true c n e) h) k
 
 -- some text shows it
@@ -313,8 +299,7 @@ Sound-within at out W h k l = Sound-weaker h k l (λ es g. let m = l g.0 es g.1 
 
 -- the same, where no text need follow
 pub Sound-here : {A : Type 0} {f : Reader A} {P Q : A → List ℕ → Type 0} {U : List ℕ → List TreeEvent → Type 0}
-    (at : List ℕ → List ℕ) (out : List TreeEvent → List TreeEvent) (W : List ℕ → List TreeEvent → Type 0)
-    → Reads f P U → ((v : A) (s : List ℕ) → P v s → Q v s)
-    → ((u : List ℕ) (es : List TreeEvent) → U u es → W (at u) (out es))
+    (at : List ℕ → List ℕ) (out : List TreeEvent → List TreeEvent) (W : List ℕ → List TreeEvent → Type 0) → Reads f P U
+    → ((v : A) (s : List ℕ) → P v s → Q v s) → ((u : List ℕ) (es : List TreeEvent) → U u es → W (at u) (out es))
     → Sound f Q (λ u es. W (at u) (out es)) (λ es. Somewhere W (out es))
 Sound-here at out W h k l = Sound-within at out W h k (λ u es g. ([], rw (append-nil u) (l u es g)))

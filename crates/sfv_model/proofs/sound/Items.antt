@@ -1,26 +1,18 @@
 -- What is read as a key, parameters, an item is one.
 use Rattle.std.proofs.Common.{◌≡◌, ℕ, ◌≤◌, true, List, [], ◌∷◌, ◌++◌, length, Some, refl, sym, ap, arith, inl, inr}
-use Rattle.std.specs.Prelude.{flat_map, map}
-use Rattle.std.proofs.lemmas.List.{append-nil, length-append}
-use Rattle.std.proofs.lemmas.Bool.{and_from}
-use Rattle.sfv_spec.proofs.Marks.{equals_sign, lower_a, semicolon, is_space}
-use Rattle.sfv_spec.specs.Texts.{Exactly, RunOf}
+use Rattle.std.proofs.{Common.{flat_map, map, append-nil, length-append}, lemmas.Bool.and_from}
 use Rattle.sfv_spec.specs.Classes.{is_key, is_key_start}
-use Rattle.sfv_spec.specs.Values.{BareValue, boolean, RawParameters}
-use Rattle.sfv_spec.specs.declared.version.Version.{Version}
-use Rattle.sfv_spec.specs.Grammar.{IsBareText, IsKeyText, IsValueText, IsParametersText, IsItemText}
-use Rattle.sfv_spec.proofs.Marks.{IsParameterText}
 use Rattle.sfv_spec.specs.Events.{TreeEvent, bare_item, parameter, parameters_end, parameters_events, item_events}
-use Rattle.sfv_model.specs.Judgements.{Mute}
-use Rattle.sfv_model.specs.Bare.{bare_at}
+use Rattle.sfv_spec.specs.Grammar.{IsBareText, IsKeyText, IsValueText, IsParametersText, IsItemText}
+use Rattle.sfv_spec.specs.{Texts.{Exactly, RunOf}, Values.{BareValue, boolean, RawParameters}}
+use Rattle.sfv_spec.proofs.Marks.{equals_sign, lower_a, semicolon, is_space, IsParameterText}
 use Rattle.sfv_model.specs.Items.{key_at, value_at, parameter_at, parameter_event, parameters_at, item_of, item_at}
+use Rattle.sfv_model.{specs.Judgements.Mute, proofs.Types.Version, proofs.sound.Bare.{BareGoes, Sound-bare}}
 use Rattle.sfv_model.proofs.sound.Combinators.{Sound-give, Sound-fail, Sound-led, Sound-branch, Sound-byte, Sound-bind}
-use Rattle.sfv_model.proofs.sound.Combinators.{Sound-map, Sound-within, Sound-here, Sound-span, Reads, Somewhere}
-use Rattle.sfv_model.proofs.sound.Combinators.{Begins, Goes, begins_after, begins_longer}
+use Rattle.sfv_model.proofs.sound.Combinators.{Sound-map, Sound-within, Sound-here, Sound-span, Reads, Begins, Goes}
+use Rattle.sfv_model.proofs.sound.Combinators.{begins_after, begins_longer}
+use Rattle.sfv_model.proofs.sound.{Many.{Step, Consumes, Consumes-from}, Steps.{StepGoes, ManyGoes, Sound-steps}}
 use Rattle.sfv_model.proofs.texts.Joining.{joining_none, joined_end, in_turn}
-use Rattle.sfv_model.proofs.sound.Many.{Step, Consumes, Consumes-from}
-use Rattle.sfv_model.proofs.sound.Steps.{StepGoes, ManyGoes, Sound-steps}
-use Rattle.sfv_model.proofs.sound.Bare.{BareGoes, Sound-bare}
 
 -- ---- keys
 
@@ -40,8 +32,7 @@ Sound-key = Sound-branch _ _ _ _ _ _
 
 -- *SP key, and a value, after the semicolon
 pub parameter_of : (version : Version) (spaces k key t : List ℕ) (v : BareValue) → RunOf is_space spaces
-    → IsKeyText key k
-    → IsValueText version v t → IsParameterText version (key, v) (semicolon ∷ (spaces ++ (k ++ t)))
+    → IsKeyText key k → IsValueText version v t → IsParameterText version (key, v) (semicolon ∷ (spaces ++ (k ++ t)))
 parameter_of version spaces k key t v each is_key is_value = in_turn (semicolon ∷ []) (spaces ++ (k ++ t)) refl
     (in_turn spaces (k ++ t) each (in_turn k t is_key is_value))
 
@@ -68,8 +59,7 @@ none_yet p es e = (parameter_event p, ap (λ (l : List TreeEvent). l ++ paramete
 pub Sound-parameter : (version : Version) → Reads (parameter_at version) (Step (IsParameterText version) (Exactly []))
     (ParameterGoes version)
 unfolding parameter_at
-Sound-parameter version = Sound-byte _
-    (Sound-span _ _ _ _ _ (λ spaces each. Sound-bind IsKeyText key_at _ _ _ _
+Sound-parameter version = Sound-byte _ (Sound-span _ _ _ _ _ (λ spaces each. Sound-bind IsKeyText key_at _ _ _ _
     (Sound-within (λ u. semicolon ∷ (spaces ++ u)) (λ es. es) (ParameterGoes version) Sound-key (λ v t h. h)
     (λ u es g. (
       [],
@@ -79,9 +69,8 @@ Sound-parameter version = Sound-byte _
         none_yet (g.0, boolean true) es g.2,
       ),
     )))
-    (λ k key is_key. Sound-map (λ v. Some (key, v))
-    (Sound-here (λ u. semicolon ∷ (spaces ++ (k ++ u))) (λ es. es) (ParameterGoes version) (Sound-value version)
-    (λ v t h. parameter_of version spaces k key t v each is_key h)
+    (λ k key is_key. Sound-map (λ v. Some (key, v)) (Sound-here (λ u. semicolon ∷ (spaces ++ (k ++ u))) (λ es. es)
+    (ParameterGoes version) (Sound-value version) (λ v t h. parameter_of version spaces k key t v each is_key h)
     (λ u es g. (
       Some (key, g.0),
       parameter_of version spaces k key u g.0 each is_key g.1,
@@ -93,8 +82,7 @@ parameter_takes : (version : Version) (p : List ℕ × BareValue) (t : List ℕ)
 parameter_takes version p t h = rw h.text (omega (arith, ap length h.first, length-append h.front h.back))
 
 pub Consumes-parameter : (version : Version) → Consumes (parameter_at version)
-Consumes-parameter version = Consumes-from (IsParameterText version) (Exactly []) (ParameterGoes version)
-    (Somewhere (ParameterGoes version)) (parameter_at version) (Sound-parameter version) (parameter_takes version)
+Consumes-parameter version = Consumes-from _ _ _ _ _ (Sound-parameter _) (parameter_takes _)
 
 each_event : (ps : RawParameters) → flat_map parameter_event ps ≡ map (λ p. parameter p.0 p.1) ps
 each_event [] = refl
@@ -114,9 +102,8 @@ parameters_go version u es g = (g.0, joined_end (IsParameterText version) g.0 u 
 pub Sound-parameters : (version : Version) → Reads (parameters_at version) (IsParametersText version)
     (ParametersGo version)
 unfolding parameters_at
-Sound-parameters version = Sound-here (λ u. u) (λ es. es) (ParametersGo version)
-    (Sound-steps (IsParameterText version) (Exactly []) parameter_event [] refl (parameter_at version)
-    (Sound-parameter version)) (joined_end (IsParameterText version)) (parameters_go version)
+Sound-parameters version = Sound-here (λ u. u) (λ es. es) (ParametersGo version) (Sound-steps _ _ _ _ refl _
+    (Sound-parameter _)) (joined_end _) (parameters_go _)
 
 -- ---- items
 
@@ -137,17 +124,11 @@ bare_goes version u es g = (
 
 after_bare : (version : Version) (b : BareValue) (s : List ℕ) → IsBareText version b s
     → (u : List ℕ) (es : List TreeEvent) → ParametersGo version u es → ItemGoes version (s ++ u) (bare_item b ∷ es)
-after_bare version b s h u es g = (
-  item_of b g.0,
-  item_with version b g.0 s u h g.1,
-  begins_after (bare_item b ∷ []) (parameters_events g.0) es g.2,
-)
+after_bare version b s h u es g = (item_of b g.0, item_with _ _ _ _ _ h g.1, begins_after (bare_item b ∷ []) _ _ g.2)
 
 pub Sound-item : (version : Version) → Reads (item_at version) (IsItemText version) (ItemGoes version)
 unfolding item_at
-Sound-item version = Sound-bind (IsBareText version) (bare_at version) _ _ _ _
-    (Sound-within (λ u. u) (λ es. es) (ItemGoes version) (Sound-bare version) (λ v t h. h)
-    (λ u es g. ([], bare_goes version u es g)))
-    (λ s b h. Sound-led _ (Sound-map (item_of b)
-    (Sound-here (λ u. s ++ u) (λ es. bare_item b ∷ es) (ItemGoes version) (Sound-parameters version)
-    (λ ps t k. item_with version b ps s t h k) (after_bare version b s h))))
+Sound-item version = Sound-bind _ _ _ _ _ _ (Sound-within (λ u. u) (λ es. es) (ItemGoes version) (Sound-bare _)
+    (λ v t h. h) (λ u es g. ([], bare_goes _ _ _ g))) (λ s b h. Sound-led _ (Sound-map _ (Sound-here (λ u. s ++ u)
+    (λ es. bare_item b ∷ es) (ItemGoes version) (Sound-parameters _) (λ ps t k. item_with _ _ _ _ _ h k)
+    (after_bare _ _ _ h))))

@@ -1,17 +1,15 @@
 -- Step after step.
-use Rattle.sfv_model.proofs.sound.Combinators.{sound_at, Sound-give, Sound-ruled, Sound-led, Sound-bind, Sound-map}
-use Rattle.sfv_model.proofs.sound.Combinators.{Sound-weaker}
 use Rattle.std.proofs.Common.{◌≡◌, ℕ, zero, suc, ◌+◌, ◌<◌, ◌≤◌, List, [], ◌∷◌, ◌++◌, length, Option, Some, None, Ok}
-use Rattle.std.proofs.Common.{Err, refl, sym, ap, subst, ◌∙◌, append_assoc, arith, inl, inr, ◌⊎◌}
-use Rattle.std.specs.Prelude.{flat_map}
-use Rattle.std.proofs.lemmas.List.{append-nil, append_cancel_right, length-append}
-use Rattle.sfv_spec.specs.Texts.{IsJoining}
+use Rattle.std.proofs.Common.{Err, refl, sym, ap, subst, ◌∙◌, append_assoc, arith, inl, inr, ◌⊎◌, flat_map, append-nil}
+use Rattle.std.proofs.{Common.length-append, lemmas.List.append_cancel_right}
 use Rattle.sfv_spec.specs.Events.{TreeEvent}
-use Rattle.sfv_spec.specs.declared.error_kind.ErrorKind.TheVariants.{UnterminatedByteSequence}
+use Rattle.sfv_spec.specs.{Texts.IsJoining, declared.error_kind.ErrorKind.TheVariants.UnterminatedByteSequence}
 use Rattle.sfv_model.specs.Judgements.{Sound, Lasts, Local}
 use Rattle.sfv_model.specs.Reader.{Fault, Answer, Reader, after_events, and_then, give, ◌>>=◌, bind, led_answer, led}
 use Rattle.sfv_model.specs.Reader.{go_on, many_within, many}
 use Rattle.sfv_model.proofs.local.Combinators.{Local-give, Local-ruled, Local-led, Local-bind}
+use Rattle.sfv_model.proofs.sound.Combinators.{sound_at, Sound-give, Sound-ruled, Sound-led, Sound-bind, Sound-map}
+use Rattle.sfv_model.proofs.sound.Combinators.{Sound-weaker}
 use Rattle.sfv_model.proofs.texts.Joining.{joining_none, joining_push, Joined, events_push, in_turn}
 
 -- a step gives a value for its piece, or nothing for the closing text
@@ -38,9 +36,8 @@ module _ {A : Type 0} (P : A → List ℕ → Type 0) (E : List ℕ → Type 0)
     (h : (s : List ℕ) (vs : List A) → IsJoining P vs s
     → Sound step (Step P E) (Behind parts W s vs) (Told parts V vs)) (z : (s : List ℕ) (vs : List A)
     → IsJoining P vs s → Told parts V vs []) where
-  moved : (s u : List ℕ) (vs : List A) (x : List ℕ) (v : A) (es : List TreeEvent)
-      → Behind parts W (s ++ u) (vs ++ v ∷ []) x es
-      → (d : List ℕ) × W (s ++ (u ++ (x ++ d))) (flat_map parts vs ++ (parts v ++ es))
+  moved : (s u : List ℕ) (vs : List A) (x : List ℕ) (v : A) (es : List TreeEvent) → Behind parts W (s ++ u)
+      (vs ++ v ∷ []) x es → (d : List ℕ) × W (s ++ (u ++ (x ++ d))) (flat_map parts vs ++ (parts v ++ es))
   moved s u vs x v es w = (
     [],
     rw (← append_assoc s u x ∙ ap (λ (l : List ℕ). s ++ (u ++ l)) (sym (append-nil x)))
@@ -53,10 +50,9 @@ module _ {A : Type 0} (P : A → List ℕ → Type 0) (E : List ℕ → Type 0)
       → Sound (go_on parts more o) (λ w x. Joined P E w (u ++ x)) (λ x es. Behind parts W s vs (u ++ x) es)
       (Told parts V vs)
   next more k s vs j u None e = Sound-give [] _ _ _ (rw (append-nil u) e)
-  next more k s vs j u (Some v) e =
-      Sound-led (parts v) (Sound-map (λ ws. v ∷ ws)
-      (Sound-weaker (k (s ++ u) (vs ++ v ∷ []) (joining_push P vs v s u j e))
-      (λ ws x m. in_turn u x e m) (λ x es w. moved s u vs x v es w) (λ es w. rw (← events_push parts vs v es) w)))
+  next more k s vs j u (Some v) e = Sound-led _ (Sound-map _ (Sound-weaker (k (s ++ u) (vs ++ v ∷ [])
+      (joining_push _ _ _ _ _ j e)) (λ ws x m. in_turn _ _ e m) (λ x es w. moved s u _ x _ _ w)
+      (λ es w. rw (← events_push parts vs v es) w)))
 
   within : (n : ℕ) (s : List ℕ) (vs : List A) → IsJoining P vs s
       → Sound (many_within parts n step) (Joined P E) (Behind parts W s vs) (Told parts V vs)
@@ -72,8 +68,7 @@ module _ {A : Type 0} (P : A → List ℕ → Type 0) (E : List ℕ → Type 0)
 -- a step whose pieces are not empty
 pub Consumes-from : {A : Type 0} (P : A → List ℕ → Type 0) (E : List ℕ → Type 0)
     (W : List ℕ → List TreeEvent → Type 0) (V : List TreeEvent → Type 0) (step : Reader (Option A))
-    → Sound step (Step P E) W V
-    → ((v : A) (s : List ℕ) → P v s → 1 ≤ length s) → Consumes step
+    → Sound step (Step P E) W V → ((v : A) (s : List ℕ) → P v s → 1 ≤ length s) → Consumes step
 Consumes-from P E W V step h k = record {
   consumes = λ t r v e. let m = sound_at h t (Ok (Some v, r)) e in
       let len = ap length m.1 in

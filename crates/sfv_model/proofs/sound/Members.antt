@@ -1,29 +1,23 @@
 -- What is read as an inner list, as a member of a list or of a dictionary, is one.
 use Rattle.std.proofs.Common.{◌≡◌, ℕ, ◌≤◌, true, List, [], ◌∷◌, ◌++◌, length, Some, None, refl, sym, ap, ◌∙◌}
-use Rattle.std.proofs.Common.{append_assoc, arith, inl, inr}
-use Rattle.std.specs.Prelude.{codes, flat_map}
-use Rattle.sfv_spec.proofs.Marks.{space, equals_sign, left_parenthesis, right_parenthesis, is_space, true_with}
-use Rattle.sfv_spec.specs.Texts.{Exactly, RunOf, ◌⨾◌}
-use Rattle.sfv_spec.specs.Values.{boolean, RawParameters, RawItem, RawMember, item}
-use Rattle.sfv_spec.specs.declared.version.Version.{Version}
-use Rattle.sfv_spec.specs.Grammar.{Spaces, IsKeyText, IsParametersText, IsItemText}
-use Rattle.sfv_spec.proofs.Marks.{IsParameterText}
-use Rattle.sfv_spec.proofs.Marks.{SomeSpaces}
-use Rattle.sfv_spec.specs.Grammar.{IsMemberText, IsMemberValueText, IsDictionaryMemberText}
+use Rattle.std.proofs.Common.{append_assoc, arith, inl, inr, codes, flat_map}
 use Rattle.sfv_spec.specs.Events.{TreeEvent, entry, keyed_entry, begins_item, begins_inner_list, bare_item}
 use Rattle.sfv_spec.specs.Events.{inner_list_end, parameters_events, item_events, member_events, inner_item_events}
 use Rattle.sfv_spec.specs.Events.{entry_events, keyed_events}
-use Rattle.sfv_model.specs.Judgements.{Sound}
-use Rattle.sfv_model.specs.Items.{key_at}
+use Rattle.sfv_spec.specs.Grammar.{Spaces, IsKeyText, IsParametersText, IsItemText, IsMemberText, IsMemberValueText}
+use Rattle.sfv_spec.specs.{Grammar.IsDictionaryMemberText, Texts.{Exactly, RunOf, ◌⨾◌}}
+use Rattle.sfv_spec.specs.{Values.{boolean, RawParameters, RawItem, RawMember, item}, declared.version.Version.Version}
+use Rattle.sfv_spec.proofs.Marks.{space, equals_sign, left_parenthesis, right_parenthesis, is_space, true_with}
+use Rattle.sfv_spec.proofs.Marks.{IsParameterText, SomeSpaces}
+use Rattle.sfv_model.specs.{Items.key_at, Judgements.Sound}
 use Rattle.sfv_model.specs.Members.{inner_item_at, next_item_at, inner_items_at, inner_of, closed_events, inner_at}
 use Rattle.sfv_model.specs.Members.{member_at, entry_at, member_value_at, keyed_at}
 use Rattle.sfv_model.proofs.sound.Combinators.{Sound-give, Sound-fail, Sound-led, Sound-byte, Sound-ahead, Sound-bind}
 use Rattle.sfv_model.proofs.sound.Combinators.{Sound-map, Sound-within, Sound-here, Sound-span, Reads, Somewhere, Goes}
 use Rattle.sfv_model.proofs.sound.Combinators.{begins_after, begins_longer}
-use Rattle.sfv_model.proofs.texts.Joining.{joining_none, Joined, split_joined, in_turn}
-use Rattle.sfv_model.proofs.sound.Many.{Step, Consumes, Consumes-from}
-use Rattle.sfv_model.proofs.sound.Steps.{StepGoes, Sound-steps}
 use Rattle.sfv_model.proofs.sound.Items.{Sound-key, ParametersGo, Sound-parameters, ItemGoes, Sound-item}
+use Rattle.sfv_model.proofs.sound.{Many.{Step, Consumes, Consumes-from}, Steps.{StepGoes, Sound-steps}}
+use Rattle.sfv_model.proofs.texts.Joining.{joining_none, Joined, split_joined, in_turn}
 
 -- ---- inner items
 
@@ -62,25 +56,21 @@ at_bracket version = (None, closed [] refl, ([], refl))
 pub Sound-next_item : (version : Version) → Reads (next_item_at version) (Step (IsNextItem version) IsClosed)
     (NextItemGoes version)
 unfolding next_item_at
-Sound-next_item version = Sound-byte _
-    (Sound-span _ _ _ _ _ (λ spaces each.
-    Sound-byte _
-    (Sound-give _ _ _ _ (closed (space ∷ spaces) each))
-    (Sound-map (λ i. Some i)
-    (Sound-here (λ u. space ∷ (spaces ++ u)) (λ es. es) (NextItemGoes version) (Sound-inner_item version)
-    (λ i t h. next_item version spaces t i each h)
-    (λ u es g. (Some g.0, next_item version spaces u g.0 each g.1, g.2))))))
-    (Sound-byte _
-    (Sound-give _ _ _ _ (closed [] refl))
-    (Sound-ahead _ _ _ _ _ _ (Sound-fail _ _ _ _ (right_parenthesis ∷ []) (at_bracket version))
-    (Sound-fail _ _ _ _ (right_parenthesis ∷ []) (at_bracket version))))
+Sound-next_item version = Sound-byte _ (Sound-span _ _ _ _ _ (λ spaces each. Sound-byte _ (Sound-give _ _ _ _
+    (closed (space ∷ spaces) each)) (Sound-map (λ i. Some i) (Sound-here (λ u. space ∷ (spaces ++ u)) (λ es. es)
+    (NextItemGoes version) (Sound-inner_item version) (λ i t h. next_item version spaces t i each h) (λ u es g. (
+      Some g.0,
+      next_item version spaces u g.0 each g.1,
+      g.2,
+    )))))) (Sound-byte _ (Sound-give _ _ _ _ (closed [] refl))
+    (Sound-ahead _ _ _ _ _ _ (Sound-fail _ _ _ _ (right_parenthesis ∷ []) (at_bracket version)) (Sound-fail _ _ _ _
+    (right_parenthesis ∷ []) (at_bracket version))))
 
 next_item_takes : (version : Version) (i : RawItem) (t : List ℕ) → IsNextItem version i t → 1 ≤ length t
 next_item_takes version i t h = rw (h.text, h.first.text, h.first.first) (omega arith)
 
 pub Consumes-next_item : (version : Version) → Consumes (next_item_at version)
-Consumes-next_item version = Consumes-from (IsNextItem version) IsClosed (NextItemGoes version)
-    (Somewhere (NextItemGoes version)) (next_item_at version) (Sound-next_item version) (next_item_takes version)
+Consumes-next_item version = Consumes-from _ _ _ _ _ (Sound-next_item _) (next_item_takes _)
 
 -- what stands after the opening parenthesis, with the closing one
 abbrev pub IsItems : Version → List RawItem → List ℕ → Type 0
@@ -99,11 +89,8 @@ bracket = closed [] refl
 
 pub Sound-items : (version : Version) → Reads (inner_items_at version) (IsItems version) (ItemsGo version)
 unfolding inner_items_at
-Sound-items version = Sound-ahead _ _ _ _ _ _
-    (Sound-span _ _ _ _ _ (λ spaces each.
-    Sound-byte _
-    (Sound-give _ _ _ _ (closed spaces each))
-    (Sound-bind (IsItemText version) (inner_item_at version) _ _ _ _
+Sound-items version = Sound-ahead _ _ _ _ _ _ (Sound-span _ _ _ _ _ (λ spaces each. Sound-byte _
+    (Sound-give _ _ _ _ (closed spaces each)) (Sound-bind (IsItemText version) (inner_item_at version) _ _ _ _
     (Sound-within (λ u. spaces ++ u) (λ es. es) (ItemsGo version) (Sound-inner_item version) (λ v t h. h)
     (λ u es g. (
       right_parenthesis ∷ [],
@@ -113,11 +100,10 @@ Sound-items version = Sound-ahead _ _ _ _ _ _
         begins_longer (inner_item_events g.0) es [] g.2,
       ),
     )))
-    (λ s i h. Sound-led _ (Sound-map (λ is. i ∷ is)
-    (Sound-here (λ u. spaces ++ (s ++ u)) (λ es. inner_item_events i ++ es) (ItemsGo version)
-    (Sound-steps (IsNextItem version) IsClosed inner_item_events (right_parenthesis ∷ []) bracket (next_item_at version)
-    (Sound-next_item version))
-    (λ is t k. items_with version spaces s t i is each h k)
+    (λ s i h. Sound-led _ (Sound-map (λ is. i ∷ is) (Sound-here (λ u. spaces ++ (s ++ u))
+    (λ es. inner_item_events i ++ es) (ItemsGo version) (Sound-steps (IsNextItem version) IsClosed inner_item_events
+    (right_parenthesis ∷ []) bracket (next_item_at version) (Sound-next_item version)) (λ is t k. items_with version
+    spaces s t i is each h k)
     (λ u es g. (
       i ∷ g.0,
       items_with version spaces s u i g.0 each h g.1,
@@ -138,21 +124,18 @@ inner_text version [] ps s t h k = in_turn (left_parenthesis ∷ []) (s ++ t) re
   second = in_turn [] (right_parenthesis ∷ t) refl (in_turn (right_parenthesis ∷ []) t refl k);
 })
 inner_text version (i ∷ is) ps s t h k =
-    let m = split_joined (IsNextItem version) IsClosed is h.second.back h.second.second in
+    let m = split_joined _ _ _ _ h.second.second in
     let z = m.second in
-    let whole : s ++ t ≡ h.front ++ (((h.second.front ++ m.front) ++ z.front) ++ (right_parenthesis ∷ t)) =
-    ap (λ (l : List ℕ). l ++ t) (h.text ∙ ap (λ (l : List ℕ). h.front ++ l) (h.second.text
-    ∙ ap (λ (l : List ℕ). h.second.front ++ l) (m.text
-    ∙ ap (λ (l : List ℕ). m.front ++ l) (z.text ∙ ap (λ (l : List ℕ). z.front ++ l) z.second))))
-    ∙ simp append_assoc in
-    in_turn (left_parenthesis ∷ []) (s ++ t) refl (record {
+    let whole : s ++ t ≡ h.front ++ (((h.second.front ++ m.front) ++ z.front) ++ (right_parenthesis ∷ t)) = ap
+    (λ (l : List ℕ). l ++ t) (h.text ∙ ap (λ (l : List ℕ). h.front ++ l) (h.second.text ∙ ap
+    (λ (l : List ℕ). h.second.front ++ l) (m.text ∙ ap (λ (l : List ℕ). m.front ++ l) (z.text ∙ ap
+    (λ (l : List ℕ). z.front ++ l) z.second)))) ∙ simp append_assoc in
+    in_turn _ _ refl (record {
       front = h.front;
       back = ((h.second.front ++ m.front) ++ z.front) ++ (right_parenthesis ∷ t);
       text = whole;
       first = h.first;
-      second = in_turn ((h.second.front ++ m.front) ++ z.front) (right_parenthesis ∷ t)
-          (in_turn (h.second.front ++ m.front) z.front (in_turn h.second.front m.front h.second.first m.first) z.first)
-          (in_turn (right_parenthesis ∷ []) t refl k);
+      second = in_turn _ _ (in_turn _ _ (in_turn _ _ h.second.first m.first) z.first) (in_turn _ _ refl k);
     })
 
 abbrev pub MemberGoes : Version → List ℕ → List TreeEvent → Type 0
@@ -178,23 +161,19 @@ items_go : (version : Version) (u : List ℕ) (es : List TreeEvent) → ItemsGo 
     → MemberGoes version (left_parenthesis ∷ (u ++ [])) (begins_inner_list ∷ es)
 items_go version u es g = (
   inner_of g.0 [],
-  inner_text version g.0 [] u [] g.1 (joining_none (IsParameterText version)),
-  rw (inner_all g.0 []) (begins_after (begins_inner_list ∷ []) (closed_events g.0 ++ parameters_events []) es
-      (begins_longer (closed_events g.0) es (parameters_events [])
-      (begins_longer (flat_map inner_item_events g.0) es (inner_list_end ∷ []) g.2))),
+  inner_text _ _ _ _ _ g.1 (joining_none _),
+  rw (inner_all g.0 []) (begins_after (begins_inner_list ∷ []) _ _ (begins_longer _ _ (parameters_events [])
+      (begins_longer _ _ (inner_list_end ∷ []) g.2))),
 )
 
 Sound-inner : (version : Version) → Sound (inner_at version) (λ m s. IsMemberText version m (left_parenthesis ∷ s))
     (λ s es. MemberGoes version (left_parenthesis ∷ s) (begins_inner_list ∷ es))
     (λ es. Somewhere (MemberGoes version) (begins_inner_list ∷ es))
 unfolding inner_at
-Sound-inner version = Sound-bind (IsItems version) (inner_items_at version) _ _ _ _
-    (Sound-within (λ u. left_parenthesis ∷ u) (λ es. begins_inner_list ∷ es) (MemberGoes version) (Sound-items version)
-    (λ v t h. h) (λ u es g. ([], items_go version u es g)))
-    (λ s is h. Sound-led _ (Sound-map (inner_of is)
-    (Sound-here (λ u. left_parenthesis ∷ (s ++ u)) (λ es. begins_inner_list ∷ (closed_events is ++ es))
-    (MemberGoes version) (Sound-parameters version) (λ ps t k. inner_text version is ps s t h k)
-    (after_items version is s h))))
+Sound-inner version = Sound-bind _ _ _ _ _ _ (Sound-within (λ u. left_parenthesis ∷ u) (λ es. begins_inner_list ∷ es)
+    (MemberGoes version) (Sound-items _) (λ v t h. h) (λ u es g. ([], items_go _ _ _ g))) (λ s is h. Sound-led _
+    (Sound-map _ (Sound-here (λ u. left_parenthesis ∷ (s ++ u)) (λ es. begins_inner_list ∷ (closed_events is ++ es))
+    (MemberGoes version) (Sound-parameters _) (λ ps t k. inner_text _ _ _ _ _ h k) (after_items _ _ _ h))))
 
 -- ---- members
 
@@ -204,18 +183,16 @@ item_goes version u es g = (item g.0, g.1, begins_after (begins_item ∷ []) (it
 
 pub Sound-member : (version : Version) → Reads (member_at version) (IsMemberText version) (MemberGoes version)
 unfolding member_at
-Sound-member version = Sound-byte _ (Sound-led _ (Sound-inner version)) (Sound-led _ (Sound-map (λ i. item i)
-    (Sound-here (λ u. u) (λ es. begins_item ∷ es) (MemberGoes version) (Sound-item version) (λ v t h. h)
-    (item_goes version))))
+Sound-member version = Sound-byte _ (Sound-led _ (Sound-inner _)) (Sound-led _ (Sound-map _ (Sound-here (λ u. u)
+    (λ es. begins_item ∷ es) (MemberGoes version) (Sound-item _) (λ v t h. h) (item_goes _))))
 
 abbrev pub EntryGoes : Version → List ℕ → List TreeEvent → Type 0
 EntryGoes version = Goes (IsMemberText version) entry_events
 
 pub Sound-entry : (version : Version) → Reads (entry_at version) (IsMemberText version) (EntryGoes version)
 unfolding entry_at
-Sound-entry version = Sound-led _
-    (Sound-here (λ u. u) (λ es. entry ∷ es) (EntryGoes version) (Sound-member version) (λ v t h. h)
-    (λ u es g. (g.0, g.1, begins_after (entry ∷ []) (member_events g.0) es g.2)))
+Sound-entry version = Sound-led _ (Sound-here (λ u. u) (λ es. entry ∷ es) (EntryGoes version) (Sound-member version)
+    (λ v t h. h) (λ u es g. (g.0, g.1, begins_after (entry ∷ []) (member_events g.0) es g.2)))
 
 -- ---- members of dictionaries
 
@@ -236,11 +213,9 @@ left_out version ps t h = inr (ps, refl, h)
 pub Sound-member_value : (version : Version) → Reads (member_value_at version) (IsMemberValueText version)
     (ValueGoes version)
 unfolding member_value_at
-Sound-member_value version = Sound-byte _
-    (Sound-here (λ u. equals_sign ∷ u) (λ es. es) (ValueGoes version) (Sound-member version) (given version)
-    (λ u es g. (g.0, given version g.0 u g.1, g.2)))
-    (Sound-led _ (Sound-map true_with
-    (Sound-here (λ u. u) (λ es. begins_item ∷ bare_item (boolean true) ∷ es) (ValueGoes version)
+Sound-member_value version = Sound-byte _ (Sound-here (λ u. equals_sign ∷ u) (λ es. es) (ValueGoes version)
+    (Sound-member version) (given version) (λ u es g. (g.0, given version g.0 u g.1, g.2))) (Sound-led _ (Sound-map
+    true_with (Sound-here (λ u. u) (λ es. begins_item ∷ bare_item (boolean true) ∷ es) (ValueGoes version)
     (Sound-parameters version) (left_out version)
     (λ u es g. (
       true_with g.0,
@@ -264,9 +239,8 @@ Sound-keyed version = Sound-bind IsKeyText key_at _ _ _ _
         (keyed_events (g.0, true_with []), rw g.2 refl),
       ),
     )))
-    (λ k key h. Sound-led _ (Sound-map (λ m. (key, m))
-    (Sound-here (λ u. k ++ u) (λ es. keyed_entry key ∷ es) (KeyedGoes version) (Sound-member_value version)
-    (λ m t g. keyed version key k t m h g)
+    (λ k key h. Sound-led _ (Sound-map (λ m. (key, m)) (Sound-here (λ u. k ++ u) (λ es. keyed_entry key ∷ es)
+    (KeyedGoes version) (Sound-member_value version) (λ m t g. keyed version key k t m h g)
     (λ u es g. (
       (key, g.0),
       keyed version key k u g.0 h g.1,

@@ -1,29 +1,19 @@
 -- What the readers of Strings and Display Strings give.
 use Rattle.std.proofs.Common.{inl, ◌≡◌, ℕ, Bool, true, false, List, [], ◌∷◌, ◌++◌, Ok, Err, refl, sym, ap, ◌∙◌}
-use Rattle.std.proofs.Common.{append_assoc, inr}
-use Rattle.std.specs.List.{concat, AllZip}
-use Rattle.std.specs.Str.{is_utf8}
-use Rattle.std.proofs.lemmas.Bool.{cases_Bool, true≢false}
-use Rattle.std.proofs.lemmas.List.{append-nil}
-use Rattle.std.proofs.lemmas.Str.{IsUtf8-from_is_utf8}
-use Rattle.sfv_spec.proofs.Marks.{double_quote, backslash}
-use Rattle.sfv_spec.specs.Strings.{IsStringPiece, IsDisplayPiece}
-use Rattle.sfv_spec.specs.declared.error_kind.ErrorKind.{ErrorKind}
-use Rattle.sfv_spec.specs.declared.error_kind.ErrorKind.TheVariants.{InvalidStringCharacter, UnterminatedString}
-use Rattle.sfv_spec.specs.declared.error_kind.ErrorKind.TheVariants.{UnterminatedEscapeSequence, InvalidEscapeSequence}
-use Rattle.sfv_spec.specs.declared.error_kind.ErrorKind.TheVariants.{InvalidUtf8InDisplayString}
-use Rattle.sfv_model.specs.Reader.{Fault, Answer, at_reach}
+use Rattle.std.{proofs.Common.{append_assoc, inr, true≢false, append-nil}, specs.List.{concat, AllZip}}
+use Rattle.std.{specs.Str.is_utf8, proofs.lemmas.Bool.cases_Bool, proofs.lemmas.Str.IsUtf8-from_is_utf8}
+use Rattle.sfv_spec.{specs.Strings.{IsStringPiece, IsDisplayPiece}, proofs.Marks.{double_quote, backslash}}
 use Rattle.sfv_model.specs.Judgements.{GoesOn, Reached, Sound, Mute, Quiet}
 use Rattle.sfv_model.specs.Quoted.{IsStringEnd, IsDisplayEnd, string_at, outside, pieces_from, checked, display_at}
 use Rattle.sfv_model.specs.Quoted.{StringStops, DisplayStops, Traced, IsDisplayFault}
-use Rattle.sfv_model.proofs.quoted.Traces.{Ends, trace_of_string, trace_of_display}
-use Rattle.sfv_model.proofs.quoted.Pieces.{display_ruled}
-use Rattle.sfv_model.proofs.texts.Joining.{in_turn}
+use Rattle.sfv_model.specs.Reader.{Fault, Answer, at_reach}
+use Rattle.sfv_model.proofs.Types.{ErrorKind, InvalidStringCharacter, UnterminatedString, UnterminatedEscapeSequence}
+use Rattle.sfv_model.proofs.{Types.{InvalidEscapeSequence, InvalidUtf8InDisplayString}, quoted.Pieces.display_ruled}
+use Rattle.sfv_model.proofs.{quoted.Traces.{Ends, trace_of_string, trace_of_display}, texts.Joining.in_turn}
 
 -- where a reader stopped, without how its fault is placed
-pub stopped_at : (exact : Bool) (P : ℕ → List ℕ → Type 0)
-    (Stops : ErrorKind → List ℕ → List ℕ → Type 0) (t : List ℕ) (e : Fault) → Traced P t (Ends exact Stops (Err e))
-    → Traced P t (λ bytes left. Stops e.kind left e.rest)
+pub stopped_at : (exact : Bool) (P : ℕ → List ℕ → Type 0) (Stops : ErrorKind → List ℕ → List ℕ → Type 0) (t : List ℕ)
+    (e : Fault) → Traced P t (Ends exact Stops (Err e)) → Traced P t (λ bytes left. Stops e.kind left e.rest)
 stopped_at exact P Stops t e h = record {
   bytes = h.bytes;
   pieces = h.pieces;

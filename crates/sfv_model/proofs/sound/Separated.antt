@@ -1,28 +1,23 @@
 -- Members with commas between them, of any kind.
 use Rattle.std.proofs.Common.{◌≡◌, ℕ, ◌≤◌, true, eqb, List, [], ◌∷◌, ◌++◌, length, Some, None, Ok, Err, refl, sym, ap}
-use Rattle.std.proofs.Common.{◌∙◌, append_assoc, arith}
-use Rattle.std.specs.Prelude.{codes, flat_map}
-use Rattle.std.proofs.lemmas.List.{append-nil, length-append}
+use Rattle.std.proofs.Common.{◌∙◌, append_assoc, arith, codes, flat_map, append-nil, length-append}
 use Rattle.std.proofs.lemmas.Bool.{or_parts}
+use Rattle.sfv_spec.specs.{Events.TreeEvent, Grammar.{OptionalWhitespace, Comma, AreMembersText}}
+use Rattle.sfv_spec.specs.{Texts.{Exactly, RunOf, ◌⨾◌}, declared.error_kind.ErrorKind.TheVariants.TrailingComma}
 use Rattle.sfv_spec.proofs.Marks.{tab, comma, is_space, is_space_or_tab}
-use Rattle.sfv_spec.specs.Texts.{Exactly, RunOf, ◌⨾◌}
-use Rattle.sfv_spec.specs.Grammar.{OptionalWhitespace, Comma, AreMembersText}
-use Rattle.sfv_spec.specs.Events.{TreeEvent}
-use Rattle.sfv_spec.specs.declared.error_kind.ErrorKind.TheVariants.{TrailingComma}
-use Rattle.sfv_model.specs.Judgements.{Sound, Local}
-use Rattle.sfv_model.specs.Reader.{Fault, Reader, Apart, any, after_events, back, many, give}
 use Rattle.sfv_model.specs.Fields.{comma_at, next_at, members_at}
-use Rattle.sfv_model.proofs.sound.Combinators.{run_head, Found, Sound-give, Sound-fail, Sound-led, Sound-byte}
-use Rattle.sfv_model.proofs.sound.Combinators.{Sound-ahead, Sound-bind, Sound-map, Sound-back, Sound-within, Sound-here}
-use Rattle.sfv_model.proofs.sound.Combinators.{Sound-span, Reads, Somewhere, Goes, begins_after, begins_longer}
-use Rattle.sfv_model.proofs.local.Combinators.{Local-give, Local-fail, Local-led, Local-bind, Local-ahead, Local-back}
-use Rattle.sfv_model.proofs.local.Combinators.{Local-span, local_rules}
+use Rattle.sfv_model.specs.{Judgements.{Sound, Local}, Reader.{Fault, Reader, Apart, after_events, back, many, give}}
 use Rattle.sfv_model.proofs.complete.Combinators.{Apart-nil, Apart-cons, branch_take, ahead_past, ahead_take, ahead_any}
 use Rattle.sfv_model.proofs.complete.Combinators.{bind_complete, back_complete, led_complete, span_complete}
-use Rattle.sfv_model.proofs.texts.Joining.{Joined, split_joined, joined_split, in_turn}
+use Rattle.sfv_model.proofs.faults.PiecesToFault.{after_twice, bind_met, led_met, many_met}
+use Rattle.sfv_model.proofs.local.Combinators.{Local-give, Local-fail, Local-led, Local-bind, Local-ahead, Local-back}
+use Rattle.sfv_model.proofs.local.Combinators.{Local-span, local_rules}
+use Rattle.sfv_model.proofs.sound.Combinators.{run_head, Found, Sound-give, Sound-fail, Sound-led, Sound-byte}
+use Rattle.sfv_model.proofs.sound.Combinators.{Sound-ahead, Sound-bind, Sound-map, Sound-back, Sound-within, Sound-here}
+use Rattle.sfv_model.proofs.sound.Combinators.{Sound-span, Reads, Goes, begins_after, begins_longer}
 use Rattle.sfv_model.proofs.sound.Many.{Step, Consumes, Consumes-from, Local-many, many_complete}
 use Rattle.sfv_model.proofs.sound.Steps.{StepGoes, Sound-steps}
-use Rattle.sfv_model.proofs.faults.PiecesToFault.{after_twice, bind_met, led_met, many_met}
+use Rattle.sfv_model.proofs.texts.Joining.{Joined, split_joined, joined_split, in_turn}
 
 -- a comma, and what may stand after it
 abbrev pub IsComma : Unit {0} → List ℕ → Type 0
@@ -31,8 +26,7 @@ IsComma u = Exactly (codes ",") ⨾ OptionalWhitespace
 pub Sound-comma : (W : List ℕ → List TreeEvent → Type 0) (V : List TreeEvent → Type 0)
     → Sound comma_at (Found IsComma) W V
 unfolding comma_at
-Sound-comma W V = Sound-byte _
-    (Sound-span _ _ _ _ _ (λ s each. Sound-ahead _ _ _ _ _ _
+Sound-comma W V = Sound-byte _ (Sound-span _ _ _ _ _ (λ s each. Sound-ahead _ _ _ _ _ _
     (Sound-give _ _ _ _ (record {
       front = comma ∷ [];
       back = s;
@@ -40,8 +34,7 @@ Sound-comma W V = Sound-byte _
       first = refl;
       second = each;
     }))
-    (Sound-give _ _ _ _ tt)))
-    (Sound-give _ _ _ _ tt)
+    (Sound-give _ _ _ _ tt))) (Sound-give _ _ _ _ tt)
 
 module _ {A : Type 0} (P : A → List ℕ → Type 0) (parts : A → List TreeEvent) (one : Reader A) where
   abbrev pub IsNext : A → List ℕ → Type 0
@@ -66,31 +59,26 @@ module _ {A : Type 0} (P : A → List ℕ → Type 0) (parts : A → List TreeEv
   pub Sound-next : Reads one P (Goes P parts) → Reads (next_at one) (Step IsNext OptionalWhitespace) NextGoes
   unfolding next_at
   Sound-next h = Sound-span _ _ _ _ _ (λ s each. let done : OptionalWhitespace (s ++ []) = rw (append-nil s) each in
-      Sound-ahead _ _ _ _ _ _
-      (Sound-ahead _ _ _ _ _ _
+      Sound-ahead _ _ _ _ _ _ (Sound-ahead _ _ _ _ _ _
       (Sound-bind IsComma (back TrailingComma comma_at) _ _ _ _ (Sound-back _ _ _ _ _ refl (
         [],
         (None, refl, ([], refl)),
       ) (Sound-comma _ _))
-      (λ c u k. Sound-map (λ m. Some m)
-      (Sound-here (λ x. s ++ (c ++ x)) (λ es. es) NextGoes h (λ m t g. next_member s c t u m each k g)
-      (λ x es g. (Some g.0, next_member s c x u g.0 each k g.1, g.2)))))
-      (Sound-fail _ _ _ _ [] (None, done, ([], refl))))
-      (Sound-give _ _ _ _ done))
+      (λ c u k. Sound-map (λ m. Some m) (Sound-here (λ x. s ++ (c ++ x)) (λ es. es) NextGoes h
+      (λ m t g. next_member s c t u m each k g) (λ x es g. (Some g.0, next_member s c x u g.0 each k g.1, g.2)))))
+      (Sound-fail _ _ _ _ [] (None, done, ([], refl)))) (Sound-give _ _ _ _ done))
 
   next_takes : (m : A) (t : List ℕ) → IsNext m t → 1 ≤ length t
   next_takes m t h = rw h.text (omega (
     arith,
     ap length h.first.text,
     ap length h.first.second.text,
-    ap length
-        h.first.second.first,
+    ap length h.first.second.first,
     length-append {A = ℕ},
   ))
 
   pub Consumes-next : Reads one P (Goes P parts) → Consumes (next_at one)
-  Consumes-next h = Consumes-from IsNext OptionalWhitespace NextGoes (Somewhere NextGoes) (next_at one) (Sound-next h)
-      next_takes
+  Consumes-next h = Consumes-from _ _ _ _ _ (Sound-next h) next_takes
 
   -- in the form of the grammar
   pub dictionary_members_text : (s t u : List ℕ) (m : A) (ms : List A) → RunOf is_space s → P m t
@@ -100,23 +88,20 @@ module _ {A : Type 0} (P : A → List ℕ → Type 0) (parts : A → List TreeEv
       in_turn s (t ++ u) each (record {
         front = t ++ k.front;
         back = k.back;
-        text = simp
-            (k.text, append_assoc);
+        text = simp (k.text, append_assoc);
         first = in_turn t k.front h k.first;
         second = k.second;
       })
 
   pub Sound-members : Reads one P (Goes P parts) → Reads (members_at parts one) (AreMembersText P) MembersGo
   unfolding members_at
-  Sound-members h = Sound-span _ _ _ _ _ (λ s each.
-      Sound-ahead _ _ _ _ _ _
-      (Sound-bind P one _ _ _ _
-      (Sound-within (λ x. s ++ x) (λ es. es) MembersGo h (λ m t g. g)
-      (λ x es g. ([], (g.0 ∷ [], dictionary_members_text s x [] g.0 [] each g.1 refl, begins_longer (parts g.0) es [] g.2))))
-      (λ t m k. Sound-led _ (Sound-map (λ ms. m ∷ ms)
-      (Sound-here (λ x. s ++ (t ++ x)) (λ es. parts m ++ es) MembersGo
-      (Sound-steps IsNext OptionalWhitespace parts [] refl (next_at one) (Sound-next h))
-      (λ ms x j. dictionary_members_text s t x m ms each k j)
+  Sound-members h = Sound-span _ _ _ _ _ (λ s each. Sound-ahead _ _ _ _ _ _ (Sound-bind P one _ _ _ _ (Sound-within
+      (λ x. s ++ x) (λ es. es) MembersGo h (λ m t g. g) (λ x es g. (
+        [],
+        (g.0 ∷ [], dictionary_members_text s x [] g.0 [] each g.1 refl, begins_longer (parts g.0) es [] g.2),
+      ))) (λ t m k. Sound-led _ (Sound-map (λ ms. m ∷ ms) (Sound-here
+      (λ x. s ++ (t ++ x)) (λ es. parts m ++ es) MembersGo (Sound-steps IsNext OptionalWhitespace parts [] refl
+      (next_at one) (Sound-next h)) (λ ms x j. dictionary_members_text s t x m ms each k j)
       (λ x es g. (
         m ∷ g.0,
         dictionary_members_text s t x m g.0 each k g.1,
@@ -131,9 +116,8 @@ module _ {A : Type 0} (P : A → List ℕ → Type 0) (parts : A → List TreeEv
 
   pub Local-next : Local one → Local (next_at one)
   unfolding next_at
-  Local-next l = Local-bind _ _ (Local-span _) (λ _.
-      Local-ahead _ _ _ (Local-ahead _ _ _ (Local-bind _ _ (Local-back _ _ Local-comma)
-      (λ _. Local-bind _ _ l (λ m. Local-give _))) (Local-fail _)) (Local-give _))
+  Local-next l = Local-bind _ _ (Local-span _) (λ _. Local-ahead _ _ _ (Local-ahead _ _ _ (Local-bind _ _
+      (Local-back _ _ Local-comma) (λ _. Local-bind _ _ l (λ m. Local-give _))) (Local-fail _)) (Local-give _))
 
   pub Local-members : Reads one P (Goes P parts) → Local one → Local (members_at parts one)
   unfolding members_at
@@ -172,20 +156,17 @@ module _ {A : Type 0} (P : A → List ℕ → Type 0) (parts : A → List TreeEv
         ap (λ (l : List ℕ). l ++ q) (h.text ∙ ap (λ (l : List ℕ). l ++ h.back) (h.first.text
         ∙ ap (λ (l : List ℕ). b ++ l) (c.text ∙ ap (λ (l : List ℕ). l ++ c.back) c.first))) ∙ simp append_assoc in
         let n = fresh m h.back q h.second in (
-          ap (next_at one) all ∙ bind_complete _ _ _ _ _
-              (span_complete is_space_or_tab b (comma ∷ (c.back ++ (h.back ++ q))) h.first.first (comma_no_blank _))
-              ∙ ahead_any _ _ _ (omega arith) ∙ ahead_take _ _ _ comma (c.back ++ (h.back ++ q)) refl
-              ∙ bind_complete _ _ _ _ _ (comma_complete c.back (h.back ++ q) c.second n.0 n.1)
-              ∙ bind_complete _ _ _ _ _ (again m h.back q h.second f),
-          rw all (blank_ends b (comma ∷ (c.back ++ (h.back ++ q))) h.first.first (comma_ends _)),
+          ap (next_at one) all ∙ bind_complete _ _ _ _ _ (span_complete _ _ _ h.first.first (comma_no_blank _))
+              ∙ ahead_any _ _ _ (omega arith) ∙ ahead_take _ _ _ _ _ refl ∙ bind_complete _ _ _ _ _
+              (comma_complete _ _ c.second n.0 n.1) ∙ bind_complete _ _ _ _ _ (again m h.back q h.second f),
+          rw all (blank_ends _ _ h.first.first (comma_ends _)),
         )
 
     end_complete : (e : List ℕ) → RunOf is_space_or_tab e → (next_at one (e ++ []) ≡ Ok (None, [])) × F (e ++ [])
     unfolding next_at give
     end_complete e each = (
-      bind_complete _ _ _ _ _ (span_complete is_space_or_tab e [] each (Apart-nil is_space_or_tab))
-          ∙ ahead_past _ _ _ [] (Apart-nil any),
-      blank_ends e [] each end,
+      bind_complete _ _ _ _ _ (span_complete _ _ _ each (Apart-nil _)) ∙ ahead_past _ _ _ _ (Apart-nil _),
+      blank_ends _ _ each end,
     )
 
     no_space : (q : List ℕ) → Apart is_space_or_tab q → Apart is_space q
@@ -194,22 +175,18 @@ module _ {A : Type 0} (P : A → List ℕ → Type 0) (parts : A → List TreeEv
     pub members_complete : Reads one P (Goes P parts) → (ms : List A) (t : List ℕ) → AreMembersText P ms t
         → members_at parts one t ≡ Ok (ms, [])
     unfolding members_at give
-    members_complete r [] t h = ap (members_at parts one) (sym (append-nil t))
-        ∙ bind_complete _ _ _ _ _ (span_complete is_space t [] h (Apart-nil is_space))
-        ∙ ahead_past _ _ _ [] (Apart-nil any)
+    members_complete r [] t h = ap (members_at parts one) (sym (append-nil t)) ∙ bind_complete _ _ _ _ _
+        (span_complete _ _ _ h (Apart-nil _)) ∙ ahead_past _ _ _ _ (Apart-nil _)
     members_complete r (m ∷ ms) t h =
         let o = h.second.first in
         let rest : List ℕ = o.back ++ h.second.back in
-        let more = many_complete parts (next_at one) (Consumes-next r) IsNext OptionalWhitespace F []
-        (λ v a q p f. next_complete v a q p f) (λ e c. end_complete e c) ms rest
-        (joined_split IsNext OptionalWhitespace ms o.back h.second.back o.second h.second.second) in
+        let more = many_complete _ _ (Consumes-next r) _ _ _ _ (λ v a q p f. next_complete _ _ _ p f)
+        (λ e c. end_complete _ c) _ _ (joined_split _ _ _ _ _ o.second h.second.second) in
         let all : t ≡ h.front ++ (o.front ++ (rest ++ [])) =
         cc (h.text, h.second.text, o.text, append_assoc o.front o.back h.second.back, append-nil rest) in
         let n = fresh m o.front (rest ++ []) o.first in
-        ap (members_at parts one) all ∙ bind_complete _ _ _ _ _
-        (span_complete is_space h.front (o.front ++ (rest ++ [])) h.first (no_space _ n.0))
-        ∙ ahead_any _ _ (o.front ++ (rest ++ [])) n.1
-        ∙ bind_complete _ _ _ _ _ (again m o.front (rest ++ []) o.first more.1)
+        ap (members_at parts one) all ∙ bind_complete _ _ _ _ _ (span_complete _ _ _ h.first (no_space _ n.0))
+        ∙ ahead_any _ _ _ n.1 ∙ bind_complete _ _ _ _ _ (again m o.front (rest ++ []) o.first more.1)
         ∙ led_complete _ _ _ _ _ (bind_complete _ _ _ _ _ more.0)
 
     -- up to a fault of what comes after the last
@@ -220,16 +197,12 @@ module _ {A : Type 0} (P : A → List ℕ → Type 0) (parts : A → List TreeEv
     members_met r m ms t q e h met f =
         let o = h.second.first in
         let z : List ℕ = h.second.back in
-        let more = many_met parts (next_at one) (Consumes-next r) IsNext F (λ v a q p f. next_complete v a q p f)
-        (z ++ q) e met (blank_ends z q h.second.second f) ms o.back o.second in
-        let all : t ++ q ≡ h.front ++ (o.front ++ (o.back ++ (z ++ q))) =
-        ap (λ (l : List ℕ). l ++ q) (h.text
-        ∙ ap (λ (l : List ℕ). h.front ++ l) (h.second.text ∙ ap (λ (l : List ℕ). l ++ z) o.text))
-        ∙ simp append_assoc in
+        let more = many_met _ _ (Consumes-next r) _ F (λ v a q p f. next_complete _ _ _ p f)
+        _ e met (blank_ends _ _ h.second.second f) _ _ o.second in
+        let all : t ++ q ≡ h.front ++ (o.front ++ (o.back ++ (z ++ q))) = ap (λ (l : List ℕ). l ++ q) (h.text ∙ ap
+        (λ (l : List ℕ). h.front ++ l) (h.second.text ∙ ap (λ (l : List ℕ). l ++ z) o.text)) ∙ simp append_assoc in
         let n = fresh m o.front (o.back ++ (z ++ q)) o.first in
-        ap (members_at parts one) all ∙ bind_complete _ _ _ _ _
-        (span_complete is_space h.front (o.front ++ (o.back ++ (z ++ q))) h.first (no_space _ n.0))
-        ∙ ahead_any _ _ (o.front ++ (o.back ++ (z ++ q))) n.1
-        ∙ bind_complete _ _ _ _ _ (again m o.front (o.back ++ (z ++ q)) o.first more.1)
-        ∙ led_met _ _ _ _ (bind_met _ _ _ _ more.0)
-        ∙ ap (λ (x : Fault). Err x) (after_twice (parts m) (flat_map parts ms) e)
+        ap (members_at parts one) all ∙ bind_complete _ _ _ _ _ (span_complete _ _ _ h.first (no_space _ n.0))
+        ∙ ahead_any _ _ _ n.1 ∙ bind_complete _ _ _ _ _ (again m o.front (o.back ++ (z ++ q)) o.first more.1)
+        ∙ led_met _ _ _ _ (bind_met _ _ _ _ more.0) ∙ ap (λ (x : Fault). Err x)
+        (after_twice (parts m) (flat_map parts ms) e)

@@ -1,13 +1,11 @@
 -- Steps whose values are visited.
 use Rattle.std.proofs.Common.{ℕ, List, [], ◌∷◌, ◌++◌, Option, Some, None, refl, sym, ap, subst, ◌∙◌, append_assoc}
-use Rattle.std.specs.Prelude.{flat_map}
-use Rattle.std.proofs.lemmas.List.{append-nil}
-use Rattle.sfv_spec.specs.Texts.{IsJoining}
-use Rattle.sfv_spec.specs.Events.{TreeEvent}
+use Rattle.std.proofs.Common.{flat_map, append-nil}
+use Rattle.sfv_spec.specs.{Events.TreeEvent, Texts.IsJoining}
 use Rattle.sfv_model.specs.Reader.{Reader, many}
-use Rattle.sfv_model.proofs.sound.Combinators.{Sound-within, Somewhere, Begins, Goes, Reads, begins_after}
-use Rattle.sfv_model.proofs.texts.Joining.{joining_push, Joined, joined_split, events_push}
+use Rattle.sfv_model.proofs.sound.Combinators.{Sound-within, Begins, Goes, Reads, begins_after}
 use Rattle.sfv_model.proofs.sound.Many.{Step, Sound-many}
+use Rattle.sfv_model.proofs.texts.Joining.{joining_push, Joined, joined_split, events_push}
 
 abbrev pub step_events : {A : Type 0} → (A → List TreeEvent) → Option A → List TreeEvent
 step_events parts (Some v) = parts v
@@ -40,16 +38,14 @@ module _ {A : Type 0} (P : A → List ℕ → Type 0) (E : List ℕ → Type 0) 
     z,
     (
       vs ++ v ∷ [],
-      rw (← append_assoc s u z) (joined_split P E (vs ++ v ∷ []) (s ++ u) z (joining_push P vs v s u j h) e),
+      rw (← append_assoc s u z) (joined_split _ _ _ _ _ (joining_push _ _ _ _ _ j h) e),
       rw (sym (append-nil (flat_map parts (vs ++ v ∷ []))) ∙ events_push parts vs v [] ∙ ap
-          (λ (l : List TreeEvent). flat_map parts vs ++ l) (append-nil (parts v)))
-          (begins_after (flat_map parts vs) (parts v) es b),
+          (λ (l : List TreeEvent). flat_map parts vs ++ l) (append-nil (parts v))) (begins_after _ _ _ b),
     ),
   )
 
   pub Sound-steps : (step : Reader (Option A)) → Reads step (Step P E) (StepGoes P E parts)
       → Reads (many parts step) (Joined P E) (ManyGoes P E parts)
-  Sound-steps step k = Sound-many P E (ManyGoes P E parts) (Somewhere (ManyGoes P E parts)) parts step
-      (λ s vs j. Sound-within (λ u. s ++ u) (λ es. flat_map parts vs ++ es) (ManyGoes P E parts) k (λ v t p. p)
-      (λ u es g. goes_on s vs j u es g.0 g.1 g.2))
-      (λ s vs j. let m = goes_on s vs j z [] None e ([], refl) in (s ++ (z ++ m.0), m.1))
+  Sound-steps step k = Sound-many _ _ _ _ _ _ (λ s vs j. Sound-within (λ u. s ++ u) (λ es. flat_map parts vs ++ es)
+      (ManyGoes P E parts) k (λ v t p. p) (λ u es g. goes_on _ _ j _ _ _ g.1 g.2)) (λ s vs j. let m = goes_on _ _ j _ _
+      None e ([], refl) in (s ++ (z ++ m.0), m.1))

@@ -1,14 +1,10 @@
 -- Parts of an input, and runs of bytes in it.
-use Rattle.std.proofs.Common.{◌≡◌, ℕ, zero, suc, ◌<◌, ◌≤◌, ◌+◌, ◌-◌, Bool, true, List, [], ◌∷◌, ◌++◌, length, drop}
-use Rattle.std.proofs.Common.{refl, take-append-drop, arith}
-use Rattle.std.specs.Prelude.{IsUtf8, slice_index, slice_range}
+pub use Rattle.sfv_spec.proofs.Printable.{run_weaker}
+use Rattle.std.proofs.Common.{◌≡◌, ℕ, zero, suc, ◌<◌, ◌≤◌, ◌+◌, ◌-◌, List, [], ◌∷◌, ◌++◌, length, drop}
+use Rattle.std.proofs.Common.{take-append-drop, arith, IsUtf8, slice_index, slice_range, IsAscii, leb-true, drop-drop}
 use Rattle.std.specs.List.{list_all}
-use Rattle.std.specs.Str.{IsAscii}
-use Rattle.std.proofs.lemmas.Bool.{and_parts, and_from, leb-true}
-use Rattle.std.proofs.lemmas.List.{drop-drop, drop_more}
-use Rattle.std.proofs.lemmas.Str.{IsUtf8-from_ascii}
-use Rattle.sfv_spec.specs.Texts.{RunOf}
-use Rattle.sfv_spec.specs.Classes.{is_string_byte}
+use Rattle.std.proofs.lemmas.{Bool.and_parts, List.drop_more, Str.IsUtf8-from_ascii}
+use Rattle.sfv_spec.specs.{Classes.is_string_byte, Texts.RunOf}
 
 -- ---- parts of an input
 
@@ -32,8 +28,3 @@ string_ascii (c ∷ run) h (suc i) = string_ascii run (and_parts (is_string_byte
 -- a run of bytes of a string is UTF-8
 pub string_utf8 : (run : List ℕ) → RunOf is_string_byte run → IsUtf8 run
 string_utf8 run h = IsUtf8-from_ascii run (string_ascii run h)
-
-pub run_weaker : (p q : ℕ → Bool) → ((c : ℕ) → p c ≡ true → q c ≡ true) → (run : List ℕ) → RunOf p run → RunOf q run
-run_weaker p q f [] h = refl
-run_weaker p q f (c ∷ run) h = let a = and_parts (p c) (list_all p run) h in
-    and_from (q c) (list_all q run) (f c a.0) (run_weaker p q f run a.1)

@@ -1,24 +1,16 @@
 -- A bare item that is at fault elsewhere than at the reach: its first byte begins some bare item.
-use Rattle.sfv_model.proofs.sound.Combinators.{sound_at}
-use Rattle.std.proofs.Common.{◌≡◌, ℕ, true, false, List, [], ◌∷◌, ◌++◌, Err, refl, sym, ap, ◌∙◌, inl, inr}
-use Rattle.std.proofs.lemmas.Bool.{true≢false, cases_Bool, eqb-true}
+use Rattle.std.proofs.Common.{◌≡◌, ℕ, true, false, List, [], ◌∷◌, ◌++◌, Err, refl, sym, ap, ◌∙◌, inl, inr, true≢false}
+use Rattle.std.proofs.{Common.eqb-true, lemmas.Bool.cases_Bool}
+use Rattle.sfv_spec.specs.{Classes.is_token_start, Values.BareValue}
 use Rattle.sfv_spec.proofs.Marks.{double_quote, colon, percent_sign, question_mark, at_sign, minus_sign, is_digit}
-use Rattle.sfv_spec.specs.Classes.{is_token_start}
-use Rattle.sfv_spec.specs.Values.{BareValue}
-use Rattle.sfv_spec.specs.declared.version.Version.{Version}
-use Rattle.sfv_spec.specs.declared.version.Version.TheVariants.{Rfc8941, Rfc9651}
-use Rattle.sfv_spec.specs.declared.error_kind.ErrorKind.{ErrorKind}
-use Rattle.sfv_spec.specs.declared.error_kind.ErrorKind.TheVariants.{ExpectedStartOfBareItem, Rfc8941Date}
-use Rattle.sfv_spec.specs.declared.error_kind.ErrorKind.TheVariants.{Rfc8941DisplayString}
-use Rattle.sfv_model.specs.Reader.{Fault, Answer, at_reach, byte, branch, ahead, back, up_to, bind, give, fail, span}
 use Rattle.sfv_model.specs.Bare.{bare_at, boolean_at, date_at, quoted_at, number_at, sign_at, whole_at, token_at}
 use Rattle.sfv_model.specs.Bare.{is_number_start}
 use Rattle.sfv_model.specs.Content.{symbol_value, padding_in, valid_from, values_in, bytes_from, bytes_of, fault_place}
-use Rattle.sfv_model.specs.Content.{content_in, bytes_at}
-use Rattle.sfv_model.specs.Quoted.{string_from}
-use Rattle.sfv_model.proofs.sound.Bare.{Sound-bare}
-use Rattle.sfv_model.proofs.places.Calls.{Stuck}
-use Rattle.sfv_model.proofs.visits.EventsBeforeRuleAlike.{Tells, Early, begins_all}
+use Rattle.sfv_model.specs.{Content.{content_in, bytes_at}, Quoted.string_from}
+use Rattle.sfv_model.specs.Reader.{Fault, Answer, at_reach, byte, branch, ahead, back, up_to, bind, give, fail, span}
+use Rattle.sfv_model.proofs.Types.{Version, Rfc8941, Rfc9651, ErrorKind, ExpectedStartOfBareItem, Rfc8941Date}
+use Rattle.sfv_model.proofs.{Types.Rfc8941DisplayString, places.Calls.Stuck, sound.Bare.Sound-bare}
+use Rattle.sfv_model.proofs.{sound.Combinators.sound_at, visits.EventsBeforeRuleAlike.{Tells, Early, begins_all}}
 
 pub stuck_mark : (version : Version) → Stuck (bare_at version (63 ∷ 49 ∷ 0 ∷ []))
 unfolding bare_at boolean_at branch give

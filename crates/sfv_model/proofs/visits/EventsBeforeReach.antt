@@ -1,30 +1,18 @@
 -- What was told before a fault is told by a text that goes on from the reach.
-use Rattle.std.proofs.lemmas.Bool.{cases_lt, cases_Bool}
 use Rattle.std.proofs.Common.{◌≡◌, ℕ, zero, suc, ◌≤◌, true, false, List, [], ◌∷◌, ◌++◌, length, take, drop, Ok, Err}
-use Rattle.std.proofs.Common.{refl, sym, ap, subst, ◌∙◌, append_assoc, arith, inl, inr}
-use Rattle.std.proofs.lemmas.List.{length-append, length-drop, take_at, append-nil}
-use Rattle.sfv_spec.specs.Values.{RawField}
-use Rattle.sfv_spec.specs.declared.field_kind.FieldKind.{FieldKind}
-use Rattle.sfv_spec.specs.declared.version.Version.{Version}
-use Rattle.sfv_spec.specs.Grammar.{IsFieldText, IsAccepted}
+use Rattle.std.proofs.Common.{refl, sym, ap, subst, ◌∙◌, append_assoc, arith, inl, inr, length-append, length-drop}
+use Rattle.std.proofs.{Common.{take_at, append-nil}, lemmas.Bool.{cases_lt, cases_Bool}}
 use Rattle.sfv_spec.specs.Events.{TreeEvent, events}
-use Rattle.sfv_spec.specs.Reach.{BeginsAccepted, IsReach}
-use Rattle.sfv_model.specs.Reader.{Fault, Answer, visited}
-use Rattle.sfv_model.specs.Fields.{whole_field_at, ending, read_field}
-use Rattle.sfv_model.specs.Bare.{bare_at}
-use Rattle.sfv_model.specs.Claims.{EventsReach}
-use Rattle.sfv_model.specs.Visits.{BeginsEventsAfter}
-use Rattle.sfv_model.proofs.sound.Combinators.{Begins, Somewhere}
-use Rattle.sfv_model.proofs.sound.Fields.{FieldGoes, Sound-field}
-use Rattle.sfv_model.proofs.Theorems.{fault_is_placed, read_is_accepted}
-use Rattle.sfv_model.proofs.visits.BareFaultOffReach.{Early-bare}
-use Rattle.sfv_model.specs.Judgements.{Reached}
+use Rattle.sfv_spec.specs.{Grammar.{IsFieldText, IsAccepted}, Reach.{BeginsAccepted, IsReach}, Values.RawField}
 use Rattle.sfv_spec.specs.declared.error_kind.ErrorKind.TheVariants.{TrailingCharactersAfterParsedValue}
+use Rattle.sfv_spec.specs.declared.{field_kind.FieldKind.FieldKind, version.Version.Version}
 use Rattle.sfv_spec.proofs.Versions.{one_reach_lem}
-use Rattle.sfv_model.proofs.complete.Fields.{field_complete}
-use Rattle.sfv_model.proofs.places.CalledIsWanted.{begins_stuck}
-use Rattle.sfv_model.proofs.visits.EventsBeforeRuleAlike.{Tells, Early}
-use Rattle.sfv_model.proofs.visits.EventsBeforeRule.{Early-field}
+use Rattle.sfv_model.specs.{Bare.bare_at, Claims.EventsReach, Fields.{whole_field_at, ending, read_field}}
+use Rattle.sfv_model.specs.{Judgements.Reached, Reader.{Fault, Answer, visited}, Visits.BeginsEventsAfter}
+use Rattle.sfv_model.proofs.{Theorems.{fault_is_placed, read_is_accepted}, complete.Fields.field_complete}
+use Rattle.sfv_model.proofs.{places.CalledIsWanted.begins_stuck, sound.Combinators.{Begins, Somewhere}}
+use Rattle.sfv_model.proofs.{sound.Fields.{FieldGoes, Sound-field}, visits.BareFaultOffReach.Early-bare}
+use Rattle.sfv_model.proofs.visits.{EventsBeforeRule.Early-field, EventsBeforeRuleAlike.{Tells, Early}}
 
 -- es begins the events of a field whose text begins so
 pub record TellsFrom (version : Version) (kind : FieldKind) (u : List ℕ) (es : List TreeEvent) : Type 0 where
@@ -38,9 +26,8 @@ module _ (version : Version) (kind : FieldKind) (leaf : Early (bare_at version) 
   emitted_after : (t : List ℕ) (es : List TreeEvent) → (m : Tells (whole_field_at version kind) (events kind) t es)
       → (raw : RawField kind) (r : List ℕ) → IsFieldText version kind raw (m.before ++ m.next ∷ r)
       → Begins (events kind raw) es
-  emitted_after t es m raw r h =
-      subst (λ a. Begins (visited (events kind) a) es)
-      (field_complete version kind raw (m.before ++ m.next ∷ r) h) (m.emitted r)
+  emitted_after t es m raw r h = subst (λ a. Begins (visited (events kind) a) es) (field_complete _ _ _ _ h)
+      (m.emitted r)
 
   begun_after : (t : List ℕ) (es : List TreeEvent) → (m : Tells (whole_field_at version kind) (events kind) t es)
       → BeginsAccepted version kind (m.before ++ m.next ∷ [])
@@ -101,8 +88,7 @@ front_is t front rest n e d le =
 pub reached_events : (version : Version) (kind : FieldKind) (t : List ℕ) (e : Fault) → read_field version kind t ≡ Err e
     → (n : ℕ) → IsReach version kind t n → TellsFrom version kind (take n t) e.events
 unfolding read_field
-reached_events version kind t e i n reach = on (whole_field_at version kind t) refl
-    ((Sound-field version kind).sound t) i
+reached_events version kind t e i n reach = on (whole_field_at version _ t) refl ((Sound-field _ _).sound t) i
   where
     placed_at : e.exact ≡ true → drop n t ≡ e.rest
     placed_at x =

@@ -1,40 +1,31 @@
 -- What the readers told before a fault with a rule; leaf: so it is of bare items.
-use Rattle.sfv_model.proofs.sound.Combinators.{sound_at, Begins, Reads, Goes, Sound-back, Steady-span}
 use Rattle.std.proofs.Common.{◌≡◌, ℕ, Bool, true, false, List, [], ◌∷◌, ◌++◌, Option, Some, None, Ok, Err, refl, sym}
-use Rattle.std.proofs.Common.{ap, subst, ◌∙◌, append_assoc, flat_map, inl, inr}
-use Rattle.std.proofs.lemmas.List.{append-nil}
-use Rattle.std.proofs.lemmas.Bool.{true≢false, cases_Bool, eqb-true}
-use Rattle.sfv_spec.proofs.Marks.{comma, is_space, true_with}
-use Rattle.sfv_spec.specs.Values.{boolean, RawParameters, RawItem, RawMember, item, inner_list}
-use Rattle.sfv_spec.specs.declared.field_kind.FieldKind.{FieldKind}
-use Rattle.sfv_spec.specs.declared.field_kind.FieldKind.TheVariants.{Item as item_field, List as list_field}
-use Rattle.sfv_spec.specs.declared.field_kind.FieldKind.TheVariants.{Dictionary as dictionary_field}
-use Rattle.sfv_spec.specs.declared.version.Version.{Version}
-use Rattle.sfv_spec.specs.Grammar.{IsMemberText, IsDictionaryMemberText}
-use Rattle.sfv_spec.specs.Events.{TreeEvent, events, entry, keyed_entry, begins_item, begins_inner_list, bare_item}
-use Rattle.sfv_spec.specs.Events.{inner_list_end, inner_item_events, parameters_events, item_events, member_events}
-use Rattle.sfv_spec.specs.Events.{entry_events, keyed_events}
-use Rattle.sfv_spec.specs.declared.error_kind.ErrorKind.TheVariants.{TrailingComma, TrailingCharactersAfterMember}
+use Rattle.std.proofs.Common.{ap, subst, ◌∙◌, append_assoc, flat_map, inl, inr, append-nil, true≢false, eqb-true}
+use Rattle.std.proofs.lemmas.Bool.{cases_Bool}
+use Rattle.sfv_spec.specs.Events.{TreeEvent, events, entry, begins_item, begins_inner_list, inner_list_end}
+use Rattle.sfv_spec.specs.Events.{inner_item_events, parameters_events, item_events, member_events, entry_events}
+use Rattle.sfv_spec.specs.{Events.keyed_events, Grammar.{IsMemberText, IsDictionaryMemberText}}
+use Rattle.sfv_spec.{specs.Values.{RawParameters, RawItem, RawMember, item, inner_list}, proofs.Marks.{comma, is_space}}
+use Rattle.sfv_model.specs.{Bare.{bare_at, token_at}, Fields.{comma_at, next_at, members_at, whole_field_at}}
+use Rattle.sfv_model.specs.Items.{key_at, value_at, parameter_at, parameter_event, parameters_at, item_at}
 use Rattle.sfv_model.specs.Judgements.{Local, Quiet}
-use Rattle.sfv_model.specs.Reader.{Fault, Answer, Reader, visited, and_then, give, fail, ◌>>=◌, bind, led, led_answer}
-use Rattle.sfv_model.specs.Reader.{branch, ahead, back, span, many, one_and_more, byte, any}
-use Rattle.sfv_model.specs.Bare.{bare_at, token_at}
-use Rattle.sfv_model.specs.Items.{key_at, value_at, parameter_at, parameter_event, parameters_at, item_of, item_at}
 use Rattle.sfv_model.specs.Members.{inner_item_at, next_item_at, inner_items_at, inner_of, closed_events, inner_at}
 use Rattle.sfv_model.specs.Members.{member_at, entry_at, member_value_at, keyed_at}
-use Rattle.sfv_model.specs.Fields.{comma_at, next_at, members_at, whole_field_at}
-use Rattle.sfv_model.proofs.sound.Items.{Consumes-parameter, parameters_begin}
-use Rattle.sfv_model.proofs.sound.Members.{Consumes-next_item, Sound-entry, Sound-keyed}
-use Rattle.sfv_model.proofs.sound.Separated.{IsComma, Sound-comma, Consumes-next, Local-next}
-use Rattle.sfv_model.proofs.sound.Steps.{step_events}
-use Rattle.sfv_model.proofs.local.Combinators.{Local-span, looks}
+use Rattle.sfv_model.specs.Reader.{Fault, Answer, Reader, visited, and_then, give, fail, ◌>>=◌, bind, led, led_answer}
+use Rattle.sfv_model.specs.Reader.{branch, ahead, back, span, many, one_and_more, byte, any}
+use Rattle.sfv_model.proofs.Types.{FieldKind, item_field, list_field, dictionary_field, Version, TrailingComma}
+use Rattle.sfv_model.proofs.Types.{TrailingCharactersAfterMember}
+use Rattle.sfv_model.proofs.local.{Bare.Local-bare, Combinators.{Local-span, looks}}
 use Rattle.sfv_model.proofs.local.Items.{Local-key, Local-value, Local-parameter, Local-item}
-use Rattle.sfv_model.proofs.local.Bare.{Local-bare}
 use Rattle.sfv_model.proofs.local.Members.{Local-inner_item, Local-next_item, Local-items, Local-entry, Local-keyed}
 use Rattle.sfv_model.proofs.places.Calls.{Stuck, stuck_bind}
 use Rattle.sfv_model.proofs.places.CallsOfReaders.{stuck_give, stuck_then, stuck_after, stuck_value, stuck_parameters}
 use Rattle.sfv_model.proofs.places.CallsOfReaders.{stuck_next_items, stuck_next, stuck_space, stuck_last}
 use Rattle.sfv_model.proofs.places.CallsOfReaders.{stuck-member_value, Local-comma}
+use Rattle.sfv_model.proofs.sound.Combinators.{sound_at, Begins, Reads, Goes, Sound-back, Steady-span}
+use Rattle.sfv_model.proofs.sound.Items.{Consumes-parameter, parameters_begin}
+use Rattle.sfv_model.proofs.sound.Members.{Consumes-next_item, Sound-entry, Sound-keyed}
+use Rattle.sfv_model.proofs.sound.{Separated.{IsComma, Sound-comma, Consumes-next, Local-next}, Steps.step_events}
 use Rattle.sfv_model.proofs.visits.EventsBeforeRuleAlike.{Tells, Early, begins_all, Early-give, Early-fail, Early-span}
 use Rattle.sfv_model.proofs.visits.EventsBeforeRuleAlike.{tells_after, tells_second, Early-led, Early-bind, Early-then}
 use Rattle.sfv_model.proofs.visits.EventsBeforeRuleAlike.{Early-map, Early-led_map, Early-branch, Early-ahead}
@@ -71,11 +62,8 @@ module _ {A : Type 0} (P : A → List ℕ → Type 0) (parts : A → List TreeEv
   after_comma : (c : ℕ) (r : List ℕ) → byte comma c ≡ true → (a : Answer (Unit {0}))
       → back TrailingComma comma_at (c ∷ r) ≡ a → (e : Fault) → and_then a (λ _. Another) ≡ Err e → e.exact ≡ false
       → Tells AtComma (step_events parts) (c ∷ r) e.events
-  after_comma c r n (Ok (v, q)) k e i x =
-      tells_after AtComma (back TrailingComma comma_at >>= λ _. Another) (step_events parts) [] (c ∷ r) e.events
-      (λ q j. looks (byte comma) _ _ q true c n j)
-      (tells_second (back TrailingComma comma_at) (λ _. Another) (step_events parts) (c ∷ r) v q e.events Local-comma k
-      (Early-another.early q e i x))
+  after_comma c r n (Ok (v, q)) k e i x = tells_after _ _ _ [] _ _ (λ q j. looks _ _ _ _ _ _ n j)
+      (tells_second _ _ _ _ _ _ _ Local-comma k (Early-another.early q e i x))
   after_comma c r n (Err y) k e i x =
       let same : y ≡ e = cc in
       rw (← sym (comma_quiet (c ∷ r) y k) ∙ ap (λ (y : Fault). y.events) same) (record {
@@ -111,8 +99,7 @@ module _ {A : Type 0} (P : A → List ℕ → Type 0) (parts : A → List TreeEv
 
   stuck_first : Stuck (ahead any (one_and_more parts one (next_at one)) (give []) (0 ∷ []))
   unfolding ahead bind
-  stuck_first = stuck_bind (λ v. led (parts v) (many parts (next_at one) >>= λ vs. give (v ∷ vs))) (one (0 ∷ []))
-      (λ v. stuck_last_of v) stuck
+  stuck_first = stuck_bind _ _ (λ v. stuck_last_of v) stuck
     where
       stuck_last_of : (v : A) → Stuck (led (parts v) (many parts (next_at one) >>= λ vs. give (v ∷ vs)) (0 ∷ []))
       stuck_last_of v = stuck_after (parts v) (many parts (next_at one) >>= λ vs. give (v ∷ vs))
@@ -136,24 +123,20 @@ module _ (version : Version) (leaf : Early (bare_at version) (λ _. [])) where
 
   Early-parameter : Early (parameter_at version) (step_events parameter_event)
   unfolding parameter_at
-  Early-parameter = Early-branch _ (λ c. Early-then (Early-span _ _) (Local-span _)
-      (λ s. Early-then Early-key Local-key
-      (λ k. Early-map (λ v. Some (k, v)) Early-value (Local-value version) (λ v. begins_all _))
-      (λ k. stuck_then _ _ (stuck_value version) (λ v. stuck_give _)))
-      (λ s. stuck_then _ _ stuck_key (λ k. stuck_then _ _ (stuck_value version) (λ v. stuck_give _))))
+  Early-parameter = Early-branch _ (λ c. Early-then (Early-span _ _) (Local-span _) (λ s. Early-then Early-key Local-key
+      (λ k. Early-map _ Early-value (Local-value _) (λ v. begins_all _)) (λ k. stuck_then _ _ (stuck_value _)
+      (λ v. stuck_give _))) (λ s. stuck_then _ _ stuck_key (λ k. stuck_then _ _ (stuck_value _) (λ v. stuck_give _))))
       (Early-give _ _)
 
   Early-parameters : Early (parameters_at version) parameters_events
   unfolding parameters_at
-  Early-parameters = Early-more (λ ps. parameters_begin ps (flat_map parameter_event ps) ([], sym (append-nil _)))
-      (Early-many parameter_event (parameter_at version) (Consumes-parameter version) (Local-parameter version)
-      Early-parameter (stuck_parameters version))
+  Early-parameters = Early-more (λ ps. parameters_begin _ _ ([], sym (append-nil _))) (Early-many _ _
+      (Consumes-parameter _) (Local-parameter _) Early-parameter (stuck_parameters _))
 
   pub Early-item : Early (item_at version) item_events
   unfolding item_at
-  Early-item = Early-then leaf (Local-bare version)
-      (λ b. Early-led_map (bare_item b ∷ []) (item_of b) (λ ps. ([], sym (append-nil _))) Early-parameters)
-      (λ b. stuck_after _ _ (stuck_last version (item_of b)))
+  Early-item = Early-then leaf (Local-bare _) (λ b. Early-led_map _ _ (λ ps. ([], sym (append-nil _))) Early-parameters)
+      (λ b. stuck_after _ _ (stuck_last _ _))
 
   Early-inner_item : Early (inner_item_at version) inner_item_events
   unfolding inner_item_at
@@ -166,11 +149,10 @@ module _ (version : Version) (leaf : Early (bare_at version) (λ _. [])) where
 
   Early-next_item : Early (next_item_at version) (step_events inner_item_events)
   unfolding next_item_at
-  Early-next_item = Early-branch _ (λ c. Early-then (Early-span _ _) (Local-span _)
-      (λ s. Early-branch _ (λ d. Early-give _ _)
-      (Early-map (λ i. Some i) Early-inner_item (Local-inner_item version) (λ i. ([], sym (append-nil _)))))
-      (λ s. stuck_parenthesis None))
-      (Early-branch _ (λ d. Early-give _ _) (Early-ahead _ (Early-fail _ _) (Early-fail _ _)))
+  Early-next_item = Early-branch _ (λ c. Early-then (Early-span _ _) (Local-span _) (λ s. Early-branch _
+      (λ d. Early-give _ _) (Early-map _ Early-inner_item (Local-inner_item _) (λ i. ([], sym (append-nil _)))))
+      (λ s. stuck_parenthesis _)) (Early-branch _ (λ d. Early-give _ _) (Early-ahead _ (Early-fail _ _)
+      (Early-fail _ _)))
 
   stuck_items : Stuck (branch (byte 41) (λ _. give []) (inner_item_at version
       >>= λ i. led (inner_item_events i) (many inner_item_events (next_item_at version) >>= λ is. give (i ∷ is)))
@@ -180,12 +162,9 @@ module _ (version : Version) (leaf : Early (bare_at version) (λ _. [])) where
 
   Early-items : Early (inner_items_at version) (λ is. flat_map inner_item_events is)
   unfolding inner_items_at
-  Early-items = Early-ahead _ (Early-then (Early-span _ _) (Local-span _)
-      (λ s. Early-branch _ (λ d. Early-give _ _)
-      (Early-one_and_more inner_item_events (next_item_at version) (Consumes-next_item version)
-      (Local-next_item version) Early-next_item (stuck_next_items version) (inner_item_at version) Early-inner_item
-      (Local-inner_item version)))
-      (λ s. stuck_items)) (Early-fail _ _)
+  Early-items = Early-ahead _ (Early-then (Early-span _ _) (Local-span _) (λ s. Early-branch _ (λ d. Early-give _ _)
+      (Early-one_and_more _ _ (Consumes-next_item _) (Local-next_item _) Early-next_item (stuck_next_items _) _
+      Early-inner_item (Local-inner_item _))) (λ s. stuck_items)) (Early-fail _ _)
 
   -- the events of an inner list after its beginning
   after_start : RawMember → List TreeEvent
@@ -208,10 +187,8 @@ module _ (version : Version) (leaf : Early (bare_at version) (λ _. [])) where
 
   Early-inner : Early (inner_at version) after_start
   unfolding inner_at after_start
-  Early-inner = Early-bind Early-items (Local-items version)
-      (λ is. Early-led_map (closed_events is) (inner_of is) (λ ps. ([], simp (append_assoc, append-nil)))
-      Early-parameters)
-      closed_goes (λ is. stuck_after _ _ (stuck_last version (inner_of is)))
+  Early-inner = Early-bind Early-items (Local-items _) (λ is. Early-led_map _ _ (λ ps.
+      ([], simp (append_assoc, append-nil))) Early-parameters) closed_goes (λ is. stuck_after _ _ (stuck_last _ _))
 
   list_starts : (t : List ℕ) (v : RawMember) (q : List ℕ) → inner_at version t ≡ Ok (v, q)
       → member_events v ≡ (begins_inner_list ∷ []) ++ after_start v
@@ -243,15 +220,13 @@ module _ (version : Version) (leaf : Early (bare_at version) (λ _. [])) where
 
   Early-member_value : Early (member_value_at version) member_events
   unfolding member_value_at
-  Early-member_value = Early-branch _ (λ c. Early-member)
-      (Early-led_map (begins_item ∷ bare_item (boolean true) ∷ []) true_with (λ ps. ([], sym (append-nil _)))
+  Early-member_value = Early-branch _ (λ c. Early-member) (Early-led_map _ _ (λ ps. ([], sym (append-nil _)))
       Early-parameters)
 
   pub Early-keyed : Early (keyed_at version) keyed_events
   unfolding keyed_at
-  Early-keyed = Early-then Early-key Local-key
-      (λ k. Early-led_map (keyed_entry k ∷ []) (λ m. (k, m)) (λ m. ([], sym (append-nil _))) Early-member_value)
-      (λ k. stuck_after _ _ (stuck_then _ _ (stuck-member_value version) (λ m. stuck_give _)))
+  Early-keyed = Early-then Early-key Local-key (λ k. Early-led_map _ _ (λ m. ([], sym (append-nil _)))
+      Early-member_value) (λ k. stuck_after _ _ (stuck_then _ _ (stuck-member_value _) (λ m. stuck_give _)))
 
   -- ---- fields
 
@@ -277,11 +252,9 @@ module _ (version : Version) (leaf : Early (bare_at version) (λ _. [])) where
 
   pub Early-field : (kind : FieldKind) → Early (whole_field_at version kind) (events kind)
   unfolding whole_field_at
-  Early-field item_field = Early-then (Early-span _ _) (Local-span _)
-      (λ s. Early-bind Early-item (Local-item version)
-      (λ i. Early-then (Early-span _ _) (Local-span _) (λ _. Early-give _ _) (λ _. stuck_give _))
-      spaces_begin stuck_after_item)
-      (λ s. stuck_then (item_at version) (λ i. span is_space >>= λ _. give i) stuck_item stuck_after_item)
+  Early-field item_field = Early-then (Early-span _ _) (Local-span _) (λ s. Early-bind Early-item (Local-item _) (λ i.
+      Early-then (Early-span _ _) (Local-span _) (λ _. Early-give _ _) (λ _. stuck_give _)) spaces_begin
+      stuck_after_item) (λ s. stuck_then _ _ stuck_item stuck_after_item)
   Early-field list_field = Early-members (IsMemberText version) entry_events (entry_at version) (Sound-entry version)
       (Local-entry version) Early-entry stuck_entry
   Early-field dictionary_field = Early-members (IsDictionaryMemberText version) keyed_events (keyed_at version)

@@ -1,20 +1,15 @@
 -- What was told before a fault with a rule is told before every text that goes on alike.
 use Rattle.std.proofs.Common.{◌≡◌, ℕ, zero, suc, ◌<◌, Bool, true, false, List, [], ◌∷◌, ◌++◌, length, Option, Some}
-use Rattle.std.proofs.Common.{None, Ok, Err, refl, sym, ap, subst, ◌∙◌, append_assoc, arith, inl, inr}
-use Rattle.std.specs.Prelude.{flat_map}
-use Rattle.std.proofs.lemmas.List.{append-nil}
-use Rattle.std.proofs.lemmas.Bool.{true≢false, cases_Bool}
-use Rattle.sfv_spec.specs.Events.{TreeEvent}
-use Rattle.sfv_spec.specs.declared.error_kind.ErrorKind.{ErrorKind}
+use Rattle.std.proofs.Common.{None, Ok, Err, refl, sym, ap, subst, ◌∙◌, append_assoc, arith, inl, inr, flat_map}
+use Rattle.std.proofs.{Common.{append-nil, true≢false}, lemmas.Bool.cases_Bool}
+use Rattle.sfv_spec.specs.{Events.TreeEvent, declared.error_kind.ErrorKind.ErrorKind}
 use Rattle.sfv_model.specs.Judgements.{Lasts, Local}
 use Rattle.sfv_model.specs.Reader.{Fault, Answer, Reader, first, visited, after_events, and_then, give, fail, ◌>>=◌}
 use Rattle.sfv_model.specs.Reader.{bind, led_answer, led, branch, ahead, span, go_on, many, one_and_more}
-use Rattle.sfv_model.proofs.sound.Combinators.{Begins, begins_after, Steady-span}
-use Rattle.sfv_model.proofs.sound.Many.{Consumes, many_is}
-use Rattle.sfv_model.proofs.sound.Steps.{step_events}
 use Rattle.sfv_model.proofs.local.Combinators.{first_after, untaken, looks}
-use Rattle.sfv_model.proofs.places.Calls.{Stuck, stuck_bind}
-use Rattle.sfv_model.proofs.places.CallsOfReaders.{stuck_give, stuck_then, stuck_after}
+use Rattle.sfv_model.proofs.places.{Calls.{Stuck, stuck_bind}, CallsOfReaders.{stuck_give, stuck_then, stuck_after}}
+use Rattle.sfv_model.proofs.sound.Combinators.{Begins, begins_after, Steady-span}
+use Rattle.sfv_model.proofs.sound.{Many.{Consumes, many_is}, Steps.step_events}
 
 -- After before and one byte more, the events es were told, whatever follows; and something may follow.
 pub record Tells {A : Type 0} (f : Reader A) (parts : A → List TreeEvent) (t : List ℕ) (es : List TreeEvent) : Type 0 where
@@ -34,10 +29,7 @@ pub begins_all : (all : List TreeEvent) → Begins all []
 begins_all all = (all, refl)
 
 pub begins_trans : (a b c : List TreeEvent) → Begins a b → Begins b c → Begins a c
-begins_trans a b c h k = (
-  k.0 ++ h.0,
-  h.1 ∙ ap (λ (l : List TreeEvent). l ++ h.0) k.1 ∙ append_assoc c k.0 h.0,
-)
+begins_trans a b c h k = (k.0 ++ h.0, h.1 ∙ ap (λ (l : List TreeEvent). l ++ h.0) k.1 ∙ append_assoc c k.0 h.0)
 
 -- one reader goes on as another does after p
 pub tells_after : {A : Type 0} (f g : Reader A) (parts : A → List TreeEvent) (p t : List ℕ) (es : List TreeEvent)
@@ -164,13 +156,11 @@ pub Early-led_map : {A B : Type 0} (es : List TreeEvent) {f : Reader A} (m : A �
     {whole : B → List TreeEvent} → ((v : A) → Begins (whole (m v)) (es ++ front v)) → Early f front
     → Early (led es (f >>= λ v. give (m v))) whole
 unfolding led bind
-Early-led_map es {f} m {front} {whole} each =
-    Early-alike es front whole (λ s. alike_map es m front whole each (f s))
+Early-led_map es {f} m {front} {whole} each = Early-alike es _ _ (λ s. alike_map es _ front _ each _)
 
 -- the second is
 pub tells_second : {A B : Type 0} (f : Reader A) (g : A → Reader B) (parts : B → List TreeEvent) (t : List ℕ) (v : A)
-    (q : List ℕ) (es : List TreeEvent) → Local f → f t ≡ Ok (v, q) → Tells (g v) parts q es
-    → Tells (f >>= g) parts t es
+    (q : List ℕ) (es : List TreeEvent) → Local f → f t ≡ Ok (v, q) → Tells (g v) parts q es → Tells (f >>= g) parts t es
 unfolding bind
 tells_second f g parts t v q es l e m =
     let k : Lasts f t (Ok (v, q)) = subst (λ a. Lasts f t a) e (l.lasts t) in
@@ -200,8 +190,7 @@ Early-then h l k stuck = Early-bind h l k (λ v q. begins_all _) stuck
 pub Early-map : {A B : Type 0} {f : Reader A} (m : A → B) {front : A → List TreeEvent} {parts : B → List TreeEvent}
     → Early f front → Local f → ((v : A) → Begins (parts (m v)) (front v)) → Early (f >>= λ v. give (m v)) parts
 unfolding give
-Early-map m {parts = parts} h l each =
-    Early-bind h l (λ v. Early-give (m v) parts) (λ v q. each v) (λ v. refl)
+Early-map m {parts = parts} h l each = Early-bind h l (λ v. Early-give _ _) (λ v q. each v) (λ v. refl)
 
 pub Early-branch : {A : Type 0} (class : ℕ → Bool) {taken : ℕ → Reader A} {other : Reader A}
     {parts : A → List TreeEvent} → ((c : ℕ) → Early (taken c) parts) → Early other parts
@@ -269,19 +258,16 @@ module _ {A : Type 0} (parts : A → List TreeEvent) (step : Reader (Option A)) 
   at_step n ih t e less x (Ok (None, q)) k j = absurd cc
   at_step n ih t e less x (Ok (Some v, q)) k j =
       let shorter = c.consumes t q v k in
-      tells_second step (go_on parts (many parts step)) All t (Some v) q e.events l k
-      (tells_alike (parts v) All All (λ s. alike_map (parts v) (λ vs. v ∷ vs) All All (λ vs. ([], sym (append-nil _)))
-      (many parts step s)) q e j x (λ y i z. ih q y (omega (arith, less, shorter)) i z))
+      tells_second _ _ _ _ _ _ _ l k (tells_alike (parts v) _ _ (λ s. alike_map (parts v) (λ vs. v ∷ vs) All _
+      (λ vs. ([], sym (append-nil _))) _) _ _ j x (λ y i z. ih q y (omega (arith, less, shorter)) i z))
   at_step n ih t e less x (Err y) k j =
       let same : y ≡ e = cc in
-      tells_first step (go_on parts (many parts step)) (step_events parts) All t e.events goes stuck_on
-      (h.early t e (k ∙ ap (λ (y : Fault). Err y) same) x)
+      tells_first _ _ _ _ _ _ goes stuck_on (h.early t e (k ∙ ap (λ (y : Fault). Err y) same) x)
 
   within : (n : ℕ) → Shorter n
   unfolding bind
   within zero t e less i x = absurd (omega (arith, less))
-  within (suc n) t e less i x =
-      tells_after (many parts step) (step >>= go_on parts (many parts step)) All [] t e.events
+  within (suc n) t e less i x = tells_after (many parts step) (step >>= go_on parts (many parts step)) All [] t e.events
       (λ q j. many_is parts step c q) (at_step n (within n) t e less x (step t) refl (cc (many_is parts step c t)))
 
   pub Early-many : Early (many parts step) All
@@ -294,9 +280,8 @@ module _ {A : Type 0} (parts : A → List TreeEvent) (step : Reader (Option A)) 
 
   -- one and more
   pub Early-one_and_more : (one : Reader A) → Early one parts → Local one → Early (one_and_more parts one step) All
-  Early-one_and_more one first local =
-      Early-bind first local (λ v. Early-led_map (parts v) (λ vs. v ∷ vs) (λ vs. ([], sym (append-nil _))) Early-many)
-      put_goes (λ v. stuck_after _ _ (stuck_then _ _ stuck (λ vs. stuck_give _)))
+  Early-one_and_more one first local = Early-bind first local (λ v. Early-led_map _ _ (λ vs. ([], sym (append-nil _)))
+      Early-many) put_goes (λ v. stuck_after _ _ (stuck_then _ _ stuck (λ vs. stuck_give _)))
 
 -- fewer events
 pub Early-more : {A : Type 0} {f : Reader A} {few parts : A → List TreeEvent}

@@ -1,34 +1,20 @@
 -- The events before an error that names what is expected: those of the field in front of it.
-use Rattle.std.proofs.Common.{◌≡◌, ℕ, ◌-◌, List, [], ◌∷◌, ◌++◌, length, take, Ok, Err, Result, refl, sym, ap, subst, ◌∙◌, inr}
-use Rattle.std.proofs.Common.{arith}
-use Rattle.std.proofs.lemmas.List.{append-nil, append_cancel_right, length-append, take_at}
-use Rattle.std.specs.Prelude.{codes}
-use Rattle.sfv_spec.specs.Values.{RawField, HasMember}
-use Rattle.sfv_spec.specs.declared.field_kind.FieldKind.{FieldKind}
-use Rattle.sfv_spec.specs.declared.field_kind.FieldKind.TheVariants.{Item as item_field, List as list_field}
-use Rattle.sfv_spec.specs.declared.field_kind.FieldKind.TheVariants.{Dictionary as dictionary_field}
-use Rattle.sfv_spec.specs.declared.version.Version.{Version}
-use Rattle.sfv_spec.specs.declared.error_kind.ErrorKind.{ErrorKind}
-use Rattle.sfv_spec.specs.declared.error_kind.ErrorKind.TheVariants.{TrailingCharactersAfterMember}
-use Rattle.sfv_spec.specs.declared.error_kind.ErrorKind.TheVariants.{TrailingCharactersAfterParsedValue}
-use Rattle.sfv_spec.specs.declared.error_kind.ErrorKind.TheVariants.{ExpectedInnerListDelimiter}
-use Rattle.sfv_spec.specs.Grammar.{IsFieldText, IsAccepted}
-use Rattle.sfv_spec.specs.Faults.{IsWantedAt}
-use Rattle.sfv_spec.specs.Faults as faults
+use Rattle.std.proofs.Common.{◌≡◌, ℕ, ◌-◌, List, [], ◌∷◌, ◌++◌, length, take, Ok, Err, Result, refl, sym, ap, subst}
+use Rattle.std.proofs.Common.{◌∙◌, inr, arith, append-nil, length-append, take_at, codes}
+use Rattle.std.proofs.lemmas.List.{append_cancel_right}
 use Rattle.sfv_spec.specs.Events.{TreeEvent, inner_list_end, parameters_end, events}
+use Rattle.sfv_spec.specs.{Faults.IsWantedAt, Grammar.{IsFieldText, IsAccepted}, Values.{RawField, HasMember}}
 use Rattle.sfv_spec.proofs.Structure.{one_field_lem}
-use Rattle.sfv_model.specs.Commas.{HasManyMembers}
+use Rattle.sfv_model.specs.{Commas.HasManyMembers, Fields.{whole_field_at, ending, read_field}}
 use Rattle.sfv_model.specs.Reader.{Fault, Answer, visited}
-use Rattle.sfv_model.specs.Fields.{whole_field_at, ending, read_field}
-use Rattle.sfv_model.proofs.Theorems.{read_is_accepted}
-use Rattle.sfv_model.proofs.TrailingBytes.{read_before}
-use Rattle.sfv_model.proofs.FaultTable.{fault_is_at, one_fault}
-use Rattle.sfv_model.proofs.faults.BetweenInnerItems.{Stands, IsOpen, IsWhole}
-use Rattle.sfv_model.proofs.faults.Fields.{HasMembers, field_rules}
-use Rattle.sfv_model.proofs.faults.TrailingCommas.{not_item}
-use Rattle.sfv_model.proofs.places.OneWanted.{one_wanted}
-use Rattle.sfv_model.proofs.sound.Combinators.{Begins}
-use Rattle.sfv_model.proofs.visits.EventsBeforeRuleAlike.{begins_all}
+use Rattle.sfv_model.proofs.{FaultTable.{fault_is_at, one_fault}, Theorems.read_is_accepted, TrailingBytes.read_before}
+use Rattle.sfv_model.proofs.Types.{FieldKind, item_field, list_field, dictionary_field, Version, ErrorKind}
+use Rattle.sfv_model.proofs.Types.{TrailingCharactersAfterMember, TrailingCharactersAfterParsedValue}
+use Rattle.sfv_model.proofs.Types.{ExpectedInnerListDelimiter}
+use Rattle.sfv_model.proofs.faults.{BetweenInnerItems.{Stands, IsOpen, IsWhole}, Fields.{HasMembers, field_rules}}
+use Rattle.sfv_model.proofs.{faults.TrailingCommas.not_item, places.OneWanted.one_wanted}
+use Rattle.sfv_model.proofs.{sound.Combinators.Begins, visits.EventsBeforeRuleAlike.begins_all}
+use Rattle.sfv_spec.specs.Faults as faults
 
 -- the reader's fault is this one
 record IsRead (version : Version) (kind : FieldKind) (t : List ℕ) (fault : ErrorKind) (n : ℕ) : Type 0 where
@@ -89,21 +75,18 @@ pub expected_events : (version : Version) (kind : FieldKind) (t : List ℕ) (fau
     → IsWantedAt version kind t fault n → (raw : RawField kind) → IsFieldText version kind raw (take n t)
     → Begins (visited (events kind) (whole_field_at version kind t)) (events kind raw)
 expected_events version item_field t fault n w raw h =
-    let r = is_read version item_field t fault n w in
-    let named = one_wanted version item_field (take n t) fault _ w.wanted (faults.end refl (raw, h)) in
-    let b = read_before version item_field t r.e r.read (r.kind_of ∙ named) in
+    let r = is_read _ _ _ _ _ w in
+    let named = one_wanted _ _ _ _ _ w.wanted (faults.end refl (raw, h)) in
+    let b = read_before version item_field _ r.e r.read (r.kind_of ∙ named) in
     let value : b.raw ≡ raw = one_field_lem version item_field (take n t) b.raw raw
-    (subst (IsFieldText version item_field b.raw) (front_is t b.front r.e.rest n b.text r.here) b.means) h in (
+    (subst (IsFieldText version item_field b.raw) (front_is _ _ _ _ b.text r.here) b.means) h in (
       [],
-      ap (visited (events item_field)) b.read ∙ ap (events item_field) value
-          ∙ sym (append-nil (events item_field raw)),
+      ap (visited (events item_field)) b.read ∙ ap (events item_field) value ∙ sym (append-nil (events item_field raw)),
     )
 expected_events version list_field t fault n w [] h = begins_all _
-expected_events version list_field t fault n w (m ∷ ms) h =
-    after_members version list_field t fault n w tt (m ∷ ms) (m, ms, refl) h
+expected_events version list_field t fault n w (m ∷ ms) h = after_members _ _ _ _ _ w tt _ (m, ms, refl) h
 expected_events version dictionary_field t fault n w [] h = begins_all _
-expected_events version dictionary_field t fault n w (m ∷ ms) h =
-    after_members version dictionary_field t fault n w tt (m ∷ ms) (m, ms, refl) h
+expected_events version dictionary_field t fault n w (m ∷ ms) h = after_members _ _ _ _ _ w tt _ (m, ms, refl) h
 
 -- the events in front of a delimiter that is expected after an item of an inner list
 pub delimited_events : (version : Version) (kind : FieldKind) (t : List ℕ) (fault : ErrorKind) (n : ℕ)

@@ -1,20 +1,10 @@
 -- What a visitor is visited.
-use Rattle.std.proofs.Common.{ℕ, List, [], ◌++◌, Ok, Err, sym, inl, inr}
-use Rattle.std.proofs.lemmas.List.{append-nil}
-use Rattle.std.proofs.lemmas.Bool.{cases_Bool}
-use Rattle.sfv_spec.specs.Values.{RawField}
-use Rattle.sfv_spec.specs.declared.field_kind.FieldKind.{FieldKind}
-use Rattle.sfv_spec.specs.declared.version.Version.{Version}
-use Rattle.sfv_spec.specs.Grammar.{IsFieldText}
-use Rattle.sfv_spec.specs.Events.{TreeEvent, events}
+use Rattle.std.proofs.{Common.{ℕ, List, [], ◌++◌, Ok, Err, sym, inl, inr, append-nil}, lemmas.Bool.cases_Bool}
+use Rattle.sfv_spec.specs.{Events.{TreeEvent, events}, Grammar.IsFieldText, Values.RawField}
+use Rattle.sfv_spec.specs.declared.{field_kind.FieldKind.FieldKind, version.Version.Version}
 use Rattle.sfv_spec.proofs.Valid.{accepted_is_value_lem}
-use Rattle.sfv_model.specs.Judgements.{Reached}
-use Rattle.sfv_model.specs.Reader.{Answer, visited}
-use Rattle.sfv_model.specs.Fields.{whole_field_at}
-use Rattle.sfv_model.specs.Visits.{BeginsEvents}
-use Rattle.sfv_model.specs.Claims.{VisitedBegins}
-use Rattle.sfv_model.proofs.sound.Combinators.{Somewhere}
-use Rattle.sfv_model.proofs.sound.Fields.{FieldGoes, Sound-field}
+use Rattle.sfv_model.specs.{Claims.VisitedBegins, Judgements.Reached, Reader.{Answer, visited}, Visits.BeginsEvents}
+use Rattle.sfv_model.proofs.sound.{Combinators.Somewhere, Fields.{FieldGoes, Sound-field}}
 
 begun_by : (version : Version) (kind : FieldKind) (es : List TreeEvent) → Somewhere (FieldGoes version kind) es
     → BeginsEvents kind es
@@ -36,5 +26,4 @@ visited_on version kind t (Err x) h = elim (cases_Bool x.exact) [
 
 -- what is visited, on a success or before a fault, begins some field's events
 pub visited_begins : VisitedBegins
-visited_begins version kind t = begun_by version kind _
-    (visited_on version kind t (whole_field_at version kind t) ((Sound-field version kind).sound t))
+visited_begins version kind t = begun_by _ _ _ (visited_on _ _ _ _ ((Sound-field _ _).sound t))

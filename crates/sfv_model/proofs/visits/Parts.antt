@@ -1,8 +1,7 @@
 -- What a reading hands out, by its parts: the steps of the code's proofs for visitors.
-use Rattle.std.proofs.Common.{◌≡◌, ℕ, List, [], ◌++◌, Ok, Err, refl, sym, ap, ◌∙◌, append_assoc}
-use Rattle.std.proofs.lemmas.List.{append-nil}
-use Rattle.sfv_spec.specs.Events.{TreeEvent}
+use Rattle.std.proofs.Common.{◌≡◌, ℕ, List, [], ◌++◌, Ok, Err, refl, sym, ap, ◌∙◌, append_assoc, append-nil}
 use Rattle.std.specs.List.{FoldsTo}
+use Rattle.sfv_spec.specs.Events.{TreeEvent}
 use Rattle.sfv_model.specs.Reader.{Answer, Reader, and_then, ◌>>=◌, bind, led_answer, led, visited}
 use Rattle.sfv_model.specs.Visits.{VisitorFails}
 
@@ -39,11 +38,10 @@ visited_first {A} {B} f g first parts more t h = on (f t) refl
 
 -- a failure within a part is one of the whole
 pub failed_within : {A B S F : Type 0} (takes : S → TreeEvent → S → Type 0)
-    (fails : S → TreeEvent → F → Type 0) (parts : A → List TreeEvent) (a : Answer A) (whole : B
-    → List TreeEvent) (b : Answer B) (front rest : List TreeEvent)
-    → visited whole b ≡ front ++ (visited parts a ++ rest) → (from middle : S) (fault : F)
-    → FoldsTo takes from front middle → ((es : List TreeEvent) (to : S) → FoldsTo takes middle es to
-    → FoldsTo takes from (front ++ es) to)
+    (fails : S → TreeEvent → F → Type 0) (parts : A → List TreeEvent) (a : Answer A) (whole : B → List TreeEvent)
+    (b : Answer B) (front rest : List TreeEvent) → visited whole b ≡ front ++ (visited parts a ++ rest)
+    → (from middle : S) (fault : F) → FoldsTo takes from front middle
+    → ((es : List TreeEvent) (to : S) → FoldsTo takes middle es to → FoldsTo takes from (front ++ es) to)
     → VisitorFails takes fails parts a middle fault → VisitorFails takes fails whole b from fault
 failed_within takes fails parts a whole b front rest e from middle fault run runs r = record {
   before = front ++ r.before;

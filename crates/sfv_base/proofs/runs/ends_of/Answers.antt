@@ -1,5 +1,4 @@
-use Rattle.std.proofs.Common.{◌≡◌, ◌++◌, ◌∙◌, ℕ, length, ap, ap₂, arith}
-use Rattle.std.proofs.lemmas.List.{length-append, length-take-le}
+use Rattle.std.proofs.Common.{◌≡◌, ◌++◌, ◌∙◌, ℕ, length, ap, ap₂, arith, length-append, length-take-le}
 use Rattle.std.proofs.lemmas.Simd.{pick_l_whole}
 use Rattle.sfv_base.proofs.runs.ends_of.Goals as goal
 

@@ -19,17 +19,13 @@ loop-block-preserved g c =
     )
 
 pub returns-then-outside-ne0-2 : goal.returns-then-outside-ne0-2
-returns-then-outside-ne0-2 g c =
-    sym (last_ends g.C.RunClass.class 16 (omega arith) c.args.bytes.now (length c.args.bytes.now - 16) c.loop-block.end _
-    (omega (arith, c.requires)) c.loop-block.invariant.0 (search rules)
-    (last_mask g.C.RunClass.class 16 c.args.bytes.now c.in-Some.last.now _ _ c.outside_half-outside-2.ensures
-    c.in-Some.ensures.cases.1)
-    c.if-outside-ne0-2.true)
+returns-then-outside-ne0-2 g c = sym (last_ends g.C.RunClass.class 16 (omega arith) c.args.bytes.now
+    (length c.args.bytes.now - 16) c.loop-block.end _ (omega (arith, c.requires)) c.loop-block.invariant.0
+    (search rules) (last_mask g.C.RunClass.class 16 c.args.bytes.now c.in-Some.last.now _ _
+    c.outside_half-outside-2.ensures c.in-Some.ensures.cases.1) c.if-outside-ne0-2.true)
 
 pub returns : goal.returns
-returns g c =
-    sym (last_passed g.C.RunClass.class 16 (omega arith) c.args.bytes.now (length c.args.bytes.now - 16) c.loop-block.end _
-    (omega (arith, c.requires)) c.loop-block.invariant.0 (search rules)
-    (last_mask g.C.RunClass.class 16 c.args.bytes.now c.in-Some.last.now _ _ c.outside_half-outside-2.ensures
-    c.in-Some.ensures.cases.1)
-    c.if-outside-ne0-2.false)
+returns g c = sym (last_passed g.C.RunClass.class 16 (omega arith) c.args.bytes.now
+    (length c.args.bytes.now - 16) c.loop-block.end _ (omega (arith, c.requires)) c.loop-block.invariant.0
+    (search rules) (last_mask g.C.RunClass.class 16 c.args.bytes.now c.in-Some.last.now _ _
+    c.outside_half-outside-2.ensures c.in-Some.ensures.cases.1) c.if-outside-ne0-2.false)

@@ -1,6 +1,5 @@
 use Rattle.std.proofs.Common.{◌∙◌}
-use Rattle.sfv_base.specs.Lanes.{is_marked}
-use Rattle.sfv_base.proofs.Masks.{mask_same}
+use Rattle.sfv_base.{specs.Lanes.is_marked, proofs.Masks.mask_same}
 use Rattle.sfv_base.proofs.runs.outside_half.Goals as goal
 
 pub returns : goal.returns

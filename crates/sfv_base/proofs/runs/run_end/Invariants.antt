@@ -1,5 +1,4 @@
-use Rattle.std.proofs.Common.{◌≡◌, ◌+◌, drop}
-use Rattle.std.specs.List.{prefix_len}
+use Rattle.std.{proofs.Common.{◌≡◌, ◌+◌, drop}, specs.List.prefix_len}
 use Rattle.sfv_base.proofs.runs.run_end.Given as goal
 
 abbrev pub invariant-loop-end : goal.invariant-loop-end

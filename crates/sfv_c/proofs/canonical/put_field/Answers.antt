@@ -1,5 +1,4 @@
-use Rattle.std.proofs.Common.{sym, subst}
-use Rattle.std.specs.Prelude.{string_bytes, option_map}
+use Rattle.std.proofs.Common.{sym, subst, string_bytes, option_map}
 use Rattle.sfv.specs.Statements.{IsSerializedAs}
 use Rattle.sfv_c.proofs.canonical.put_field.Goals as goal
 

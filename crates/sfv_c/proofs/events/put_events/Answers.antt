@@ -1,7 +1,6 @@
 use Rattle.std.proofs.Common.{◌≡◌, Ok, Err, ℕ, length, ap, ◌∙◌, arith}
 use Rattle.sfv.specs.Events.{events}
-use Rattle.sfv_c.specs.Answers.{answer}
-use Rattle.sfv_c.proofs.Runs.{rows_read, same_rows}
+use Rattle.sfv_c.{specs.Answers.answer, proofs.Runs.{rows_read, same_rows}}
 use Rattle.sfv_c.proofs.events.put_events.Goals as goal
 
 pub returns-in-Ok : goal.returns-in-Ok

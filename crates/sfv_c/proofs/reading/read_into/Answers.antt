@@ -1,6 +1,5 @@
 use Rattle.std.proofs.Common.{ap, ◌∙◌, arith}
-use Rattle.sfv_c.specs.declared.reading.Passing.{Passing}
-use Rattle.sfv_c.proofs.Receivers.{passed}
+use Rattle.sfv_c.{specs.declared.reading.Passing.Passing, proofs.Receivers.passed}
 use Rattle.sfv_c.proofs.reading.read_into.Goals as goal
 
 pub returns-in-Ok-clause-received : goal.returns-in-Ok-clause-received

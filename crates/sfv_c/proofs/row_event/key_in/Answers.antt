@@ -1,8 +1,5 @@
 use Rattle.std.proofs.Common.{◌≡◌, IsTrue, Option, MatchOption, sym, subst}
-use Rattle.sfv.specs.Classes.{is_key}
-use Rattle.sfv.specs.InvalidTexts.{IsInvalidKey}
-use Rattle.sfv.specs.KeyText.{KeyRef}
-use Rattle.sfv.specs.CheckedTexts.{text_of as key_text}
+use Rattle.sfv.specs.{CheckedTexts.text_of as key_text, Classes.is_key, InvalidTexts.IsInvalidKey, KeyText.KeyRef}
 use Rattle.sfv_c.proofs.Invalid.{made, not_key}
 use Rattle.sfv_c.proofs.row_event.key_in.Goals as goal
 

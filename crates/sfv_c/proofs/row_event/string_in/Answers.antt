@@ -1,9 +1,6 @@
-use Rattle.std.proofs.Common.{◌≡◌, IsTrue, Option, MatchOption, sym, subst}
-use Rattle.std.specs.List.{list_all}
-use Rattle.sfv.specs.Classes.{is_string_byte}
-use Rattle.sfv.specs.InvalidTexts.{IsInvalidString}
-use Rattle.sfv.specs.StringText.{StringRef}
+use Rattle.std.{proofs.Common.{◌≡◌, IsTrue, Option, MatchOption, sym, subst}, specs.List.list_all}
 use Rattle.sfv.specs.CheckedTexts.{text_of as string_text}
+use Rattle.sfv.specs.{Classes.is_string_byte, InvalidTexts.IsInvalidString, StringText.StringRef}
 use Rattle.sfv_c.proofs.Invalid.{made, not_string}
 use Rattle.sfv_c.proofs.row_event.string_in.Goals as goal
 

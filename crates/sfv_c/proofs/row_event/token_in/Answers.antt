@@ -1,8 +1,5 @@
 use Rattle.std.proofs.Common.{◌≡◌, IsTrue, Option, MatchOption, sym, subst}
-use Rattle.sfv.specs.Classes.{is_token}
-use Rattle.sfv.specs.InvalidTexts.{IsInvalidToken}
-use Rattle.sfv.specs.TokenText.{TokenRef}
-use Rattle.sfv.specs.CheckedTexts.{text_of as token_text}
+use Rattle.sfv.specs.{Classes.is_token, Field.text_of as token_text, InvalidTexts.IsInvalidToken, TokenText.TokenRef}
 use Rattle.sfv_c.proofs.Invalid.{made, not_token}
 use Rattle.sfv_c.proofs.row_event.token_in.Goals as goal
 

@@ -1,7 +1,6 @@
 use Rattle.std.proofs.Common.{false, arith, refl}
-use Rattle.sfv.specs.CheckedTexts.{text_of}
-use Rattle.sfv.specs.Events.{keyed_entry}
 use Rattle.sfv_writer.proofs.Checks.{at_exit}
+use Rattle.sfv.specs.{CheckedTexts.text_of, Events.keyed_entry}
 use Rattle.sfv_c.specs.RowEvents.{ended, dictionary_members}
 use Rattle.sfv_c.proofs.Stops.{writes_none, writes_row, writes_on, appends_both, stops_at, stops_on, stuck_at}
 use Rattle.sfv_c.proofs.Stops.{not_keyed}

@@ -1,6 +1,5 @@
 use Rattle.std.proofs.Common.{refl}
-use Rattle.sfv.specs.BareItems.{ref_value}
-use Rattle.sfv.specs.Events.{bare_item}
+use Rattle.sfv.specs.{BareItems.ref_value, Events.bare_item}
 use Rattle.sfv_c.specs.RowEvents.{value}
 use Rattle.sfv_c.proofs.Stops.{writes_none, writes_row, answers_on, stops_at, stuck_at, stuck_end, not_value}
 use Rattle.sfv_c.proofs.rows_to_text.item.Goals as goal

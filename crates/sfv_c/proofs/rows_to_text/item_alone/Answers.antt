@@ -1,7 +1,6 @@
 use Rattle.std.proofs.Common.{refl}
 use Rattle.sfv_writer.proofs.Checks.{at_exit}
-use Rattle.sfv_c.specs.RowEvents.{ended}
-use Rattle.sfv_c.proofs.Stops.{stops_at, over}
+use Rattle.sfv_c.{specs.RowEvents.ended, proofs.Stops.{stops_at, over}}
 use Rattle.sfv_c.proofs.rows_to_text.item_alone.Goals as goal
 
 pub returns-in_err-at : goal.returns-in_err-at

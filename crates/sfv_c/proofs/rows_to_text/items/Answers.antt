@@ -1,6 +1,6 @@
 use Rattle.std.proofs.Common.{false, arith, refl}
-use Rattle.sfv.specs.Events.{begins_item, inner_list_end}
 use Rattle.sfv_writer.proofs.Checks.{at_exit}
+use Rattle.sfv.specs.Events.{begins_item, inner_list_end}
 use Rattle.sfv_c.specs.RowEvents.{ended, items}
 use Rattle.sfv_c.proofs.Stops.{writes_none, writes_row, writes_on, answers_on, stops_at, stops_on, stuck_at, stuck_end}
 use Rattle.sfv_c.proofs.Stops.{fails, not_item}

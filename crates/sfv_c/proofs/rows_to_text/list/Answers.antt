@@ -1,10 +1,9 @@
 use Rattle.std.proofs.Common.{false, arith, refl}
-use Rattle.sfv.specs.Events.{entry}
 use Rattle.sfv_writer.proofs.Checks.{at_exit}
+use Rattle.sfv.specs.{BareItems.ref_value, Events.entry}
 use Rattle.sfv_c.specs.RowEvents.{ended, list_members}
 use Rattle.sfv_c.proofs.Stops.{writes_none, writes_row, writes_on, stops_at, stops_on, stuck_at, fails, not_entry}
 use Rattle.sfv_c.proofs.Stops.{writes_entry}
-use Rattle.sfv.specs.BareItems.{ref_value}
 use Rattle.sfv_c.proofs.rows_to_text.list.Goals as goal
 
 pub loop-row-init : goal.loop-row-init

@@ -1,10 +1,9 @@
 use Rattle.std.proofs.Common.{◌≡◌, if◌then◌else◌, codes, subst, refl}
 use Rattle.sfv.specs.Events.{begins_item, begins_inner_list}
 use Rattle.sfv_c.specs.RowEvents.{member, text_only, Appends}
-use Rattle.sfv_c.proofs.Stops.{writes_none, writes_row, answers_on, appends_none, stops_at, stuck_at, stuck_end}
-use Rattle.sfv_c.proofs.Stops.{fails, not_member}
+use Rattle.sfv_c.proofs.Stops.{writes_none, writes_row, answers_on, appends_none, stops_at, stuck_at, stuck_end, fails}
+use Rattle.sfv_c.proofs.{Stops.not_member, rows_to_text.member.Goals.{then-keyed, else-keyed}}
 use Rattle.sfv_c.proofs.rows_to_text.member.Goals as goal
-use Rattle.sfv_c.proofs.rows_to_text.member.Goals.{then-keyed, else-keyed}
 
 pub returns-in_default : goal.returns-in_default
 returns-in_default c p =

@@ -1,10 +1,8 @@
 use Rattle.std.proofs.Common.{refl}
-use Rattle.sfv.specs.BareItems.{ref_value}
-use Rattle.sfv.specs.CheckedTexts.{text_of}
-use Rattle.sfv.specs.Events.{parameter, parameters_end}
+use Rattle.sfv.specs.{BareItems.ref_value, CheckedTexts.text_of, Events.{parameter, parameters_end}}
 use Rattle.sfv_c.specs.RowEvents.{parameters}
-use Rattle.sfv_c.proofs.Stops.{writes_none, writes_row, writes_on, appends_none, appends_both, stops_at, stuck_at, stuck_end}
-use Rattle.sfv_c.proofs.Stops.{fails, not_parameter}
+use Rattle.sfv_c.proofs.Stops.{writes_none, writes_row, writes_on, appends_none, appends_both, stops_at, stuck_at}
+use Rattle.sfv_c.proofs.Stops.{stuck_end, fails, not_parameter}
 use Rattle.sfv_c.proofs.rows_to_text.parameters.Goals as goal
 
 pub loop-row-init : goal.loop-row-init

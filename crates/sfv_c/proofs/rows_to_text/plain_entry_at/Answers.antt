@@ -1,8 +1,5 @@
-use Rattle.std.proofs.Common.{List, subst, refl}
-use Rattle.std.proofs.lemmas.List.{take_rest}
-use Rattle.std.specs.Array.{IsFirstChunk}
-use Rattle.sfv_c.specs.declared.rows.Row.{Row}
-use Rattle.sfv_c.proofs.Stops.{entry_read}
+use Rattle.std.{proofs.Common.{List, subst, refl}, specs.Array.IsFirstChunk, proofs.lemmas.List.take_rest}
+use Rattle.sfv_c.{specs.declared.rows.Row.Row, proofs.Stops.entry_read}
 use Rattle.sfv_c.proofs.rows_to_text.plain_entry_at.Goals as goal
 
 pub returns : goal.returns

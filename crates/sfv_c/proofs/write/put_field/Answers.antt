@@ -1,9 +1,6 @@
 use Rattle.std.proofs.Common.{sym, subst}
-use Rattle.sfv.specs.Types.{FieldKind}
-use Rattle.sfv.specs.CheckedTexts.{text_of}
-use Rattle.sfv_c.specs.Answers.{Puts}
-use Rattle.sfv_c.specs.Writing.{PutsRows}
-use Rattle.sfv_c.proofs.Fields.{token_put}
+use Rattle.sfv.specs.{CheckedTexts.text_of, Types.FieldKind}
+use Rattle.sfv_c.{specs.Answers.Puts, specs.Writing.PutsRows, proofs.Fields.token_put}
 use Rattle.sfv_c.proofs.write.put_field.Goals as goal
 
 pub returns-in-Some : goal.returns-in-Some

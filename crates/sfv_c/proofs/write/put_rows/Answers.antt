@@ -1,8 +1,5 @@
-use Rattle.std.proofs.Common.{arith, refl, subst}
-use Rattle.std.proofs.lemmas.Bool.Decides.{nat_tests}
-use Rattle.sfv_c.specs.Answers.{Puts}
-use Rattle.sfv_c.proofs.WrongRows.{wrong_rows}
-use Rattle.sfv_c.proofs.Fields.{write_fault, no_rows, text_put}
+use Rattle.std.proofs.{Common.{arith, refl, subst}, lemmas.Bool.Decides.nat_tests}
+use Rattle.sfv_c.{specs.Answers.Puts, proofs.Fields.{write_fault, no_rows, text_put}, proofs.WrongRows.wrong_rows}
 use Rattle.sfv_c.proofs.write.put_rows.Goals as goal
 
 pub returns-in-Err : goal.returns-in-Err

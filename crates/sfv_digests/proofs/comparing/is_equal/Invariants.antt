@@ -1,4 +1,4 @@
-use Rattle.std.specs.Prelude.{◌≡◌, length, ◌&&◌, bytes_eq}
+use Rattle.std.proofs.Common.{◌≡◌, length, ◌&&◌, bytes_eq}
 use Rattle.sfv_digests.proofs.comparing.is_equal.Given as goal
 
 abbrev pub invariant-loop-byte : goal.invariant-loop-byte

@@ -1,6 +1,5 @@
 use Rattle.std.proofs.lemmas.Result.{IfOk-weaker}
-use Rattle.sfv.specs.Types.{dictionary_field, Rfc9651}
-use Rattle.sfv.specs.HashSeeds.{library_seed}
+use Rattle.sfv.specs.{HashSeeds.library_seed, Types.{dictionary_field, Rfc9651}}
 use Rattle.sfv.proofs.Callers.{made_visited, made_syntax, made_visitor, dictionary_seeded, dictionary_built}
 use Rattle.sfv.proofs.Callers.{no_entry_held}
 use Rattle.sfv_examples.proofs.Uses.{read_failed}

@@ -1,6 +1,5 @@
 use Rattle.std.proofs.lemmas.Result.{IfOk-weaker}
-use Rattle.sfv.specs.Types.{item_field, Rfc9651}
-use Rattle.sfv.specs.HashSeeds.{library_seed}
+use Rattle.sfv.specs.{HashSeeds.library_seed, Types.{item_field, Rfc9651}}
 use Rattle.sfv.proofs.Callers.{made_item, made_visited, made_syntax, made_visitor, item_seeded, item_built}
 use Rattle.sfv.proofs.Callers.{item_built_fails}
 use Rattle.sfv_examples.proofs.Uses.{read_failed}

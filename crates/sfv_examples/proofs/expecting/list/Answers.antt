@@ -1,6 +1,5 @@
 use Rattle.std.proofs.lemmas.Result.{IfOk-weaker}
-use Rattle.sfv.specs.Types.{list_field, Rfc9651}
-use Rattle.sfv.specs.HashSeeds.{library_seed}
+use Rattle.sfv.specs.{HashSeeds.library_seed, Types.{list_field, Rfc9651}}
 use Rattle.sfv.proofs.Callers.{made_visited, made_syntax, made_visitor, list_seeded, list_built, no_list_held}
 use Rattle.sfv_examples.proofs.Uses.{read_failed}
 use Rattle.sfv_examples.proofs.expecting.list.Goals as goal

@@ -1,12 +1,10 @@
 use Rattle.std.proofs.Common.{◌≡◌}
-use Rattle.sfv.specs.Types.{Rfc9651, item_field}
+use Rattle.sfv.specs.{BareItems.{read_text, input_value}, ProvidedVisitors.IsWrongType, Types.{Rfc9651, item_field}}
+use Rattle.sfv.proofs.Callers.{made_item, made_syntax, made_first, made_lent, expect_read, expect_only}
+use Rattle.sfv_examples.proofs.Uses.{lent_string, read_failed}
 use Rattle.sfv.specs.Types.bare_items as bare_items
 use Rattle.sfv.specs.Types.bare_item_types as kinds
 use Rattle.sfv.specs.Values as values
-use Rattle.sfv.specs.BareItems.{read_text, input_value}
-use Rattle.sfv.specs.ProvidedVisitors.{IsWrongType}
-use Rattle.sfv.proofs.Callers.{made_item, made_syntax, made_first, made_lent, expect_read, expect_only}
-use Rattle.sfv_examples.proofs.Uses.{lent_string, read_failed}
 use Rattle.sfv_examples.proofs.expecting.string.Goals as goal
 
 pub returns-clause-read : goal.returns-clause-read

@@ -1,10 +1,6 @@
-use Rattle.std.specs.Prelude.{Ok, Err, ◌≡◌}
-use Rattle.sfv.specs.Field.{dictionary_field}
-use Rattle.std.proofs.Common.{sym, refl}
-use Rattle.std.proofs.lemmas.Result.{IfOk-weaker}
-use Rattle.sfv.proofs.Callers.{answer_read, failure_read, has_visitor_error}
-use Rattle.sfv_examples.specs.Foo.{foo, IsFooError}
-use Rattle.sfv_examples.specs.FooSteps.{unread, foo_step, foo_found}
+use Rattle.std.proofs.{Common.{sym, refl, Ok, Err, ◌≡◌}, lemmas.Result.IfOk-weaker}
+use Rattle.sfv.{specs.Field.dictionary_field, proofs.Callers.{answer_read, failure_read, has_visitor_error}}
+use Rattle.sfv_examples.specs.{Foo.{foo, IsFooError}, FooSteps.{unread, foo_step, foo_found}}
 use Rattle.sfv_examples.proofs.Foos.{all_found}
 use Rattle.sfv_examples.proofs.foo.read_foo.Goals as goal
 

@@ -1,12 +1,8 @@
-use Rattle.std.proofs.Common.{◌≡◌, ℕ, List}
-use Rattle.std.proofs.lemmas.Result.{IfOk-weaker}
-use Rattle.sfv.specs.Types.{dictionary_field, Rfc9651, HashSeed, DictionaryBuilder, ListEntry}
-use Rattle.sfv.specs.Statements.{IsParsedAs}
-use Rattle.sfv.specs.Trees.{dictionary_tree}
-use Rattle.sfv.specs.Maps.{IndexMap}
-use Rattle.sfv.specs.Seeds.{DictionaryHasSeed}
-use Rattle.sfv.proofs.Callers.{dictionary_in_lines, dictionary_after, dictionary_seeded, read_is_value}
+use Rattle.std.proofs.{Common.{◌≡◌, ℕ, List}, lemmas.Result.IfOk-weaker}
 use Rattle.sfv.specs.Builders.{dictionary_state, dictionary_step, DictionaryAdds}
+use Rattle.sfv.specs.{Maps.IndexMap, Seeds.DictionaryHasSeed, Statements.IsParsedAs, Trees.dictionary_tree}
+use Rattle.sfv.specs.Types.{dictionary_field, Rfc9651, HashSeed, DictionaryBuilder, ListEntry}
+use Rattle.sfv.proofs.Callers.{dictionary_in_lines, dictionary_after, dictionary_seeded, read_is_value}
 use Rattle.sfv_examples.proofs.Uses.{second_fails}
 use Rattle.sfv_examples.proofs.reading.dictionary_of_lines.Goals as goal
 

@@ -1,12 +1,6 @@
-use Rattle.std.proofs.Common.{rules, ◌≡◌, ◌++◌, ◌∙◌, sym, ap, string_bytes, codes}
-use Rattle.std.specs.Prelude.{Some}
-use Rattle.std.specs.List.{repeat}
-use Rattle.sfv.specs.Errors.{index_of, kind_of}
-use Rattle.sfv.specs.Messages.{message_of}
-use Rattle.sfv.specs.Types.{list_field, Rfc9651}
-use Rattle.sfv.specs.Statements.{IsParsedAs}
-use Rattle.sfv.specs.Trees.{list_tree}
-use Rattle.sfv.proofs.Callers.{located_error}
+use Rattle.std.{proofs.Common.{rules, ◌≡◌, ◌++◌, ◌∙◌, sym, ap, string_bytes, codes, Some}, specs.List.repeat}
+use Rattle.sfv.specs.{Errors.{index_of, kind_of}, Messages.message_of, Statements.IsParsedAs, Trees.list_tree}
+use Rattle.sfv.{specs.Types.{list_field, Rfc9651}, proofs.Callers.located_error}
 use Rattle.sfv_examples.proofs.reading.explain.Goals as goal
 
 pub returns-in_default-clause-accepted : goal.returns-in_default-clause-accepted

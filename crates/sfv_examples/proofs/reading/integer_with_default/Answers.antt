@@ -1,12 +1,7 @@
 use Rattle.std.proofs.Common.{None, string_bytes, sym, ap}
-use Rattle.sfv.specs.BareItems.{bare_value}
-use Rattle.sfv.specs.Types.{item_field, Rfc9651}
-use Rattle.sfv.specs.NumberValues.{integer_of}
-use Rattle.sfv.specs.Statements.{IsParsedAs}
-use Rattle.sfv.specs.Trees.{item_tree}
-use Rattle.sfv.proofs.Callers.{integer_part}
-use Rattle.sfv_examples.specs.Uses.{integer_or}
-use Rattle.sfv_examples.proofs.Uses.{integer_or-other}
+use Rattle.sfv.specs.{BareItems.bare_value, NumberValues.integer_of, Statements.IsParsedAs, Trees.item_tree}
+use Rattle.sfv.{specs.Types.{item_field, Rfc9651}, proofs.Callers.integer_part}
+use Rattle.sfv_examples.{specs.Uses.integer_or, proofs.Uses.integer_or-other}
 use Rattle.sfv_examples.proofs.reading.integer_with_default.Goals as goal
 
 pub returns-in_default-clause-integer : goal.returns-in_default-clause-integer

@@ -1,12 +1,7 @@
 use Rattle.std.proofs.Common.{◌≡◌}
-use Rattle.std.specs.declared.alloc.Global.{Global}
-use Rattle.std.specs.declared.vec.Vec.{Vec}
-use Rattle.std.proofs.lemmas.Result.{IfOk-weaker}
-use Rattle.sfv.specs.Types.{list_field, Rfc9651, ListBuilder, ListEntry}
-use Rattle.sfv.specs.Statements.{IsParsedAs}
-use Rattle.sfv.specs.Trees.{list_tree}
-use Rattle.sfv.specs.Seeds.{ListHasSeed}
-use Rattle.sfv.specs.Builders.{list_state, list_step, ListAdds}
+use Rattle.std.{specs.declared.alloc.Global.Global, specs.declared.vec.Vec.Vec, proofs.lemmas.Result.IfOk-weaker}
+use Rattle.sfv.specs.{Builders.{list_state, list_step, ListAdds}, Seeds.ListHasSeed}
+use Rattle.sfv.specs.{Statements.IsParsedAs, Trees.list_tree, Types.{list_field, Rfc9651, ListBuilder, ListEntry}}
 use Rattle.sfv.proofs.Callers.{list_in_lines, list_after, list_seeded}
 use Rattle.sfv_examples.proofs.Uses.{second_fails}
 use Rattle.sfv_examples.proofs.reading.list_of_lines.Goals as goal

@@ -1,11 +1,6 @@
-use Rattle.std.proofs.Common.{◌≡◌, ◌∙◌, ap}
-use Rattle.std.specs.Prelude.{Some}
-use Rattle.sfv.specs.Values.{BareValue}
-use Rattle.sfv.specs.Types.{dictionary_field, Rfc9651}
-use Rattle.sfv.specs.Statements.{IsParsedAs}
-use Rattle.sfv.specs.Trees.{dictionary_tree}
-use Rattle.sfv.specs.BareItems.{bare_value}
-use Rattle.sfv.specs.CheckedTexts.{text_of as key_text}
+use Rattle.std.proofs.Common.{◌≡◌, ◌∙◌, ap, Some}
+use Rattle.sfv.specs.{BareItems.bare_value, CheckedTexts.text_of as key_text}
+use Rattle.sfv.specs.{Statements.IsParsedAs, Trees.dictionary_tree, Types.{dictionary_field, Rfc9651}, Values.BareValue}
 use Rattle.sfv_examples.proofs.Uses.{param_read}
 use Rattle.sfv_examples.proofs.reading.param_of_member.Goals as goal
 

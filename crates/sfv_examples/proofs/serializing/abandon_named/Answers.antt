@@ -1,5 +1,4 @@
-use Rattle.std.proofs.Common.{[], arith, refl, sym, rules}
-use Rattle.std.proofs.lemmas.List.{append-nil}
+use Rattle.std.proofs.Common.{[], arith, refl, sym, rules, append-nil}
 use Rattle.sfv.proofs.Callers.{taken_away, kept_as}
 use Rattle.sfv_examples.proofs.serializing.abandon_named.Goals as goal
 

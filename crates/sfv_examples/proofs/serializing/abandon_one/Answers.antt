@@ -1,11 +1,7 @@
-use Rattle.std.proofs.Common.{rules, ◌++◌, ◌∷◌, [], List, ℕ, Bool, codes, subst}
-use Rattle.std.proofs.lemmas.Result.{MatchResult-weaker}
-use Rattle.sfv.specs.BareItems.{ref_value}
-use Rattle.sfv.specs.Canonical.{bare_text}
-use Rattle.sfv.specs.Types.{Version}
-use Rattle.sfv.specs.Versions.{ChecksVersionFirst}
-use Rattle.sfv.specs.Written.{LacksRoom, separator_before}
+use Rattle.std.proofs.{Common.{rules, ◌++◌, ◌∷◌, [], List, ℕ, Bool, codes, subst}, lemmas.Result.MatchResult-weaker}
+use Rattle.sfv.specs.{BareItems.ref_value, Canonical.bare_text}
 use Rattle.sfv.specs.Serializers.{is_empty_so_far, sequence_version, sequence_sink}
+use Rattle.sfv.specs.{Types.Version, Versions.ChecksVersionFirst, Written.{LacksRoom, separator_before}}
 use Rattle.sfv.proofs.Callers.{taken_away, kept_as}
 use Rattle.sfv_examples.proofs.Exits.{checks_one, lacks_after}
 use Rattle.sfv_examples.proofs.serializing.abandon_one.Goals as goal

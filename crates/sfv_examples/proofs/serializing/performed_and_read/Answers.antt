@@ -1,10 +1,5 @@
-use Rattle.std.proofs.Common.{rules, ◌≡◌}
-use Rattle.std.proofs.lemmas.Result.{IfOk-weaker, IfErr-weaker}
-use Rattle.sfv.specs.Values.{RawField, bare_values}
-use Rattle.sfv.specs.Types.{list_field, Rfc9651}
-use Rattle.sfv.specs.Canonical.{canonical}
-use Rattle.sfv.specs.Trees.{list_tree}
-use Rattle.sfv.specs.Scripts.{described_list}
+use Rattle.std.proofs.{Common.{rules, ◌≡◌}, lemmas.Result.{IfOk-weaker, IfErr-weaker}}
+use Rattle.sfv.specs.{Field.{RawField, list_field, Rfc9651, canonical, list_tree, described_list}, Values.bare_values}
 use Rattle.sfv.proofs.Callers.{one_value, read_back, all_fit_newer, accepted_error}
 use Rattle.sfv_examples.proofs.serializing.performed_and_read.Goals as goal
 

@@ -1,13 +1,9 @@
 use Rattle.std.proofs.Common.{◌≡◌, ◌++◌, ◌∷◌, [], List, ℕ, refl, rules, codes}
-use Rattle.sfv.specs.Canonical.{bare_text}
-use Rattle.sfv.specs.BareItems.{ref_value}
-use Rattle.sfv.specs.CheckedTexts.{text_of as key_text}
-use Rattle.sfv.specs.Types.serialize_errors as errors
-use Rattle.sfv.specs.Written.{LacksRoom, separator_before, param_text}
+use Rattle.sfv.specs.{BareItems.ref_value, Canonical.bare_text, CheckedTexts.text_of as key_text}
 use Rattle.sfv.specs.Serializers.{is_empty_so_far, sequence_version, params_sink}
-use Rattle.sfv.proofs.Callers.{more_as, more_after}
-use Rattle.sfv_examples.proofs.Parts.{with_param, grown_as, grown_rests}
-use Rattle.sfv_examples.proofs.Exits.{at_exit, next_error, lacks_second}
+use Rattle.sfv.{specs.Written.{LacksRoom, separator_before, param_text}, proofs.Callers.{more_as, more_after}}
+use Rattle.sfv_examples.proofs.{Exits.{at_exit, next_error, lacks_second}, Parts.{with_param, grown_as, grown_rests}}
+use Rattle.sfv.specs.Types.serialize_errors as errors
 use Rattle.sfv_examples.proofs.serializing.put_with.Goals as goal
 
 pub returns-in_err-inner-clause-grows : goal.returns-in_err-inner-clause-grows

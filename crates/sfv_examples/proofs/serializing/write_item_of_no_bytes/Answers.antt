@@ -1,7 +1,7 @@
 use Rattle.std.proofs.Common.{◌++◌, ◌∙◌, refl, ap, codes, string_bytes}
-use Rattle.sfv.specs.Base64 as base64
 use Rattle.sfv.specs.Written.{LacksRoom}
 use Rattle.sfv_examples.proofs.Exits.{at_exit}
+use Rattle.sfv.specs.Base64 as base64
 use Rattle.sfv_examples.proofs.serializing.write_item_of_no_bytes.Goals as goal
 
 pub returns-clause-text : goal.returns-clause-text

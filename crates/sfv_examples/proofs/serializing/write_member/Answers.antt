@@ -1,11 +1,9 @@
 use Rattle.std.proofs.Common.{◌≡◌, ◌++◌, ◌∷◌, [], List, ℕ, codes}
-use Rattle.sfv.specs.BareItems.{ref_value}
-use Rattle.sfv.specs.CheckedTexts.{text_of}
-use Rattle.sfv.specs.Canonical.{bare_text}
-use Rattle.sfv.specs.Types.serialize_errors as errors
-use Rattle.sfv.specs.Written.{LacksRoom, separator_before, param_text}
+use Rattle.sfv.specs.{BareItems.ref_value, Canonical.bare_text, CheckedTexts.text_of}
 use Rattle.sfv.specs.Serializers.{is_empty_so_far, sequence_version, params_sink}
+use Rattle.sfv.specs.Written.{LacksRoom, separator_before, param_text}
 use Rattle.sfv_examples.proofs.Exits.{at_exit, next_error, lacks_second, lacks_third}
+use Rattle.sfv.specs.Types.serialize_errors as errors
 use Rattle.sfv_examples.proofs.serializing.write_member.Goals as goal
 
 pub returns-in_err-params-clause-unsupported : goal.returns-in_err-params-clause-unsupported

@@ -1,10 +1,8 @@
 use Rattle.std.proofs.Common.{◌≡◌, ◌++◌, ◌∷◌, [], List, ℕ, codes}
-use Rattle.sfv.specs.BareItems.{ref_value}
-use Rattle.sfv.specs.CheckedTexts.{text_of}
-use Rattle.sfv.specs.Types.serialize_errors as errors
+use Rattle.sfv.specs.{Field.{ref_value, text_of}, Serializers.{is_empty_so_far, sequence_version, params_sink}}
 use Rattle.sfv.specs.Written.{LacksRoom, separator_before, keyed_text, param_text}
-use Rattle.sfv.specs.Serializers.{is_empty_so_far, sequence_version, params_sink}
 use Rattle.sfv_examples.proofs.Exits.{at_exit, next_error, lacks_second}
+use Rattle.sfv.specs.Types.serialize_errors as errors
 use Rattle.sfv_examples.proofs.serializing.write_named.Goals as goal
 
 pub returns-in_err-params-clause-unsupported : goal.returns-in_err-params-clause-unsupported

@@ -1,15 +1,12 @@
-use Rattle.std.proofs.Common.{◌≡◌, [], ◌∷◌, ◌++◌, ◌∙◌, List, ℕ, sym, ap, subst, codes, string_bytes, rules}
-use Rattle.std.proofs.lemmas.List.{append-nil}
-use Rattle.sfv.specs.BareItems.{ref_value}
-use Rattle.sfv.specs.CheckedTexts.{text_of as key_text}
-use Rattle.sfv.specs.Types.{Version}
-use Rattle.sfv.specs.Types.serialize_errors as errors
-use Rattle.sfv.specs.Written.{LacksRoom, separator_before, param_text}
+use Rattle.std.proofs.Common.{◌≡◌, [], ◌∷◌, ◌++◌, ◌∙◌, List, ℕ, sym, ap, subst, codes, string_bytes, rules, append-nil}
+use Rattle.sfv.specs.{BareItems.ref_value, CheckedTexts.text_of as key_text}
 use Rattle.sfv.specs.Serializers.{is_empty_so_far, sequence_version, sequence_sink, params_sink}
+use Rattle.sfv.specs.{Types.Version, Written.{LacksRoom, separator_before, param_text}}
 use Rattle.sfv.proofs.Callers.{named_list_ended, more_as, no_less, room_before}
 use Rattle.sfv_examples.specs.Uses.{pair_of, named_pair_text}
 use Rattle.sfv_examples.proofs.Exits.{IsWriteError, at_exit, more_values, of_memory, unseparated, items_lack}
 use Rattle.sfv_examples.proofs.Exits.{ending_lacks, params_lack}
+use Rattle.sfv.specs.Types.serialize_errors as errors
 use Rattle.sfv_examples.proofs.serializing.write_named_pair.Goals as goal
 
 pub returns-clause-text : goal.returns-clause-text

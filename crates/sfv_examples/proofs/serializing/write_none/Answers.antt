@@ -1,7 +1,7 @@
 use Rattle.std.proofs.Common.{◌∷◌, [], false, codes, refl}
-use Rattle.sfv.specs.Values as values
 use Rattle.sfv.specs.Serializers.{sequence_version, LacksNext}
 use Rattle.sfv_examples.proofs.Exits.{at_exit, only_memory}
+use Rattle.sfv.specs.Values as values
 use Rattle.sfv_examples.proofs.serializing.write_none.Goals as goal
 
 pub returns-clause-text : goal.returns-clause-text

@@ -1,8 +1,7 @@
 use Rattle.std.proofs.Common.{◌∷◌, [], true, codes, refl}
-use Rattle.sfv.specs.NumberValues.{integer_of}
-use Rattle.sfv.specs.Values as values
-use Rattle.sfv.specs.Serializers.{sequence_version, LacksNext}
+use Rattle.sfv.specs.{NumberValues.integer_of, Serializers.{sequence_version, LacksNext}}
 use Rattle.sfv_examples.proofs.Exits.{at_exit, only_memory}
+use Rattle.sfv.specs.Values as values
 use Rattle.std.specs.Fmt as fmt
 use Rattle.sfv_examples.proofs.serializing.write_one.Goals as goal
 

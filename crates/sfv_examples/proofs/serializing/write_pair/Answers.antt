@@ -1,13 +1,8 @@
-use Rattle.std.proofs.Common.{◌++◌, ◌∷◌, [], List, ℕ, Bool, codes, subst}
-use Rattle.std.proofs.lemmas.Result.{MatchResult-weaker}
-use Rattle.sfv.specs.BareItems.{ref_value}
-use Rattle.sfv.specs.CheckedTexts.{text_of}
+use Rattle.std.proofs.{Common.{◌++◌, ◌∷◌, [], List, ℕ, Bool, codes, subst}, lemmas.Result.MatchResult-weaker}
 use Rattle.sfv.specs.Canonical.{bare_text, item_text}
-use Rattle.sfv.specs.Written.{LacksRoom, separator_before}
-use Rattle.sfv.specs.Serializers.{is_empty_so_far, sequence_version, sequence_sink}
-use Rattle.sfv_examples.specs.Uses.{item_of_one}
-use Rattle.sfv.proofs.Callers.{room_before, room_after}
-use Rattle.sfv_examples.proofs.Exits.{first_error}
+use Rattle.sfv.specs.{Field.{ref_value, text_of}, Serializers.{is_empty_so_far, sequence_version, sequence_sink}}
+use Rattle.sfv.{specs.Written.{LacksRoom, separator_before}, proofs.Callers.{room_before, room_after}}
+use Rattle.sfv_examples.{specs.Uses.item_of_one, proofs.Exits.first_error}
 use Rattle.sfv_examples.proofs.serializing.write_pair.Goals as goal
 
 pub returns-in_err-put_with-clause-unsupported : goal.returns-in_err-put_with-clause-unsupported

@@ -1,8 +1,7 @@
 use Rattle.std.proofs.Common.{◌∷◌, [], false, codes, refl}
-use Rattle.sfv.specs.CheckedTexts.{text_of}
-use Rattle.sfv.specs.Values as values
-use Rattle.sfv.specs.Serializers.{sequence_version, LacksNext}
+use Rattle.sfv.specs.{CheckedTexts.text_of, Serializers.{sequence_version, LacksNext}}
 use Rattle.sfv_examples.proofs.Exits.{at_exit, only_memory}
+use Rattle.sfv.specs.Values as values
 use Rattle.sfv_examples.proofs.serializing.write_second.Goals as goal
 
 pub returns-clause-text : goal.returns-clause-text

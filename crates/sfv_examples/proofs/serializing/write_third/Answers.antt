@@ -1,8 +1,7 @@
 use Rattle.std.proofs.Common.{codes, refl}
-use Rattle.sfv.specs.NumberValues.{thousandths_of}
-use Rattle.sfv.specs.Values as values
-use Rattle.sfv.specs.Serializers.{sequence_version, LacksNext}
+use Rattle.sfv.specs.{NumberValues.thousandths_of, Serializers.{sequence_version, LacksNext}}
 use Rattle.sfv_examples.proofs.Exits.{at_exit, one_memory}
+use Rattle.sfv.specs.Values as values
 use Rattle.std.specs.Fmt as fmt
 use Rattle.sfv_examples.proofs.serializing.write_third.Goals as goal
 

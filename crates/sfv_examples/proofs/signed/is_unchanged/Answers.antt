@@ -1,7 +1,6 @@
 use Rattle.std.proofs.Common.{sym, ◌∙◌}
 use Rattle.sfv.specs.Field.{inner_list_tree}
-use Rattle.sfv_signatures.specs.HttpMessages.{HttpGives}
-use Rattle.sfv_signatures.proofs.Unambiguous.{same_base_agrees}
+use Rattle.sfv_signatures.{specs.HttpMessages.HttpGives, proofs.Unambiguous.same_base_agrees}
 use Rattle.sfv_examples.proofs.signed.is_unchanged.Goals as goal
 
 -- the texts are equal, and each is a base

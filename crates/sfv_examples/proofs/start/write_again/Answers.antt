@@ -1,6 +1,4 @@
-use Rattle.sfv.specs.Types.{dictionary_field, Rfc9651}
-use Rattle.sfv.specs.Statements.{IsParsedAs}
-use Rattle.sfv.specs.Trees.{dictionary_tree}
+use Rattle.sfv.specs.{Statements.IsParsedAs, Trees.dictionary_tree, Types.{dictionary_field, Rfc9651}}
 use Rattle.sfv.proofs.Callers.{member_needs, needed}
 use Rattle.sfv_examples.proofs.start.write_again.Goals as goal
 

@@ -1,12 +1,6 @@
 use Rattle.std.proofs.Common.{rules, ◌≡◌, ap}
-use Rattle.sfv.specs.Values.{RawField}
-use Rattle.sfv.specs.Types.{list_field}
-use Rattle.sfv.specs.Canonical.{canonical}
-use Rattle.sfv.specs.Statements.{IsParsedAs}
-use Rattle.sfv.specs.Errors.{kind_of}
-use Rattle.sfv.specs.Parsers.{IsParseError}
-use Rattle.sfv.specs.Trees.{list_tree}
-use Rattle.sfv.specs.Scripts.{described_list}
+use Rattle.sfv.specs.{Canonical.canonical, Errors.kind_of, Parsers.IsParseError}
+use Rattle.sfv.specs.{Scripts.described_list, Statements.IsParsedAs, Trees.list_tree, Types.list_field, Values.RawField}
 use Rattle.sfv.proofs.Callers.{one_value, accepted_error}
 use Rattle.sfv_examples.proofs.versions.performed_and_read_for.Goals as goal
 

@@ -1,8 +1,5 @@
 use Rattle.std.proofs.Common.{rules, ◌∷◌, [], subst}
-use Rattle.sfv.specs.Types.{Version}
-use Rattle.sfv.specs.BareItems.{ref_value}
-use Rattle.sfv.specs.Serializers.{sequence_version}
-use Rattle.sfv.specs.Versions.{IsSerializeError}
+use Rattle.sfv.specs.{BareItems.ref_value, Serializers.sequence_version, Types.Version, Versions.IsSerializeError}
 use Rattle.sfv_examples.proofs.Pairs.{first_unwritten, second_unwritten}
 use Rattle.sfv_examples.proofs.versions.write_both.Goals as goal
 

@@ -1,6 +1,5 @@
 use Rattle.std.proofs.Common.{refl}
-use Rattle.sfv.specs.Types.{dictionary_field}
-use Rattle.sfv.proofs.Callers.{has_visitor_error}
+use Rattle.sfv.{specs.Types.dictionary_field, proofs.Callers.has_visitor_error}
 use Rattle.sfv_examples.specs.declared.visiting.MemberCounter.{MemberCounter}
 use Rattle.sfv_examples.proofs.Uses.{count_answered, count_failed}
 use Rattle.sfv_examples.proofs.visiting.count_members.Goals as goal

@@ -1,8 +1,6 @@
 use Rattle.std.proofs.Common.{refl, inl, inr}
-use Rattle.sfv.specs.Types.{Rfc9651, dictionary_field}
-use Rattle.sfv.proofs.Callers.{never_fails, has_visitor_error}
-use Rattle.sfv_examples.specs.Uses.{IsMemoryError}
-use Rattle.sfv_examples.proofs.Uses.{of_error_alone}
+use Rattle.sfv.{specs.Types.{Rfc9651, dictionary_field}, proofs.Callers.{never_fails, has_visitor_error}}
+use Rattle.sfv_examples.{specs.Uses.IsMemoryError, proofs.Uses.of_error_alone}
 use Rattle.sfv_examples.proofs.visiting.each_key.Goals as goal
 
 pub returns-clause-accepted : goal.returns-clause-accepted

@@ -1,11 +1,7 @@
-use Rattle.std.proofs.Common.{refl}
-use Rattle.std.specs.Prelude.{⊤}
-use Rattle.std.proofs.lemmas.Result.{IfOk-weaker}
-use Rattle.sfv.specs.Types.{Rfc9651, item_field}
-use Rattle.sfv.proofs.Callers.{never_fails, fails_in, has_visitor_error}
+use Rattle.std.{proofs.Common.refl, specs.Prelude.⊤, proofs.lemmas.Result.IfOk-weaker}
+use Rattle.sfv.{specs.Types.{Rfc9651, item_field}, proofs.Callers.{never_fails, fails_in, has_visitor_error}}
 use Rattle.sfv_examples.specs.Uses.{IsMemoryError}
-use Rattle.sfv_examples.proofs.Called.{called, failed_first}
-use Rattle.sfv_examples.proofs.Uses.{of_error_alone, read_failed}
+use Rattle.sfv_examples.proofs.{Called.{called, failed_first}, Uses.{of_error_alone, read_failed}}
 use Rattle.sfv_examples.proofs.visiting.with_bare_item.Goals as goal
 
 pub returns-clause-accepted : goal.returns-clause-accepted

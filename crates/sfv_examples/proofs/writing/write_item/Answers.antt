@@ -1,9 +1,6 @@
 use Rattle.std.proofs.Common.{refl}
-use Rattle.sfv.specs.Types.{item_field, Rfc9651}
-use Rattle.sfv.specs.Values.{bare_values}
-use Rattle.sfv.specs.BareItems.{ref_value}
-use Rattle.sfv.specs.CheckedTexts.{text_of as key_text}
-use Rattle.sfv.proofs.Callers.{value_read_back, all_fit_newer, ordered_same}
+use Rattle.sfv.specs.{BareItems.ref_value, CheckedTexts.text_of as key_text, Types.{item_field, Rfc9651}}
+use Rattle.sfv.{specs.Values.bare_values, proofs.Callers.{value_read_back, all_fit_newer, ordered_same}}
 use Rattle.sfv_examples.specs.Uses.{item_of_one}
 use Rattle.sfv_examples.proofs.writing.write_item.Goals as goal
 

@@ -1,13 +1,8 @@
 use Rattle.std.proofs.Common.{rules, ◌≡◌, [], true, ◌++◌, ◌∙◌, string_bytes, ap, append_assoc, subst, arith, Result, Ok}
-use Rattle.std.proofs.Common.{Err}
-use Rattle.std.specs.Prelude.{OnErr}
-use Rattle.std.proofs.lemmas.Result.{err_from_is_err_and}
-use Rattle.std.specs.Iterator.{Yields}
-use Rattle.std.specs.Map.Iter.{TakesFirst, deref_pair}
-use Rattle.sfv.specs.Canonical.{bare_text, item_text, parameters_text}
-use Rattle.sfv.specs.BareItems.{bare_value}
-use Rattle.sfv.specs.Trees.{pairs_tree, item_tree}
-use Rattle.sfv.specs.Versions.{StopsEarly, parameter_pairs, parts_text}
+use Rattle.std.{proofs.Common.{Err, OnErr}, specs.Iterator.Yields}
+use Rattle.std.{specs.Map.Iter.{TakesFirst, deref_pair}, proofs.lemmas.Result.err_from_is_err_and}
+use Rattle.sfv.specs.{BareItems.bare_value, Canonical.{bare_text, item_text, parameters_text}}
+use Rattle.sfv.specs.{Trees.{pairs_tree, item_tree}, Versions.{StopsEarly, parameter_pairs, parts_text}}
 use Rattle.sfv.proofs.Callers.{parameters_all, newer_stops, parameters_lack, room_after}
 use Rattle.sfv_examples.proofs.writing.write_parts.Goals as goal
 

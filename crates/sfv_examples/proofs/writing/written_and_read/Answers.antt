@@ -1,12 +1,6 @@
-use Rattle.std.proofs.Common.{rules, ◌≡◌}
-use Rattle.std.proofs.lemmas.Result.{IfOk-weaker, IfErr-weaker}
-use Rattle.sfv.specs.Values.{RawItem}
-use Rattle.sfv.specs.Types.{item_field, Rfc9651}
-use Rattle.sfv.specs.Canonical.{item_text}
-use Rattle.sfv.specs.BareItems.{ref_value}
-use Rattle.sfv.specs.CheckedTexts.{text_of as key_text}
-use Rattle.sfv.specs.Trees.{item_tree}
-use Rattle.sfv.proofs.Callers.{one_value, accepted_error}
+use Rattle.std.proofs.{Common.{rules, ◌≡◌}, lemmas.Result.{IfOk-weaker, IfErr-weaker}}
+use Rattle.sfv.specs.{BareItems.ref_value, Canonical.item_text, CheckedTexts.text_of as key_text, Trees.item_tree}
+use Rattle.sfv.{specs.Types.{item_field, Rfc9651}, specs.Values.RawItem, proofs.Callers.{one_value, accepted_error}}
 use Rattle.sfv_examples.specs.Uses.{item_of_one}
 use Rattle.sfv_examples.proofs.writing.written_and_read.Goals as goal
 

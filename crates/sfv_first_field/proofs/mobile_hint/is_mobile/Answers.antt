@@ -1,8 +1,5 @@
 use Rattle.std.proofs.Common.{ap}
-use Rattle.sfv.specs.BareItems.{bare_value}
-use Rattle.sfv.specs.Statements.{IsParsedAs}
-use Rattle.sfv.specs.Trees.{item_tree}
-use Rattle.sfv.specs.Types.{item_field, Rfc9651}
+use Rattle.sfv.specs.{BareItems.bare_value, Statements.IsParsedAs, Trees.item_tree, Types.{item_field, Rfc9651}}
 use Rattle.sfv_first_field.proofs.mobile_hint.is_mobile.Goals as goal
 
 pub returns-clause-read : goal.returns-clause-read

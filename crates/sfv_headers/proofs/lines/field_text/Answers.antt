@@ -1,6 +1,5 @@
-use Rattle.std.specs.Prelude.{map}
-use Rattle.sfv_headers.specs.Lines.{lines_in}
-use Rattle.sfv_headers.proofs.Joining.{none_yet, one_more}
+use Rattle.std.proofs.Common.{map}
+use Rattle.sfv_headers.{specs.Lines.lines_in, proofs.Joining.{none_yet, one_more}}
 use Rattle.sfv_headers.proofs.lines.field_text.Goals as goal
 
 pub loop-value-init : goal.loop-value-init

@@ -1,6 +1,5 @@
-use Rattle.std.specs.Prelude.{map}
-use Rattle.sfv_headers.specs.Lines.{lines_in}
-use Rattle.sfv_headers.proofs.Joining.{IsSoFar}
+use Rattle.std.proofs.Common.{map}
+use Rattle.sfv_headers.{specs.Lines.lines_in, proofs.Joining.IsSoFar}
 use Rattle.sfv_headers.proofs.lines.field_text.Given as goal
 
 abbrev pub invariant-loop-value : goal.invariant-loop-value

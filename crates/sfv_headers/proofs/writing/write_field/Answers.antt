@@ -1,5 +1,4 @@
-use Rattle.std.proofs.Common.{arith}
-use Rattle.std.specs.Prelude.{string_bytes}
+use Rattle.std.proofs.Common.{arith, string_bytes}
 use Rattle.sfv_headers.proofs.Writes.{printable, written_read, serializing_fails, text_of_member}
 use Rattle.sfv_headers.proofs.writing.write_field.Goals as goal
 

@@ -1,6 +1,4 @@
-use Rattle.std.proofs.Common.{sym}
-use Rattle.std.specs.Prelude.{codes}
-use Rattle.std.specs.Cow.{cow_slice_items}
+use Rattle.std.{proofs.Common.{sym, codes}, specs.Cow.cow_slice_items}
 use Rattle.sfv_readers.specs.Field.{list_field}
 use Rattle.sfv_headers.proofs.ReadErrors.{joining_fails}
 use Rattle.sfv_http_fields.proofs.Needs.{joining_needs, text_needs}

@@ -1,5 +1,5 @@
-use Rattle.sfv.proofs.Callers.{dictionary_tree-insert}
 use Rattle.std.proofs.Common.{refl}
+use Rattle.sfv.proofs.Callers.{dictionary_tree-insert}
 use Rattle.sfv_http_fields.proofs.content_digest.put.Goals as goal
 
 pub returns-in_ok-insert_entry-clause-members : goal.returns-in_ok-insert_entry-clause-members

@@ -1,5 +1,4 @@
-use Rattle.std.proofs.Common.{Result, Ok, Err}
-use Rattle.std.specs.Prelude.{OnErr}
+use Rattle.std.proofs.Common.{Result, Ok, Err, OnErr}
 use Rattle.sfv_http_fields.proofs.content_digest.reread.Goals as goal
 
 -- what always holds, holds for an error

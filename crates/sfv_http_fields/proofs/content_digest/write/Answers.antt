@@ -1,6 +1,5 @@
 use Rattle.std.proofs.lemmas.Result.{IfOk-weaker}
-use Rattle.sfv_http_fields.specs.ContentDigests.{digests_in}
-use Rattle.sfv_http_fields.proofs.Digests.{digests_written}
+use Rattle.sfv_http_fields.{specs.ContentDigests.digests_in, proofs.Digests.digests_written}
 use Rattle.sfv_http_fields.proofs.content_digest.write.Goals as goal
 
 pub returns-clause-read_back : goal.returns-clause-read_back

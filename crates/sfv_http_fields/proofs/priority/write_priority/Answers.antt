@@ -1,5 +1,4 @@
-use Rattle.sfv_http_fields.specs.Priority.{value_of}
-use Rattle.sfv_http_fields.proofs.PriorityTexts.{reads_back}
+use Rattle.sfv_http_fields.{specs.Priority.value_of, proofs.PriorityTexts.reads_back}
 use Rattle.sfv_http_fields.proofs.priority.write_priority.Goals as goal
 
 pub returns-clause-read_back : goal.returns-clause-read_back

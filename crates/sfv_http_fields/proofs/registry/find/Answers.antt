@@ -1,5 +1,5 @@
-use Rattle.sfv_http_fields.proofs.Rows.{row_found, row_passed}
 use Rattle.std.specs.Str.{str_eq_ignore_ascii_case}
+use Rattle.sfv_http_fields.proofs.Rows.{row_found, row_passed}
 use Rattle.sfv_http_fields.proofs.registry.find.Goals as goal
 
 pub returns-then-is_named : goal.returns-then-is_named

@@ -1,7 +1,4 @@
-use Rattle.std.proofs.Common.{◌≡◌, map}
-use Rattle.std.specs.Prelude.{drop}
-use Rattle.std.specs.Map.{lookup}
-use Rattle.std.specs.Str.{str_eq_ignore_ascii_case}
+use Rattle.std.{proofs.Common.{◌≡◌, map, drop}, specs.Map.lookup, specs.Str.str_eq_ignore_ascii_case}
 use Rattle.sfv_http_fields.proofs.registry.find.Given as goal
 
 abbrev pub invariant-loop-registered : goal.invariant-loop-registered

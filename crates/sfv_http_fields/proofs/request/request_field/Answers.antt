@@ -1,9 +1,6 @@
-use Rattle.std.proofs.Common.{length, take, refl}
-use Rattle.std.specs.Prelude.{map}
+use Rattle.std.proofs.Common.{length, take, refl, map}
 use Rattle.httparse.specs.Spans.{header_bytes}
-use Rattle.sfv_http_fields.specs.Lines.{text_of_lines}
-use Rattle.sfv_http_fields.proofs.Faults.{lines_fault}
-use Rattle.sfv_http_fields.proofs.Heads.{request_text}
+use Rattle.sfv_http_fields.{specs.Lines.text_of_lines, proofs.Faults.lines_fault, proofs.Heads.request_text}
 use Rattle.sfv_http_fields.proofs.request.request_field.Goals as goal
 
 pub returns-in_ok-text-in-Complete-clause-text : goal.returns-in_ok-text-in-Complete-clause-text

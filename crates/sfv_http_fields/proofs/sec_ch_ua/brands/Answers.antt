@@ -1,7 +1,5 @@
-use Rattle.std.proofs.Common.{inr}
-use Rattle.std.specs.Prelude.{map, vec_items}
-use Rattle.sfv_http_fields.specs.SecChUa.{brand_value}
-use Rattle.sfv_http_fields.proofs.BrandLists.{has_brand}
+use Rattle.std.proofs.Common.{inr, map, vec_items}
+use Rattle.sfv_http_fields.{specs.SecChUa.brand_value, proofs.BrandLists.has_brand}
 use Rattle.sfv_http_fields.proofs.sec_ch_ua.brands.Goals as goal
 
 pub returns-then-read-clause-memory : goal.returns-then-read-clause-memory

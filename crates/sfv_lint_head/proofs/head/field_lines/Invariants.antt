@@ -1,5 +1,4 @@
-use Rattle.std.proofs.Common.{◌≡◌, take}
-use Rattle.std.specs.Prelude.{map}
+use Rattle.std.proofs.Common.{◌≡◌, take, map}
 use Rattle.httparse.specs.Spans.{header_bytes}
 use Rattle.sfv_lint_head.specs.Heads.{line_of}
 use Rattle.sfv_lint_head.proofs.head.field_lines.Given as goal

@@ -1,8 +1,7 @@
 use Rattle.std.proofs.Common.{sym, ◌∙◌}
-use Rattle.sfv_lint_head.specs.Heads.{line_of}
-use Rattle.sfv_lint_head.proofs.Steps.{value_kept, value_left_out}
-use Rattle.sfv_lint_head.proofs.head.values.Goals as goal
+use Rattle.sfv_lint_head.{specs.Heads.line_of, proofs.Steps.{value_kept, value_left_out}}
 use Rattle.sfv_lint_head.proofs.head.values.Goals.{then-is_named+in_ok-from_slice+in_ok-push, else-is_named}
+use Rattle.sfv_lint_head.proofs.head.values.Goals as goal
 
 pub loop-line-preserved : goal.loop-line-preserved
 loop-line-preserved c = elim c.if-is_named.branch [

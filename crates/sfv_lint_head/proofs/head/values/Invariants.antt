@@ -1,5 +1,4 @@
-use Rattle.std.proofs.Common.{◌≡◌, take}
-use Rattle.std.specs.Prelude.{map}
+use Rattle.std.proofs.Common.{◌≡◌, take, map}
 use Rattle.sfv_lint_head.specs.Heads.{values_of, line_of}
 use Rattle.sfv_lint_head.proofs.head.values.Given as goal
 

@@ -1,5 +1,4 @@
-use Rattle.std.proofs.Common.{◌≡◌, ◌++◌, take}
-use Rattle.std.specs.Prelude.{map}
+use Rattle.std.proofs.Common.{◌≡◌, ◌++◌, take, map}
 use Rattle.sfv_lint_head.proofs.Joining.{more_lines}
 use Rattle.sfv_lint_head.proofs.lines.join.Given as goal
 

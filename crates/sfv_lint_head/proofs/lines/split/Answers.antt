@@ -15,7 +15,6 @@ loop-rest-preserved-in_ok-push c = rw c.in_ok-push.ensures.items (line_added c.a
     c.in_ok-from_slice.field-0 c.in_ok-from_slice.ensures.items (sym c.if-not-is_empty.ensures))
 
 pub loop-rest-preserved : goal.loop-rest-preserved
-loop-rest-preserved c = line_left_out c.args.text.now c.loop-rest.rest.now c.without_return-line.result.now
-    c.split_line.result.1.now (λ line. line.items) c.loop-rest.lines.items c.loop-rest.invariant c.split_line.ensures.rest
+loop-rest-preserved c = line_left_out c.args.text.now _ _ _ _ _ c.loop-rest.invariant c.split_line.ensures.rest
     (sym c.loop-rest-test.ensures) (rw (← c.split_line.ensures.line) c.without_return-line.ensures)
     (sym c.if-not-is_empty.ensures)

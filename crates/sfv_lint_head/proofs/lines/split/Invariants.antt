@@ -1,5 +1,4 @@
-use Rattle.std.proofs.Common.{◌≡◌, ◌++◌, length}
-use Rattle.std.specs.Prelude.{map}
+use Rattle.std.proofs.Common.{◌≡◌, ◌++◌, length, map}
 use Rattle.sfv_lint_head.specs.Lines.{value_lines}
 use Rattle.sfv_lint_head.proofs.lines.split.Given as goal
 

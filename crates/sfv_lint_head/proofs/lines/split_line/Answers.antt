@@ -1,5 +1,4 @@
-use Rattle.std.proofs.Common.{sym, arith}
-use Rattle.std.proofs.lemmas.Grind.{common_steps}
+use Rattle.std.proofs.{Common.{sym, arith}, lemmas.Grind.common_steps}
 use Rattle.sfv_lint_head.proofs.Steps.{first_line_at, after_line_at, first_line_none, after_line_none}
 use Rattle.sfv_lint_head.proofs.lines.split_line.Goals as goal
 

@@ -1,6 +1,4 @@
-use Rattle.std.proofs.Common.{arith}
-use Rattle.std.proofs.lemmas.Grind.{common_steps}
-use Rattle.std.proofs.lemmas.List.{replicate-append-replicate}
+use Rattle.std.proofs.{Common.arith, lemmas.Grind.common_steps, lemmas.List.replicate-append-replicate}
 use Rattle.sfv_lint_head.proofs.shown.append_caret.Goals as goal
 
 pub loop-byte-preserved : goal.loop-byte-preserved

@@ -1,5 +1,4 @@
-use Rattle.std.proofs.Common.{◌≡◌, ◌++◌, take, length}
-use Rattle.std.specs.Prelude.{string_bytes, replicate}
+use Rattle.std.proofs.Common.{◌≡◌, ◌++◌, take, length, string_bytes, replicate}
 use Rattle.sfv_lint_head.specs.Shown.{shown}
 use Rattle.sfv_lint_head.proofs.shown.append_caret.Given as goal
 

@@ -1,5 +1,4 @@
-use Rattle.std.proofs.Common.{◌≡◌, ◌++◌, take}
-use Rattle.std.specs.Prelude.{string_bytes}
+use Rattle.std.proofs.Common.{◌≡◌, ◌++◌, take, string_bytes}
 use Rattle.sfv_lint_head.specs.Shown.{shown}
 use Rattle.sfv_lint_head.proofs.shown.append_shown.Given as goal
 

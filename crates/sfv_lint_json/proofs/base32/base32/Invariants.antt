@@ -1,5 +1,4 @@
-use Rattle.std.proofs.Common.{◌≡◌, ◌++◌, string_bytes}
-use Rattle.std.specs.Slice.Iter.{chunks_rest, chunks_size}
+use Rattle.std.{proofs.Common.{◌≡◌, ◌++◌, string_bytes}, specs.Slice.Iter.{chunks_rest, chunks_size}}
 use Rattle.sfv_lint_json.specs.Base32.{base32_text}
 use Rattle.sfv_lint_json.proofs.base32.base32.Given as goal
 

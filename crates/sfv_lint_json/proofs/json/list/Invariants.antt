@@ -1,5 +1,4 @@
-use Rattle.std.proofs.Common.{◌≡◌, take}
-use Rattle.std.specs.Prelude.{map}
+use Rattle.std.proofs.Common.{◌≡◌, take, map}
 use Rattle.serde_json.specs.View.{view}
 use Rattle.sfv.specs.Trees.{list_tree}
 use Rattle.sfv_lint_json.specs.Json.{member_json}

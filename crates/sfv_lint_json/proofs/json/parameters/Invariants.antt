@@ -1,9 +1,8 @@
-use Rattle.std.proofs.Common.{◌≡◌, ◌++◌}
-use Rattle.std.specs.Prelude.{map}
-use Rattle.serde_json.specs.Data as json
+use Rattle.std.proofs.Common.{◌≡◌, ◌++◌, map}
 use Rattle.serde_json.specs.View.{view}
 use Rattle.sfv.specs.Trees.{pairs_tree}
 use Rattle.sfv_lint_json.specs.Json.{pair_json, bare_json}
+use Rattle.serde_json.specs.Data as json
 use Rattle.sfv_lint_json.proofs.json.parameters.Given as goal
 
 abbrev pub invariant-loop-key : goal.invariant-loop-key

@@ -1,6 +1,5 @@
 use Rattle.std.proofs.Common.{◌≡◌, ◌++◌, string_bytes}
-use Rattle.sfv.specs.Types.{dictionary_field}
-use Rattle.sfv.specs.Trees.{dictionary_tree}
+use Rattle.sfv.specs.{Trees.dictionary_tree, Types.dictionary_field}
 use Rattle.sfv_lint_json.specs.Trees.{field_lines}
 use Rattle.sfv_lint_json.proofs.tree.append_dictionary.Given as goal
 

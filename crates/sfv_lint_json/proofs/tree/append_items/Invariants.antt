@@ -1,5 +1,4 @@
-use Rattle.std.proofs.Common.{◌≡◌, ◌++◌, string_bytes, take}
-use Rattle.std.specs.Prelude.{map}
+use Rattle.std.proofs.Common.{◌≡◌, ◌++◌, string_bytes, take, map}
 use Rattle.sfv.specs.Trees.{item_tree}
 use Rattle.sfv_lint_json.specs.Trees.{items_lines}
 use Rattle.sfv_lint_json.proofs.tree.append_items.Given as goal

@@ -1,6 +1,5 @@
 use Rattle.std.proofs.Common.{◌≡◌, ◌++◌, string_bytes, take}
-use Rattle.sfv.specs.Types.{list_field}
-use Rattle.sfv.specs.Trees.{list_tree}
+use Rattle.sfv.specs.{Trees.list_tree, Types.list_field}
 use Rattle.sfv_lint_json.specs.Trees.{field_lines}
 use Rattle.sfv_lint_json.proofs.tree.append_list.Given as goal
 

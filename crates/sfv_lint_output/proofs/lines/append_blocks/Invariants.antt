@@ -1,5 +1,4 @@
-use Rattle.std.proofs.Common.{take}
-use Rattle.std.specs.Prelude.{string_bytes}
+use Rattle.std.proofs.Common.{take, string_bytes}
 use Rattle.sfv_lint_output.specs.Lines.{AppendsBlocks}
 use Rattle.sfv_lint_output.proofs.lines.append_blocks.Given as goal
 

@@ -1,5 +1,4 @@
-use Rattle.std.proofs.Common.{◌≡◌, ◌++◌, take}
-use Rattle.std.specs.Prelude.{flat_map, string_bytes}
+use Rattle.std.proofs.Common.{◌≡◌, ◌++◌, take, flat_map, string_bytes}
 use Rattle.sfv_lint_output.specs.Lines.{note_line}
 use Rattle.sfv_lint_output.proofs.lines.append_note_lines.Given as goal
 

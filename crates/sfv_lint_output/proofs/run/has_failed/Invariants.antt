@@ -1,5 +1,4 @@
-use Rattle.std.proofs.Common.{◌≡◌, false, take}
-use Rattle.std.specs.List.{list_any}
+use Rattle.std.{proofs.Common.{◌≡◌, false, take}, specs.List.list_any}
 use Rattle.sfv_lint_report.specs.Reports.{has_error}
 use Rattle.sfv_lint_output.proofs.run.has_failed.Given as goal
 

@@ -1,5 +1,4 @@
-use Rattle.std.proofs.Common.{◌≡◌, ◌++◌, take}
-use Rattle.std.specs.Prelude.{flat_map, string_bytes}
+use Rattle.std.proofs.Common.{◌≡◌, ◌++◌, take, flat_map, string_bytes}
 use Rattle.sfv_lint_report.specs.Prints.{other_text}
 use Rattle.sfv_lint_report.proofs.print.append_others.Given as goal
 

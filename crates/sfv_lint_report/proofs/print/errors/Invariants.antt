@@ -1,5 +1,4 @@
-use Rattle.std.proofs.Common.{◌≡◌, ◌≤◌, take, length}
-use Rattle.std.specs.Prelude.{filter}
+use Rattle.std.proofs.Common.{◌≡◌, ◌≤◌, take, length, filter}
 use Rattle.sfv_lint_report.specs.Reports.{has_error}
 use Rattle.sfv_lint_report.proofs.print.errors.Given as goal
 

@@ -1,5 +1,4 @@
-use Rattle.std.proofs.Common.{◌≡◌, false, take}
-use Rattle.std.specs.List.{list_any}
+use Rattle.std.{proofs.Common.{◌≡◌, false, take}, specs.List.list_any}
 use Rattle.sfv_lint_report.specs.Reports.{is_of_name}
 use Rattle.sfv_lint_report.proofs.report.has_field.Given as goal
 

@@ -1,4 +1,4 @@
-use Rattle.std.specs.Prelude.{map}
+use Rattle.std.proofs.Common.{map}
 use Rattle.sfv_lint_head.specs.Heads.{line_of}
 use Rattle.sfv_lint_report.proofs.Fields.{one_more_line, all_lines}
 use Rattle.sfv_lint_report.proofs.report.report_head.Goals as goal

@@ -1,5 +1,4 @@
-use Rattle.std.proofs.Common.{take}
-use Rattle.std.specs.Prelude.{map, All}
+use Rattle.std.proofs.Common.{take, map, All}
 use Rattle.sfv_lint_head.specs.Heads.{line_of}
 use Rattle.sfv_lint_report.specs.Reports.{AreFieldsOf, IsCovered}
 use Rattle.sfv_lint_report.proofs.report.report_head.Given as goal

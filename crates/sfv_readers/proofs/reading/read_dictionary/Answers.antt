@@ -1,9 +1,6 @@
 use Rattle.std.proofs.Common.{[], sym, subst, inr}
-use Rattle.sfv_spec.specs.declared.field_kind.FieldKind.TheVariants.{Dictionary as dictionary_field}
-use Rattle.sfv.proofs.Callers.{has_visitor_error}
-use Rattle.sfv_readers.specs.Steps.{DictionaryTakes}
-use Rattle.sfv_readers.proofs.Memory.{reader_fails}
-use Rattle.sfv_readers.proofs.Found.{dictionary_found}
+use Rattle.sfv.{specs.Field.dictionary_field, proofs.Callers.has_visitor_error}
+use Rattle.sfv_readers.{specs.Steps.DictionaryTakes, proofs.Found.dictionary_found, proofs.Memory.reader_fails}
 use Rattle.sfv_readers.proofs.reading.read_dictionary.Goals as goal
 
 pub returns-in-Ok-clause-read : goal.returns-in-Ok-clause-read

@@ -1,10 +1,6 @@
-use Rattle.std.proofs.Common.{[], sym, subst, inr}
-use Rattle.std.specs.Prelude.{◌⊎◌}
-use Rattle.sfv_spec.specs.declared.field_kind.FieldKind.TheVariants.{List as list_field}
-use Rattle.sfv.proofs.Callers.{has_visitor_error}
-use Rattle.sfv_readers.specs.Steps.{ListTakes}
-use Rattle.sfv_readers.proofs.Memory.{reader_fails}
-use Rattle.sfv_readers.proofs.Found.{list_found}
+use Rattle.std.proofs.Common.{[], sym, subst, inr, ◌⊎◌}
+use Rattle.sfv.{specs.Field.list_field, proofs.Callers.has_visitor_error}
+use Rattle.sfv_readers.{specs.Steps.ListTakes, proofs.Found.list_found, proofs.Memory.reader_fails}
 use Rattle.sfv_readers.proofs.reading.read_list.Goals as goal
 
 pub returns-in-Ok-clause-read : goal.returns-in-Ok-clause-read

@@ -1,12 +1,9 @@
 use Rattle.std.proofs.Common.{◌↔◌, IsTrue, IfOk, OnOk, subst, rules}
-use Rattle.sfv_spec.specs.Values.{IsFieldValue, HasMember}
+use Rattle.sfv_spec.specs.{Canonical.canonical, Values.{IsFieldValue, HasMember}}
 use Rattle.sfv_spec.specs.declared.field_kind.FieldKind.TheVariants.{Dictionary as dictionary_field}
-use Rattle.sfv_spec.specs.Canonical.{canonical}
 use Rattle.sfv_writer.specs.Written.{AppendsOrKeeps}
-use Rattle.sfv_serializer.specs.Scripts.{described_dictionary}
-use Rattle.sfv_serializer.specs.ScriptSteps.{dictionary_described}
-use Rattle.sfv_serializer.proofs.Described.{dictionary_described_is, dictionary_lacks}
-use Rattle.sfv_serializer.proofs.WhereFit.{read_back_where_fit}
+use Rattle.sfv_serializer.specs.{ScriptSteps.dictionary_described, Scripts.described_dictionary}
+use Rattle.sfv_serializer.proofs.{Described.{dictionary_described_is, dictionary_lacks}, WhereFit.read_back_where_fit}
 use Rattle.sfv_serializer.proofs.script.run_dict.Goals as goal
 
 pub returns-then-is_err-clause-room : goal.returns-then-is_err-clause-room

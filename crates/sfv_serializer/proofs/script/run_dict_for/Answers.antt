@@ -1,9 +1,7 @@
 use Rattle.sfv_spec.specs.declared.field_kind.FieldKind.TheVariants.{Dictionary as dictionary_field}
-use Rattle.sfv_writer.proofs.Checks.{at_exit}
-use Rattle.sfv_writer.proofs.ReadBack.{read_back}
+use Rattle.sfv_writer.proofs.{Checks.at_exit, ReadBack.read_back}
 use Rattle.sfv_serializer.specs.Scripts.{described_dictionary}
-use Rattle.sfv_serializer.proofs.Described.{dictionary_fits}
-use Rattle.sfv_serializer.proofs.Handed.{named_dictionary}
+use Rattle.sfv_serializer.proofs.{Described.dictionary_fits, Handed.named_dictionary}
 use Rattle.sfv_serializer.proofs.script.run_dict_for.Goals as goal
 
 pub returns-clause-read_back : goal.returns-clause-read_back
@@ -14,6 +12,5 @@ returns-clause-read_back c =
     (dictionary_fits version calls c.in_ok-check_dictionary_calls.ensures)
 
 pub returns-in_err-check_dictionary_calls-clause-some : goal.returns-in_err-check_dictionary_calls-clause-some
-returns-in_err-check_dictionary_calls-clause-some c =
-    at_exit c.from_residual.result _ _ _ c.from_residual.ensures.1
+returns-in_err-check_dictionary_calls-clause-some c = at_exit c.from_residual.result _ _ _ c.from_residual.ensures.1
     (named_dictionary c.args.version c.args.calls.now _ c.in_err-check_dictionary_calls.ensures)

@@ -1,18 +1,14 @@
-use Rattle.std.proofs.Common.{[], ◌∷◌, ◌<◌, ◌≤◌, length, refl, ◌∙◌, codes, rules}
-use Rattle.std.proofs.lemmas.List.{append-nil, take_all}
-use Rattle.sfv_values.specs.CheckedTexts.{text_of as key_text}
-use Rattle.sfv_values.specs.BareItems.{ref_value}
+use Rattle.std.proofs.Common.{[], ◌∷◌, ◌<◌, ◌≤◌, length, refl, ◌∙◌, codes, rules, append-nil, take_all}
+use Rattle.sfv_values.specs.{BareItems.ref_value, CheckedTexts.text_of as key_text}
 use Rattle.sfv_writer.specs.Written.{separator_before, keyed_text, param_text}
 use Rattle.sfv_serializer.specs.Serializers.{is_empty_so_far}
-use Rattle.sfv_serializer.proofs.Scripts.{kept_grown, of_error}
-use Rattle.sfv_serializer.proofs.Room.{params_lack, memory_lacks}
+use Rattle.sfv_serializer.proofs.{Room.{params_lack, memory_lacks}, Scripts.{kept_grown, of_error}}
 use Rattle.sfv_serializer.proofs.Steps.{put_before, params_text_more, are_params_more, grows, kept_grows, more_at}
 use Rattle.sfv_serializer.proofs.Steps.{more_after}
 use Rattle.sfv_serializer.proofs.script.write_dictionary_item.Goals as goal
 
 pub returns-in-Err-clause-out_of_memory : goal.returns-in-Err-clause-out_of_memory
-returns-in-Err-clause-out_of_memory g c =
-    kept_grows g.W.Sink c.args.dictionary.now c.bare_item.follows.lender-at-none
+returns-in-Err-clause-out_of_memory g c = kept_grows g.W.Sink c.args.dictionary.now c.bare_item.follows.lender-at-none
     (of_error _ _ _ c.in-Err.is c.bare_item.follows.holds-at-none).0
 
 pub loop-call-init : goal.loop-call-init

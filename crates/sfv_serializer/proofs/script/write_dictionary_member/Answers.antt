@@ -1,9 +1,7 @@
 use Rattle.std.proofs.Common.{◌≡◌, rules}
 use Rattle.sfv_values.specs.CheckedTexts.{text_of as key_text}
-use Rattle.sfv_serializer.specs.ScriptSteps.{member_calls, inner_list_calls}
-use Rattle.sfv_serializer.specs.Serializers.{is_empty_so_far}
-use Rattle.sfv_serializer.proofs.Room.{on_err, dictionary_inner_lacks}
-use Rattle.sfv_serializer.proofs.Scripts.{dictionary_inner_written}
+use Rattle.sfv_serializer.specs.{ScriptSteps.{member_calls, inner_list_calls}, Serializers.is_empty_so_far}
+use Rattle.sfv_serializer.proofs.{Room.{on_err, dictionary_inner_lacks}, Scripts.dictionary_inner_written}
 use Rattle.sfv_serializer.proofs.script.write_dictionary_member.Goals as goal
 
 pub returns-in-InnerList-clause-text : goal.returns-in-InnerList-clause-text

@@ -1,15 +1,9 @@
-use Rattle.std.proofs.Common.{◌<◌, ◌∙◌, length, codes, rules}
-use Rattle.std.proofs.lemmas.List.{take_all}
-use Rattle.std.specs.Prelude.{IsTrue, option_map}
-use Rattle.sfv_spec.specs.Classes.{is_key}
-use Rattle.sfv_spec.specs.Values.{IsMember}
-use Rattle.sfv_spec.specs.Canonical.{dictionary_member_text}
-use Rattle.sfv_serializer.specs.ScriptSteps.{written_member, member_calls, added_text_of_pair}
+use Rattle.std.proofs.Common.{◌<◌, ◌∙◌, length, codes, rules, take_all, IsTrue, option_map}
+use Rattle.sfv_spec.specs.{Canonical.dictionary_member_text, Classes.is_key, Values.IsMember}
 use Rattle.sfv_values.specs.CheckedTexts.{text_of as key_text}
 use Rattle.sfv_writer.proofs.Separated.{anyway}
-use Rattle.sfv_serializer.proofs.Room.{calls_lack}
-use Rattle.sfv_serializer.proofs.Scripts.{calls_more, no_less}
-use Rattle.sfv_serializer.proofs.Steps.{grown_again}
+use Rattle.sfv_serializer.specs.ScriptSteps.{written_member, member_calls, added_text_of_pair}
+use Rattle.sfv_serializer.proofs.{Room.calls_lack, Scripts.{calls_more, no_less}, Steps.grown_again}
 use Rattle.sfv_serializer.proofs.script.write_dictionary_members.Goals as goal
 
 pub loop-name-preserved : goal.loop-name-preserved

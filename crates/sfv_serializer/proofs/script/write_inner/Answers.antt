@@ -1,11 +1,7 @@
-use Rattle.std.proofs.Common.{[], ◌∷◌, codes, map, ◌∙◌, subst, rules}
-use Rattle.std.proofs.lemmas.List.{take_all}
-use Rattle.sfv_writer.specs.Written.{separator_before, param_text}
-use Rattle.sfv_values.specs.CheckedTexts.{text_of as key_text}
-use Rattle.sfv_values.specs.BareItems.{ref_value}
-use Rattle.sfv_writer.proofs.Separated.{anyway}
-use Rattle.sfv_serializer.specs.Serializers.{is_empty_so_far, KeepsSequence}
-use Rattle.sfv_serializer.specs.Scripts.{param_of_call, item_of_calls}
+use Rattle.std.proofs.Common.{[], ◌∷◌, codes, map, ◌∙◌, subst, rules, take_all}
+use Rattle.sfv_values.specs.{BareItems.ref_value, CheckedTexts.text_of as key_text}
+use Rattle.sfv_writer.{specs.Written.{separator_before, param_text}, proofs.Separated.anyway}
+use Rattle.sfv_serializer.specs.{Scripts.{param_of_call, item_of_calls}, Serializers.{is_empty_so_far, KeepsSequence}}
 use Rattle.sfv_serializer.proofs.Room.{unseparated, opening_lacks, either_lacks, ending_lacks, params_after_lack}
 use Rattle.sfv_serializer.proofs.Room.{params_lack, memory_lacks}
 use Rattle.sfv_serializer.proofs.Scripts.{begun_grown, more_grown, kept_grown, taken_away, away_grown, of_error}

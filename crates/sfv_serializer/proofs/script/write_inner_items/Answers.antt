@@ -1,8 +1,6 @@
-use Rattle.std.proofs.Common.{◌<◌, length, arith, refl, sym, ◌∙◌, rules}
-use Rattle.std.proofs.lemmas.List.{append-nil}
+use Rattle.std.proofs.Common.{◌<◌, length, arith, refl, sym, ◌∙◌, rules, append-nil}
 use Rattle.sfv_writer.proofs.Separated.{anyway}
-use Rattle.sfv_serializer.proofs.Room.{next_item_lacks}
-use Rattle.sfv_serializer.proofs.Scripts.{item_more, no_less}
+use Rattle.sfv_serializer.proofs.{Room.next_item_lacks, Scripts.{item_more, no_less}}
 use Rattle.sfv_serializer.proofs.script.write_inner_items.Goals as goal
 
 pub loop-calls-init : goal.loop-calls-init
@@ -27,8 +25,7 @@ loop-calls-preserved g c =
         w.text.0.3 ∙ row.0.3,
         w.text.0.4 ∙ row.0.4,
       ),
-      item_more items c.loop-calls.calls-index c.calls-item.result _ _ _ _ _ _ within c.calls-item.is row.1 w.text.2
-          w.text.1 w.value,
+      item_more _ _ _ _ _ _ _ _ _ within c.calls-item.is row.1 w.text.2 w.text.1 w.value,
       w.text.3 ∙ row.2,
       w.text.4 ∙ row.3,
       no_less row.4 w.text.5,

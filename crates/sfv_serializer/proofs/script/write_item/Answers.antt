@@ -1,10 +1,8 @@
 use Rattle.std.proofs.Common.{[], ◌∷◌, ◌<◌, length, arith}
 use Rattle.sfv_spec.specs.Canonical.{bare_text}
-use Rattle.sfv_values.specs.CheckedTexts.{text_of as key_text}
-use Rattle.sfv_values.specs.BareItems.{ref_value}
+use Rattle.sfv_values.specs.{BareItems.ref_value, CheckedTexts.text_of as key_text}
 use Rattle.sfv_writer.specs.Written.{param_text}
-use Rattle.sfv_serializer.proofs.Room.{params_lack, memory_lacks}
-use Rattle.sfv_serializer.proofs.Scripts.{of_error, no_less}
+use Rattle.sfv_serializer.proofs.{Room.{params_lack, memory_lacks}, Scripts.{of_error, no_less}}
 use Rattle.sfv_serializer.proofs.script.write_item.Goals as goal
 
 pub returns-in-Err-parameter-clause-room : goal.returns-in-Err-parameter-clause-room

@@ -1,10 +1,8 @@
 use Rattle.std.proofs.Common.{◌<◌, ◌∙◌, length, codes, rules}
-use Rattle.sfv_spec.specs.Values.{IsMember}
-use Rattle.sfv_spec.specs.Canonical.{member_text}
-use Rattle.sfv_serializer.specs.ScriptSteps.{written_member, member_calls, added_text}
+use Rattle.sfv_spec.specs.{Canonical.member_text, Values.IsMember}
 use Rattle.sfv_writer.proofs.Separated.{anyway}
-use Rattle.sfv_serializer.proofs.Room.{calls_lack}
-use Rattle.sfv_serializer.proofs.Scripts.{calls_more, no_less}
+use Rattle.sfv_serializer.specs.ScriptSteps.{written_member, member_calls, added_text}
+use Rattle.sfv_serializer.proofs.{Room.calls_lack, Scripts.{calls_more, no_less}}
 use Rattle.sfv_serializer.proofs.script.write_list_members.Goals as goal
 
 pub loop-member-preserved : goal.loop-member-preserved

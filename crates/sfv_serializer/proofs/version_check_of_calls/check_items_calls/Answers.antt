@@ -1,8 +1,7 @@
 use Rattle.std.proofs.Common.{◌<◌, length, rules}
 use Rattle.sfv_spec.specs.Values.{item_values}
 use Rattle.sfv_writer.proofs.Checks.{at_exit}
-use Rattle.sfv_serializer.proofs.Slices.{slice_more, slice_stops}
-use Rattle.sfv_serializer.specs.Scripts.{item_of_calls}
+use Rattle.sfv_serializer.{specs.Scripts.item_of_calls, proofs.Slices.{slice_more, slice_stops}}
 use Rattle.sfv_serializer.proofs.version_check_of_calls.check_items_calls.Goals as goal
 
 pub loop-calls-preserved : goal.loop-calls-preserved

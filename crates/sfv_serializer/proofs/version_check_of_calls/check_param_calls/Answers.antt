@@ -1,12 +1,8 @@
-use Rattle.std.proofs.Common.{◌<◌, length, map, subst, rules}
-use Rattle.std.specs.Prelude.{flat_map}
-use Rattle.std.proofs.lemmas.List.{take_all}
+use Rattle.std.proofs.Common.{◌<◌, length, map, subst, rules, flat_map, take_all}
 use Rattle.sfv_spec.specs.Values.{AllFit}
-use Rattle.sfv_writer.specs.Versions.{NamesFirstUnfit}
-use Rattle.sfv_writer.proofs.Checks.{at_exit}
-use Rattle.sfv_serializer.proofs.Slices.{slice_more, slice_stops}
+use Rattle.sfv_writer.{specs.Versions.NamesFirstUnfit, proofs.Checks.at_exit}
 use Rattle.sfv_serializer.specs.Scripts.{param_of_call}
-use Rattle.sfv_serializer.proofs.Handed.{values_of_param, params_values}
+use Rattle.sfv_serializer.proofs.{Handed.{values_of_param, params_values}, Slices.{slice_more, slice_stops}}
 use Rattle.sfv_serializer.proofs.version_check_of_calls.check_param_calls.Goals as goal
 
 pub loop-call-preserved : goal.loop-call-preserved
@@ -21,14 +17,12 @@ returns-in_err-check_bare_item c =
     let calls = c.args.calls.now in
     let within : c.loop-call.call-index < length calls = search rules in
     at_exit c.from_residual.result _ _ _ c.from_residual.ensures.1
-    (subst (λ bs. NamesFirstUnfit c.args.version bs c.in_err-check_bare_item.field-0.0)
-    (params_values (map param_of_call calls))
-    (slice_stops c.args.version param_of_call values_of_param calls c.loop-call.call-index
+    (subst (λ bs. NamesFirstUnfit c.args.version bs c.in_err-check_bare_item.field-0.0) (params_values
+    (map param_of_call calls)) (slice_stops c.args.version param_of_call values_of_param calls c.loop-call.call-index
     c.call-item.result _ within c.call-item.is c.loop-call.invariant c.in_err-check_bare_item.ensures))
 
 pub returns : goal.returns
 returns c =
     let calls = c.args.calls.now in
-    subst (AllFit c.args.version) (params_values (map param_of_call calls))
-    (subst (λ cs. AllFit c.args.version (flat_map values_of_param (map param_of_call cs)))
-    (take_all c.loop-call.call-index calls (search rules)) c.loop-call.invariant)
+    subst (AllFit c.args.version) (params_values _) (subst (λ cs. AllFit c.args.version (flat_map values_of_param
+    (map param_of_call cs))) (take_all c.loop-call.call-index calls (search rules)) c.loop-call.invariant)

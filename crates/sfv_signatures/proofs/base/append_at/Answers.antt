@@ -1,4 +1,4 @@
-use Rattle.std.specs.Prelude.{string_bytes}
+use Rattle.std.proofs.Common.{string_bytes}
 use Rattle.sfv.specs.Trees.{item_tree}
 use Rattle.sfv_signatures.proofs.Lined.{appended_at, broken_at}
 use Rattle.sfv_signatures.proofs.base.append_at.Goals as goal

@@ -1,13 +1,8 @@
-use Rattle.std.proofs.Common.{◌≡◌, map, sym, ◌∙◌, ap, subst}
-use Rattle.std.specs.Prelude.{◌≢◌, Any, codes, string_bytes, Err}
-use Rattle.std.proofs.lemmas.Bool.{false≢true}
-use Rattle.std.proofs.lemmas.Slice.Eq.{bytes_eq-Decides}
-use Rattle.sfv.specs.Values.{string}
-use Rattle.sfv.specs.Canonical.{item_text}
-use Rattle.sfv.specs.Trees.{item_tree}
-use Rattle.sfv_signatures.specs.SignatureBase.{AreSame, Gives}
+use Rattle.std.proofs.Common.{◌≡◌, map, sym, ◌∙◌, ap, subst, ◌≢◌, Any, codes, string_bytes, Err}
+use Rattle.std.proofs.lemmas.{Bool.false≢true, Slice.Eq.bytes_eq-Decides}
+use Rattle.sfv.specs.{Canonical.item_text, Trees.item_tree, Values.string}
 use Rattle.sfv_signatures.specs.Components.{UnlessMemory}
-use Rattle.sfv_signatures.specs.declared.base_error.BaseErrorKind.{BaseErrorKind}
+use Rattle.sfv_signatures.specs.{SignatureBase.{AreSame, Gives}, declared.base_error.BaseErrorKind.BaseErrorKind}
 use Rattle.sfv_signatures.proofs.Named.{line_parts, named_value, named_fault, on_error}
 use Rattle.sfv_signatures.proofs.base.append_line.Goals as goal
 

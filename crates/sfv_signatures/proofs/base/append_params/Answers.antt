@@ -1,9 +1,5 @@
-use Rattle.std.proofs.Common.{[], ◌∷◌}
-use Rattle.std.specs.Prelude.{codes, string_bytes}
-use Rattle.sfv.specs.Canonical.{inner_list_text}
-use Rattle.sfv.specs.Trees.{inner_list_tree}
-use Rattle.sfv.specs.Types.{list_field, Rfc9651}
-use Rattle.sfv.specs.Values.{inner_list}
+use Rattle.std.proofs.Common.{[], ◌∷◌, codes, string_bytes}
+use Rattle.sfv.specs.{Canonical.inner_list_text, Trees.inner_list_tree, Types.{list_field, Rfc9651}, Values.inner_list}
 use Rattle.sfv.proofs.Callers.{read_is_value}
 use Rattle.sfv_signatures.proofs.Named.{two_parts}
 use Rattle.sfv_signatures.proofs.base.append_params.Goals as goal

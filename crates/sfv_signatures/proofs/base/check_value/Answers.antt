@@ -1,5 +1,4 @@
-use Rattle.std.proofs.Common.{sym, ◌∙◌}
-use Rattle.std.specs.Str.{IsAscii, IsNotAscii}
+use Rattle.std.{proofs.Common.{sym, ◌∙◌, IsAscii}, specs.Str.IsNotAscii}
 use Rattle.sfv_signatures.proofs.Ascii.{ascii_checked, broken_checked, other_checked}
 use Rattle.sfv_signatures.proofs.base.check_value.Goals as goal
 

@@ -1,5 +1,4 @@
-use Rattle.std.proofs.Common.{◌≡◌, false, take}
-use Rattle.std.specs.List.{list_any}
+use Rattle.std.{proofs.Common.{◌≡◌, false, take}, specs.List.list_any}
 use Rattle.sfv_signatures.specs.SignatureBase.{is_line_break}
 use Rattle.sfv_signatures.proofs.base.has_line_break.Given as goal
 

@@ -1,10 +1,7 @@
-use Rattle.std.proofs.Common.{◌≡◌, subst}
-use Rattle.std.specs.Prelude.{string_bytes}
+use Rattle.std.proofs.Common.{◌≡◌, subst, string_bytes}
 use Rattle.sfv.specs.Trees.{inner_list_tree}
-use Rattle.sfv_signatures.specs.declared.base_error.BaseError.{BaseError}
-use Rattle.sfv_signatures.specs.Components.{IsBaseError}
-use Rattle.sfv_signatures.proofs.Lined.{step_more, error_at}
-use Rattle.sfv_signatures.proofs.Named.{on_error}
+use Rattle.sfv_signatures.specs.{Components.IsBaseError, declared.base_error.BaseError.BaseError}
+use Rattle.sfv_signatures.proofs.{Lined.{step_more, error_at}, Named.on_error}
 use Rattle.sfv_signatures.proofs.base.signature_base.Goals as goal
 
 pub returns-in_err-append_at-clause-failed : goal.returns-in_err-append_at-clause-failed

@@ -1,5 +1,4 @@
-use Rattle.std.proofs.Common.{take}
-use Rattle.std.specs.Prelude.{string_bytes}
+use Rattle.std.proofs.Common.{take, string_bytes}
 use Rattle.sfv.specs.Trees.{inner_list_tree}
 use Rattle.sfv_signatures.proofs.Lined.{HasLines}
 use Rattle.sfv_signatures.proofs.base.signature_base.Given as goal

@@ -1,7 +1,5 @@
-use Rattle.std.specs.Prelude.{Ok}
-use Rattle.sfv.specs.Canonical.{canonical}
-use Rattle.sfv.specs.Types.{Rfc9651}
-use Rattle.sfv.specs.Parsers.{IsParseError}
+use Rattle.std.proofs.Common.{Ok}
+use Rattle.sfv.specs.{Canonical.canonical, Parsers.IsParseError, Types.Rfc9651}
 use Rattle.sfv_signatures.proofs.FieldValues.{parse_failed}
 use Rattle.sfv_signatures.proofs.fields.append_canonical.Goals as goal
 

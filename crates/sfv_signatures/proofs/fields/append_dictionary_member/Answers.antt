@@ -1,12 +1,6 @@
-use Rattle.std.proofs.Common.{◌≡◌, inr, sym, ◌∙◌, subst}
-use Rattle.std.specs.Prelude.{IsTrue, None}
-use Rattle.sfv.specs.Ordered.{last_of}
-use Rattle.sfv.specs.Classes.{is_key}
-use Rattle.sfv.specs.Parsers.{IsParseError}
-use Rattle.sfv.specs.Statements.{IsParsedAs}
-use Rattle.sfv.specs.Trees.{dictionary_tree}
-use Rattle.sfv.specs.CheckedTexts.{text_of}
-use Rattle.sfv.specs.Types.{dictionary_field, Rfc9651}
+use Rattle.std.proofs.Common.{◌≡◌, inr, sym, ◌∙◌, subst, IsTrue, None}
+use Rattle.sfv.specs.{CheckedTexts.text_of, Classes.is_key, Ordered.last_of, Parsers.IsParseError}
+use Rattle.sfv.specs.{Statements.IsParsedAs, Trees.dictionary_tree, Types.{dictionary_field, Rfc9651}}
 use Rattle.sfv_signatures.specs.HttpMessages.{member_of}
 use Rattle.sfv_signatures.proofs.FieldValues.{parse_failed, no_member, not_a_key, invalid_key}
 use Rattle.sfv_signatures.proofs.fields.append_dictionary_member.Goals as goal

@@ -1,11 +1,10 @@
 use Rattle.std.proofs.Common.{sym, ◌∙◌, ap}
-use Rattle.http_header.specs.HeaderMap.{get_all}
-use Rattle.http_header.specs.Token.{lowercase}
+use Rattle.http_header.specs.{HeaderMap.get_all, Token.lowercase}
 use Rattle.sfv.specs.Trees.{pairs_tree}
 use Rattle.sfv_headers.specs.Lines.{lines_in}
-use Rattle.sfv_signatures.specs.HttpMessages.{type_in}
-use Rattle.sfv_signatures.specs.Components.{lines_from}
-use Rattle.sfv_signatures.proofs.Dispatch.{none_first, some_first, lines_absent, lines_given, upper_none, lower_lines, no_section}
+use Rattle.sfv_signatures.specs.{Components.lines_from, HttpMessages.type_in}
+use Rattle.sfv_signatures.proofs.Dispatch.{none_first, some_first, lines_absent, lines_given, upper_none, lower_lines}
+use Rattle.sfv_signatures.proofs.Dispatch.{no_section}
 use Rattle.sfv_signatures.proofs.fields.append_field.Goals as goal
 
 pub returns-in_default : goal.returns-in_default

@@ -1,8 +1,6 @@
-use Rattle.std.proofs.Common.{◌≡◌, true, false, sym, ◌∙◌}
-use Rattle.std.specs.Prelude.{Some, None, codes}
+use Rattle.std.proofs.Common.{◌≡◌, true, false, sym, ◌∙◌, Some, None, codes}
 use Rattle.http_header.specs.Token.{lowercase}
-use Rattle.sfv.specs.CheckedTexts.{text_of}
-use Rattle.sfv.specs.Trees.{pairs_tree}
+use Rattle.sfv.specs.{CheckedTexts.text_of, Trees.pairs_tree}
 use Rattle.sfv_headers.specs.Lines.{lines_in}
 use Rattle.sfv_signatures.specs.HttpMessages.{has, string_param, type_in}
 use Rattle.sfv_signatures.proofs.Dispatch.{with_key, with_sf, untyped}

@@ -1,6 +1,4 @@
-use Rattle.std.proofs.Common.{◌≡◌, false, take}
-use Rattle.std.specs.Char.{is_ascii_uppercase}
-use Rattle.std.specs.List.{list_any}
+use Rattle.std.{proofs.Common.{◌≡◌, false, take}, specs.Char.is_ascii_uppercase, specs.List.list_any}
 use Rattle.sfv_signatures.proofs.fields.has_upper_case.Given as goal
 
 abbrev pub invariant-loop-byte : goal.invariant-loop-byte

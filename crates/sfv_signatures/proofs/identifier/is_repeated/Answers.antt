@@ -1,8 +1,6 @@
-use Rattle.std.proofs.Common.{refl, sym, arith}
-use Rattle.std.proofs.lemmas.Bool.{false≢true}
-use Rattle.sfv.specs.Trees.{item_tree}
+use Rattle.std.proofs.{Common.{refl, sym, arith}, lemmas.Bool.false≢true}
+use Rattle.sfv.{specs.Trees.item_tree, proofs.Callers.{Any-map, Any-from_map}}
 use Rattle.sfv_signatures.specs.SignatureBase.{AreSame}
-use Rattle.sfv.proofs.Callers.{Any-map, Any-from_map}
 use Rattle.sfv_signatures.proofs.identifier.is_repeated.Goals as goal
 
 pub returns-then-is_same : goal.returns-then-is_same

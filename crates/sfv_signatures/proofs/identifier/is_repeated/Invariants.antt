@@ -1,7 +1,5 @@
-use Rattle.std.proofs.Common.{◌≡◌, ℕ, ◌<◌}
-use Rattle.std.specs.List.{slice_index_or}
-use Rattle.sfv.specs.Types.{Item}
-use Rattle.sfv.specs.Trees.{item_tree}
+use Rattle.std.proofs.Common.{◌≡◌, ℕ, ◌<◌, slice_index_or}
+use Rattle.sfv.specs.{Trees.item_tree, Types.Item}
 use Rattle.sfv_signatures.specs.SignatureBase.{AreSame}
 use Rattle.sfv_signatures.proofs.identifier.is_repeated.Given as goal
 

@@ -1,11 +1,8 @@
-use Rattle.std.proofs.Common.{map}
-use Rattle.std.specs.Prelude.{string_bytes}
-use Rattle.sfv.specs.Canonical.{bare_text}
-use Rattle.sfv.specs.Values.{byte_sequence}
+use Rattle.std.proofs.Common.{map, string_bytes}
 use Rattle.http_header.specs.Token.{lowercase}
+use Rattle.sfv.specs.{Canonical.bare_text, Values.byte_sequence}
 use Rattle.sfv_headers.specs.Lines.{lines_in}
-use Rattle.sfv_signatures.specs.HttpMessages.{without_start, without_end}
-use Rattle.sfv_signatures.proofs.Joined.{end_joined}
+use Rattle.sfv_signatures.{specs.HttpMessages.{without_start, without_end}, proofs.Joined.end_joined}
 use Rattle.sfv_signatures.proofs.lines.append_byte_text.Goals as goal
 
 pub returns-clause-text : goal.returns-clause-text

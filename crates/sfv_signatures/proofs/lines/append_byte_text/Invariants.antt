@@ -1,9 +1,6 @@
-use Rattle.std.proofs.Common.{◌≡◌, ◌++◌, map, true}
-use Rattle.std.specs.Prelude.{codes, string_bytes}
-use Rattle.sfv.specs.Written.{with_separators}
-use Rattle.sfv.specs.Canonical.{bare_text}
-use Rattle.sfv.specs.Values.{byte_sequence}
+use Rattle.std.proofs.Common.{◌≡◌, ◌++◌, map, true, codes, string_bytes}
 use Rattle.http_header.specs.Token.{lowercase}
+use Rattle.sfv.specs.{Canonical.bare_text, Values.byte_sequence, Written.with_separators}
 use Rattle.sfv_headers.specs.Lines.{lines_in}
 use Rattle.sfv_signatures.specs.HttpMessages.{without_start, without_end}
 use Rattle.sfv_signatures.proofs.lines.append_byte_text.Given as goal

@@ -1,11 +1,9 @@
-use Rattle.std.proofs.Common.{◌≡◌, refl, map}
-use Rattle.std.specs.Prelude.{string_bytes}
+use Rattle.std.proofs.Common.{◌≡◌, refl, map, string_bytes}
 use Rattle.http_header.specs.Token.{lowercase}
 use Rattle.sfv_headers.specs.Lines.{lines_in}
 use Rattle.sfv_signatures.specs.HttpMessages.{without_start, without_end, plain_text}
 use Rattle.sfv_signatures.specs.declared.base_error.BaseErrorKind.{BaseErrorKind}
-use Rattle.sfv_signatures.proofs.Named.{on_error}
-use Rattle.sfv_signatures.proofs.Joined.{all_joined, plain_fault}
+use Rattle.sfv_signatures.proofs.{Joined.{all_joined, plain_fault}, Named.on_error}
 use Rattle.sfv_signatures.proofs.lines.append_plain_text.Goals as goal
 
 pub returns-in_err-append_line : goal.returns-in_err-append_line

@@ -1,9 +1,7 @@
-use Rattle.std.proofs.Common.{map}
-use Rattle.std.specs.Prelude.{string_bytes}
+use Rattle.std.proofs.Common.{map, string_bytes}
 use Rattle.http_header.specs.Token.{lowercase}
 use Rattle.sfv_headers.specs.Lines.{lines_in}
-use Rattle.sfv_signatures.specs.HttpMessages.{without_start, without_end}
-use Rattle.sfv_signatures.proofs.Joined.{IsSoFar}
+use Rattle.sfv_signatures.{specs.HttpMessages.{without_start, without_end}, proofs.Joined.IsSoFar}
 use Rattle.sfv_signatures.proofs.lines.append_plain_text.Given as goal
 
 abbrev pub invariant-loop-value : goal.invariant-loop-value

@@ -1,8 +1,7 @@
 use Rattle.std.proofs.Common.{map, []}
 use Rattle.http_header.specs.Token.{lowercase}
 use Rattle.sfv_headers.specs.Lines.{lines_in}
-use Rattle.sfv_signatures.specs.HttpMessages.{without_start, without_end}
-use Rattle.sfv_signatures.proofs.Joined.{end_joined}
+use Rattle.sfv_signatures.{specs.HttpMessages.{without_start, without_end}, proofs.Joined.end_joined}
 use Rattle.sfv_signatures.proofs.lines.plain_text.Goals as goal
 
 pub returns : goal.returns

@@ -1,7 +1,6 @@
-use Rattle.std.proofs.Common.{◌≡◌, ◌++◌, map, true}
-use Rattle.std.specs.Prelude.{codes}
-use Rattle.sfv.specs.Written.{with_separators}
+use Rattle.std.proofs.Common.{◌≡◌, ◌++◌, map, true, codes}
 use Rattle.http_header.specs.Token.{lowercase}
+use Rattle.sfv.specs.Written.{with_separators}
 use Rattle.sfv_headers.specs.Lines.{lines_in}
 use Rattle.sfv_signatures.specs.HttpMessages.{without_start, without_end}
 use Rattle.sfv_signatures.proofs.lines.plain_text.Given as goal

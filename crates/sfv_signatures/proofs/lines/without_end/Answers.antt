@@ -1,9 +1,8 @@
 use Rattle.std.proofs.Common.{arith, sym, ◌∙◌, ap, take, ◌≡◌, ◌-◌, length}
-use Rattle.std.specs.List.{suffix_len}
-use Rattle.std.proofs.lemmas.List.Sums.{suffix_len-take_yes, suffix_len-take_no}
+use Rattle.std.{specs.List.suffix_len, proofs.lemmas.List.Sums.{suffix_len-take_yes, suffix_len-take_no}}
 use Rattle.sfv_signatures.specs.HttpMessages.{is_blank}
-use Rattle.sfv_signatures.proofs.lines.without_end.Goals as goal
 use Rattle.sfv_signatures.proofs.lines.without_end.Goals.{then-loop-end-test+else-is_blank, else-loop-end-test}
+use Rattle.sfv_signatures.proofs.lines.without_end.Goals as goal
 
 pub loop-end-preserved : goal.loop-end-preserved
 loop-end-preserved c =

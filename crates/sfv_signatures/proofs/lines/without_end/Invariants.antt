@@ -1,5 +1,4 @@
-use Rattle.std.proofs.Common.{◌≡◌, ◌≤◌, ◌+◌, ◌-◌, take, length}
-use Rattle.std.specs.List.{suffix_len}
+use Rattle.std.{proofs.Common.{◌≡◌, ◌≤◌, ◌+◌, ◌-◌, take, length}, specs.List.suffix_len}
 use Rattle.sfv_signatures.specs.HttpMessages.{is_blank}
 use Rattle.sfv_signatures.proofs.lines.without_end.Given as goal
 

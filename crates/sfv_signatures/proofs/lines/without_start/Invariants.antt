@@ -1,5 +1,4 @@
-use Rattle.std.proofs.Common.{◌≡◌, ◌≤◌, ◌+◌, ◌-◌, drop, length}
-use Rattle.std.specs.List.{prefix_len}
+use Rattle.std.{proofs.Common.{◌≡◌, ◌≤◌, ◌+◌, ◌-◌, drop, length}, specs.List.prefix_len}
 use Rattle.sfv_signatures.specs.HttpMessages.{is_blank}
 use Rattle.sfv_signatures.proofs.lines.without_start.Given as goal
 

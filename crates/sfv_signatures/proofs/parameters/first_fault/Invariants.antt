@@ -1,5 +1,4 @@
-use Rattle.std.proofs.Common.{◌≡◌}
-use Rattle.std.specs.List.{filter_map}
+use Rattle.std.proofs.Common.{◌≡◌, filter_map}
 use Rattle.sfv.specs.Trees.{pairs_tree}
 use Rattle.sfv_signatures.specs.HttpMessages.{param_fault}
 use Rattle.sfv_signatures.proofs.parameters.first_fault.Given as goal

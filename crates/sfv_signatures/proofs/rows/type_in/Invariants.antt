@@ -1,6 +1,4 @@
-use Rattle.std.proofs.Common.{◌≡◌, drop}
-use Rattle.std.specs.Prelude.{bytes_eq}
-use Rattle.std.specs.List.{find}
+use Rattle.std.proofs.Common.{◌≡◌, drop, bytes_eq, find}
 use Rattle.sfv_signatures.proofs.rows.type_in.Given as goal
 
 abbrev pub invariant-loop-row : goal.invariant-loop-row

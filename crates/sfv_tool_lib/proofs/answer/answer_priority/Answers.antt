@@ -1,5 +1,4 @@
-use Rattle.std.proofs.Common.{◌≡◌, ℕ, List, ◌++◌, ap, ◌∙◌}
-use Rattle.std.specs.Prelude.{codes, string_bytes}
+use Rattle.std.proofs.Common.{◌≡◌, ℕ, List, ◌++◌, ap, ◌∙◌, codes, string_bytes}
 use Rattle.sfv_http_fields.specs.Priority.{priority_text, value_of}
 use Rattle.sfv_tool_lib.proofs.Lines.{priority_unwritten}
 use Rattle.sfv_tool_lib.proofs.answer.answer_priority.Goals as goal

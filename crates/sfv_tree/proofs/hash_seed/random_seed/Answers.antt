@@ -1,5 +1,4 @@
-use Rattle.std.proofs.Common.{refl}
-use Rattle.std.proofs.lemmas.Result.{err_from_is_err_and}
+use Rattle.std.proofs.{Common.refl, lemmas.Result.err_from_is_err_and}
 use Rattle.sfv_tree.proofs.hash_seed.random_seed.Goals as goal
 
 pub returns-in_err-fill-clause-failed : goal.returns-in_err-fill-clause-failed

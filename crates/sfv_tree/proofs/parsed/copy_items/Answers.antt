@@ -1,8 +1,6 @@
 use Rattle.std.proofs.Common.{◌≡◌}
 use Rattle.indexmap.specs.IndexMap.{hasher_of}
-use Rattle.sfv_tree.proofs.Clones.{each_cloned, each_seeded}
-use Rattle.sfv_tree.specs.Trees.{item_tree}
-use Rattle.sfv_tree.specs.declared.parsed.Item.{Item}
+use Rattle.sfv_tree.{specs.Trees.item_tree, specs.declared.parsed.Item.Item, proofs.Clones.{each_cloned, each_seeded}}
 use Rattle.sfv_tree.proofs.parsed.copy_items.Goals as goal
 
 pub returns-clause-tree : goal.returns-clause-tree

@@ -1,6 +1,5 @@
 use Rattle.std.proofs.Common.{rules, ◌≢◌, [], ◌∙◌}
-use Rattle.sfv_tree.specs.Trees.{pairs_tree}
-use Rattle.sfv_tree.proofs.Entered.{entered_again, insert_entry-entered}
+use Rattle.sfv_tree.{specs.Trees.pairs_tree, proofs.Entered.{entered_again, insert_entry-entered}}
 use Rattle.sfv_tree.proofs.parsed.copy_params.Goals as goal
 
 pub loop-key-init : goal.loop-key-init

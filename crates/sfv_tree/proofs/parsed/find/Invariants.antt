@@ -1,6 +1,4 @@
-use Rattle.std.proofs.Common.{◌≡◌}
-use Rattle.std.specs.Prelude.{bytes_eq}
-use Rattle.std.specs.Map.{lookup}
+use Rattle.std.{proofs.Common.{◌≡◌, bytes_eq}, specs.Map.lookup}
 use Rattle.sfv_values.specs.CheckedTexts.{text_of as key_text}
 use Rattle.sfv_tree.proofs.parsed.find.Given as goal
 

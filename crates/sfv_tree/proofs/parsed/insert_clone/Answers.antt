@@ -1,6 +1,5 @@
 use Rattle.std.proofs.Common.{◌≡◌}
-use Rattle.sfv_values.specs.BareItems.{bare_value}
-use Rattle.sfv_values.proofs.Copies.{copied_value}
+use Rattle.sfv_values.{specs.BareItems.bare_value, proofs.Copies.copied_value}
 use Rattle.sfv_tree.proofs.Entered.{pairs_tree-insert}
 use Rattle.sfv_tree.proofs.parsed.insert_clone.Goals as goal
 

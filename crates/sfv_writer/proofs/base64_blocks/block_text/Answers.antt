@@ -1,5 +1,4 @@
-use Rattle.std.proofs.Common.{◌≡◌, ◌%◌, ◌∙◌, ap, map, take, length, arith}
-use Rattle.std.proofs.lemmas.List.{length-take-le}
+use Rattle.std.proofs.Common.{◌≡◌, ◌%◌, ◌∙◌, ap, map, take, length, arith, length-take-le}
 use Rattle.sfv_spec.specs.Base64.{symbol}
 use Rattle.sfv_writer.proofs.Blocks.{bits_within, text_of_bits, front_fits, all_fit}
 use Rattle.sfv_writer.proofs.base64_blocks.block_text.Goals as goal

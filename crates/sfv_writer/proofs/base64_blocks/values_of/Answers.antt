@@ -1,8 +1,6 @@
-use Rattle.std.proofs.Common.{ℕ, List, ap, take, ◌∙◌, arith}
-use Rattle.std.proofs.lemmas.List.{length-take-le}
+use Rattle.std.proofs.Common.{ℕ, List, ap, take, ◌∙◌, arith, length-take-le}
 use lib.Lanes.{digits_l, number_l}
-use Rattle.sfv_writer.specs.Base64.{value_pairs}
-use Rattle.sfv_writer.proofs.Blocks.{bits_are, front_fits}
+use Rattle.sfv_writer.{specs.Base64.value_pairs, proofs.Blocks.{bits_are, front_fits}}
 use Rattle.sfv_writer.proofs.base64_blocks.values_of.Goals as goal
 
 pub returns : goal.returns

@@ -1,7 +1,5 @@
-use Rattle.std.proofs.Common.{ℕ, [], ◌∷◌, ◌++◌, length, string_bytes, ap, arith}
-use Rattle.std.proofs.lemmas.List.{length-append}
-use Rattle.sfv_spec.specs.Base64.{base64_text}
-use Rattle.sfv_spec.proofs.Lengths.{text_len}
+use Rattle.std.proofs.Common.{ℕ, [], ◌∷◌, ◌++◌, length, string_bytes, ap, arith, length-append}
+use Rattle.sfv_spec.{specs.Base64.base64_text, proofs.Lengths.text_len}
 use Rattle.sfv_writer.proofs.Room.{refused}
 use Rattle.sfv_writer.proofs.byte_sequence.serialize_byte_sequence.Goals as goal
 

@@ -1,7 +1,5 @@
-use Rattle.std.proofs.Common.{rules}
-use Rattle.std.specs.Iterator.{IsFinite}
-use Rattle.sfv_writer.proofs.Checks.{each_more}
-use Rattle.sfv_writer.proofs.Separated.{anyway}
+use Rattle.std.{proofs.Common.rules, specs.Iterator.IsFinite}
+use Rattle.sfv_writer.proofs.{Checks.each_more, Separated.anyway}
 use Rattle.sfv_writer.proofs.Taken.{none_taken, one_taken, drained, extended, grown_from, grown_parted, stops_unfit}
 use Rattle.sfv_writer.proofs.Taken.{stops_full, lacks_part, lacks_separator}
 use Rattle.sfv_writer.proofs.element.serialize_each.Goals as goal
@@ -49,9 +47,8 @@ returns-in_err-check-clause-failed g c =
 pub returns-in_err-serialize_separator-clause-failed : goal.returns-in_err-serialize_separator-clause-failed
 returns-in_err-serialize_separator-clause-failed g c =
     let so_far = c.loop-element.invariant.2 in
-    stops_full c.in-Some.element so_far c.in-Some.ensures.steps c.args.version
-    c.from_residual-in_err-serialize_separator.result c.loop-element.invariant.3 c.from_residual-in_err-serialize_separator.ensures.1
-    c.in_ok-check.ensures
+    stops_full c.in-Some.element so_far c.in-Some.ensures.steps c.args.version _
+    c.loop-element.invariant.3 c.from_residual-in_err-serialize_separator.ensures.1 c.in_ok-check.ensures
     (lacks_separator c.in-Some.element so_far c.in-Some.ensures.steps c.in_err-serialize_separator.ensures.room.1)
 
 pub returns-in_err-serialize-clause-failed : goal.returns-in_err-serialize-clause-failed
@@ -67,9 +64,8 @@ pub returns-in_err-check-clause-kept : goal.returns-in_err-check-clause-kept
 returns-in_err-check-clause-kept g c = anyway _ _ (extended c.loop-element.invariant.2)
 
 pub returns-in_err-serialize_separator-clause-kept : goal.returns-in_err-serialize_separator-clause-kept
-returns-in_err-serialize_separator-clause-kept g c =
-    anyway _ _ (grown_from c.in-Some.element c.loop-element.invariant.2 c.in-Some.ensures.steps _
-    c.in_err-serialize_separator.ensures.text)
+returns-in_err-serialize_separator-clause-kept g c = anyway _ _
+    (grown_from _ c.loop-element.invariant.2 c.in-Some.ensures.steps _ c.in_err-serialize_separator.ensures.text)
 
 pub returns-in_err-serialize-clause-kept : goal.returns-in_err-serialize-clause-kept
 returns-in_err-serialize-clause-kept g c =

@@ -1,5 +1,4 @@
-use Rattle.std.proofs.Common.{◌∙◌, true, false, refl, sym, subst, string_bytes, rules}
-use Rattle.std.proofs.lemmas.List.{append-nil}
+use Rattle.std.proofs.Common.{◌∙◌, true, false, refl, sym, subst, string_bytes, rules, append-nil}
 use Rattle.std.specs.Iterator.{IsFinite}
 use Rattle.sfv_writer.proofs.Separated.{anyway}
 use Rattle.sfv_writer.proofs.Taken.{HasTaken, none_taken, one_taken, drained, grown_from, grown_parted, lacks_more}
@@ -44,9 +43,8 @@ pub returns-in_err-serialize-clause-room : goal.returns-in_err-serialize-clause-
 returns-in_err-serialize-clause-room g c =
     let none = none_taken g.E.Element.part g.I.Iterator.next_gives c.args.elements c.args.separator.now true c.args.output.now c.args.elements refl in
     anyway _ _ (lacks_more c.in-Some.first none c.in-Some.ensures.steps
-    (lacks_part c.in-Some.first none c.in-Some.ensures.steps c.prepare_for.new.output
-    (c.prepare_for.ensures.text ∙ sym (append-nil (string_bytes c.args.output.now))) c.prepare_for.ensures.room
-    c.in_err-serialize.ensures.room.1))
+    (lacks_part c.in-Some.first none c.in-Some.ensures.steps c.prepare_for.new.output (c.prepare_for.ensures.text
+    ∙ sym (append-nil (string_bytes c.args.output.now))) c.prepare_for.ensures.room c.in_err-serialize.ensures.room.1))
 
 pub returns-in_err-serialize_separator-clause-room : goal.returns-in_err-serialize_separator-clause-room
 returns-in_err-serialize_separator-clause-room g c =

@@ -1,10 +1,8 @@
 use Rattle.std.proofs.Common.{◌∷◌, Some, rules}
 use Rattle.indexmap.proofs.MapLemmas.{OnOk-map}
 use Rattle.sfv_spec.specs.Canonical.{parameters_text}
-use Rattle.sfv_writer.specs.Pairs.{lent_pairs, pair_values}
-use Rattle.sfv_writer.proofs.Elements.{params_appended, params_stop}
-use Rattle.sfv_writer.proofs.RoomOfIterators.{lacks_from_first}
-use Rattle.sfv_writer.proofs.Checks.{fails_from_first, drains_from_first}
+use Rattle.sfv_writer.{specs.Pairs.{lent_pairs, pair_values}, proofs.Checks.{fails_from_first, drains_from_first}}
+use Rattle.sfv_writer.proofs.{Elements.{params_appended, params_stop}, RoomOfIterators.lacks_from_first}
 use Rattle.sfv_writer.proofs.item.append_parameters.Goals as goal
 
 pub returns-clause-text : goal.returns-clause-text

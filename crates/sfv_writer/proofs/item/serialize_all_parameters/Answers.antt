@@ -1,20 +1,11 @@
 use Rattle.std.proofs.Common.{◌≡◌, ◌++◌, ◌∙◌, [], false, Some, List, ℕ, length, string_bytes, ap, subst, sym, arith}
-use Rattle.std.proofs.Common.{rules}
-use Rattle.std.proofs.lemmas.List.{append-nil}
-use Rattle.std.specs.Borrow.{Bor}
-use Rattle.std.specs.Map.Iter.{TakesFirst, deref_pair}
-use Rattle.sfv_spec.specs.Canonical.{parameters_text}
-use Rattle.sfv_spec.specs.Values.{AreParameters}
-use Rattle.sfv_tree.specs.Trees.{OwnedBareItem, pairs_tree}
-use Rattle.sfv_tree.proofs.Distinct.{pairs_distinct}
-use Rattle.sfv_writer.specs.Written.{LacksRoom}
-use Rattle.sfv_writer.specs.Versions.{parameter_pairs}
-use Rattle.sfv_writer.proofs.Appended.{stops}
-use Rattle.sfv_writer.proofs.Elements.{text_as, as_valid}
-use Rattle.sfv_writer.proofs.Lent.{lent_all}
-use Rattle.sfv_writer.proofs.RoomOfIterators.{pairs_lack}
-use Rattle.sfv_writer.proofs.Room.{refused}
+use Rattle.std.{proofs.Common.{rules, append-nil, Bor}, specs.Map.Iter.{TakesFirst, deref_pair}}
+use Rattle.sfv_spec.specs.{Canonical.parameters_text, Values.AreParameters}
+use Rattle.sfv_tree.{specs.Trees.{OwnedBareItem, pairs_tree}, proofs.Distinct.pairs_distinct}
+use Rattle.sfv_writer.specs.{Versions.parameter_pairs, Written.LacksRoom}
+use Rattle.sfv_writer.proofs.{Appended.stops, Elements.{text_as, as_valid}, Lent.lent_all}
 use Rattle.sfv_writer.proofs.Parameters.{none_written, none_valid, none_repeated}
+use Rattle.sfv_writer.proofs.{Room.refused, RoomOfIterators.pairs_lack}
 use Rattle.sfv_writer.proofs.Taken.{none_taken, one_taken, drained, lacks_more, lacks_part}
 use Rattle.sfv_writer.proofs.item.serialize_all_parameters.Goals as goal
 
@@ -61,10 +52,9 @@ pub returns-clause-distinct : goal.returns-clause-distinct
 returns-clause-distinct g c = pairs_distinct c.args.params.now.entries c.iter-key-items.ensures.unique
 
 pub returns-in_err-serialize_parameter-clause-text : goal.returns-in_err-serialize_parameter-clause-text
-returns-in_err-serialize_parameter-clause-text g c =
-    stops (string_bytes c.args.output.now) _ _ _ (parameters_text (pairs_tree c.args.params.now.entries))
-    c.from_residual.result c.from_residual.ensures.0 c.loop-key.invariant.led.text
-    c.in_err-serialize_parameter.ensures.text
+returns-in_err-serialize_parameter-clause-text g c = stops (string_bytes c.args.output.now) _ _ _
+    (parameters_text (pairs_tree c.args.params.now.entries)) c.from_residual.result c.from_residual.ensures.0
+    c.loop-key.invariant.led.text c.in_err-serialize_parameter.ensures.text
 
 pub returns-in_err-serialize_parameter-clause-room : goal.returns-in_err-serialize_parameter-clause-room
 returns-in_err-serialize_parameter-clause-room g c =

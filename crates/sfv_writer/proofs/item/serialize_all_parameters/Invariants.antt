@@ -1,7 +1,5 @@
-use Rattle.std.proofs.Common.{[], false}
-use Rattle.std.specs.Map.Iter.{TakesFirst, deref_pair}
-use Rattle.sfv_writer.specs.Versions.{parameter_pairs}
-use Rattle.sfv_writer.proofs.Taken.{HasTaken}
+use Rattle.std.{proofs.Common.{[], false}, specs.Map.Iter.{TakesFirst, deref_pair}}
+use Rattle.sfv_writer.{specs.Versions.parameter_pairs, proofs.Taken.HasTaken}
 use Rattle.sfv_writer.proofs.item.serialize_all_parameters.Given as goal
 
 abbrev pub invariant-loop-key : goal.invariant-loop-key

@@ -1,8 +1,7 @@
 use Rattle.std.proofs.Common.{codes, string_bytes, subst, lit<}
 use Rattle.sfv_spec.specs.Canonical.{value_text}
-use Rattle.sfv_writer.specs.Written.{Appends, param_text}
 use Rattle.sfv_values.specs.BareItems.{bare_value}
-use Rattle.sfv_writer.proofs.Appended.{put, after, stops, unchanged}
+use Rattle.sfv_writer.{specs.Written.{Appends, param_text}, proofs.Appended.{put, after, stops, unchanged}}
 use Rattle.sfv_writer.proofs.item.serialize_parameter.Goals as goal
 
 pub returns-clause-text : goal.returns-clause-text
@@ -14,9 +13,7 @@ returns-clause-text g c =
     c.as_ref_item.ensures.value c.serialize_value.ensures.text))
 
 pub returns-in_err-serialize_key-clause-text : goal.returns-in_err-serialize_key-clause-text
-returns-in_err-serialize_key-clause-text g c =
-    stops (string_bytes c.args.output.now) (codes ";") _ _ (param_text c.args.key.now (bare_value c.args.value.now))
-    c.from_residual-in_err-serialize_key.result c.from_residual-in_err-serialize_key.ensures.0
-    (put (string_bytes c.args.output.now) _ (codes ";") _ c.in_ok-push.ensures.bytes
-    (c.in_ok-push.ensures.ascii (lit< tt)))
+returns-in_err-serialize_key-clause-text g c = stops (string_bytes c.args.output.now) (codes ";") _ _
+    (param_text c.args.key.now (bare_value c.args.value.now)) _ c.from_residual-in_err-serialize_key.ensures.0
+    (put _ _ _ _ c.in_ok-push.ensures.bytes (c.in_ok-push.ensures.ascii (lit< tt)))
     (unchanged _ _ c.in_err-serialize_key.ensures.text)

@@ -1,14 +1,10 @@
-use Rattle.std.proofs.Common.{[], ◌∷◌, refl, subst, arith, rules}
-use Rattle.std.specs.Iterator.{IsFinite, Yields}
+use Rattle.std.{proofs.Common.{[], ◌∷◌, refl, subst, arith, rules}, specs.Iterator.{IsFinite, Yields}}
+use Rattle.sfv_spec.specs.{Canonical.parameters_text, Values.AllFit}
 use Rattle.sfv_values.specs.BareItems.{bare_value, ref_value}
-use Rattle.sfv_spec.specs.Values.{AllFit}
-use Rattle.sfv_spec.specs.Canonical.{parameters_text}
-use Rattle.sfv_writer.specs.Pairs.{lent_pairs, pair_values}
-use Rattle.sfv_writer.specs.Versions.{NamesFirstUnfit}
+use Rattle.sfv_writer.specs.{Pairs.{lent_pairs, pair_values}, Versions.NamesFirstUnfit}
 use Rattle.sfv_writer.proofs.Appended.{unchanged, stops_grown}
+use Rattle.sfv_writer.proofs.{Checks.{fails_among, memory_among, singles}, Parameters.{text_more, valid_more, fit_more}}
 use Rattle.sfv_writer.proofs.RoomOfIterators.{named_lacks, lacks_among, one_lacks}
-use Rattle.sfv_writer.proofs.Checks.{fails_among, memory_among, singles}
-use Rattle.sfv_writer.proofs.Parameters.{text_more, valid_more, fit_more}
 use Rattle.sfv_writer.proofs.item.serialize_parameters.Goals as goal
 
 pub loop-key-preserved : goal.loop-key-preserved
@@ -63,20 +59,17 @@ returns-clause-text g c =
     )
 
 pub returns-in_err-check_bare_item-clause-grows : goal.returns-in_err-check_bare_item-clause-grows
-returns-in_err-check_bare_item-clause-grows g c =
-    stops_grown _ _ _ _ c.from_residual.result c.loop-key.invariant.2 (unchanged _ _ refl)
+returns-in_err-check_bare_item-clause-grows g c = stops_grown _ _ _ _ _ c.loop-key.invariant.2 (unchanged _ _ refl)
 
 pub returns-in_err-serialize_parameter-clause-grows : goal.returns-in_err-serialize_parameter-clause-grows
 returns-in_err-serialize_parameter-clause-grows g c =
-    stops_grown _ _ _ _ c.from_residual-in_err-serialize_parameter.result c.loop-key.invariant.2
-    c.in_err-serialize_parameter.ensures.text
+    stops_grown _ _ _ _ _ c.loop-key.invariant.2 c.in_err-serialize_parameter.ensures.text
 
 pub returns-in_err-check_bare_item-clause-room : goal.returns-in_err-check_bare_item-clause-room
 returns-in_err-check_bare_item-clause-room g c =
     named_lacks g.I.Iterator.next_gives c.args.params pair_values c.args.version c.args.output.now
-    (λ taken. parameters_text (lent_pairs taken)) c.from_residual.result (ref_value c.as_ref_item.result ∷ [])
-    c.in_err-check_bare_item.field-0.0
-    c.from_residual.ensures.1 c.in_err-check_bare_item.ensures
+    (λ taken. parameters_text (lent_pairs taken)) c.from_residual.result (ref_value c.as_ref_item.result
+    ∷ []) c.in_err-check_bare_item.field-0.0 c.from_residual.ensures.1 c.in_err-check_bare_item.ensures
 
 pub returns-in_err-serialize_parameter-clause-room : goal.returns-in_err-serialize_parameter-clause-room
 returns-in_err-serialize_parameter-clause-room g c =

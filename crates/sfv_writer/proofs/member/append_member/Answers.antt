@@ -1,7 +1,5 @@
-use Rattle.sfv_tree.specs.Trees.{member_tree}
 use Rattle.sfv_writer.proofs.ReadBack.{member_read_back}
 use Rattle.sfv_writer.proofs.member.append_member.Goals as goal
 
 pub returns-clause-read_back : goal.returns-clause-read_back
-returns-clause-read_back c =
-    member_read_back c.args.version (member_tree c.args.member.now) c.in_ok-append.ensures.valid c.in_ok-check_member.ensures
+returns-clause-read_back c = member_read_back _ _ c.in_ok-append.ensures.valid c.in_ok-check_member.ensures

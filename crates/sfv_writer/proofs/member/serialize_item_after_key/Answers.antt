@@ -5,7 +5,6 @@ use Rattle.sfv_writer.proofs.Parameters.{item_on_ok}
 use Rattle.sfv_writer.proofs.member.serialize_item_after_key.Goals as goal
 
 pub returns-clause-value : goal.returns-clause-value
-returns-clause-value g c =
-    item_on_ok (item_tree c.args.item.now) c.serialize_all_parameters.result
-    (subst IsBareValue c.as_ref_item.ensures.value c.in_ok-serialize_value.ensures.value) c.serialize_all_parameters.ensures.value
-    c.serialize_all_parameters.ensures.distinct
+returns-clause-value g c = item_on_ok (item_tree c.args.item.now) c.serialize_all_parameters.result
+    (subst IsBareValue c.as_ref_item.ensures.value c.in_ok-serialize_value.ensures.value)
+    c.serialize_all_parameters.ensures.value c.serialize_all_parameters.ensures.distinct

@@ -1,12 +1,8 @@
-use Rattle.std.proofs.Common.{◌≡◌, ◌++◌, ◌∙◌, List, [], ℕ, true, false, lit<, string_bytes, sym, ap}
-use Rattle.std.specs.Prelude.{◌/◌, nat_abs, decimal}
-use Rattle.std.proofs.lemmas.List.{append-nil}
+use Rattle.std.proofs.Common.{◌≡◌, ◌++◌, ◌∙◌, List, [], ℕ, true, false, lit<, string_bytes, sym, ap, ◌/◌, nat_abs}
+use Rattle.std.{proofs.Common.{decimal, append-nil}, specs.Int.is_negative}
+use Rattle.sfv_spec.{specs.Canonical.decimal_text, proofs.Marks.minus_text}
 use Rattle.sfv_base.specs.Numbers.{thousandths_of}
-use Rattle.std.specs.Int.{is_negative}
-use Rattle.sfv_spec.proofs.Marks.{minus_text}
-use Rattle.sfv_spec.specs.Canonical.{decimal_text}
-use Rattle.sfv_writer.specs.Written.{Extends}
-use Rattle.sfv_writer.proofs.Appended.{next, unchanged, stops}
+use Rattle.sfv_writer.{specs.Written.Extends, proofs.Appended.{next, unchanged, stops}}
 use Rattle.sfv_writer.proofs.Decimals.{same_number, minus_of, front_of, decimal_parts}
 use Rattle.sfv_writer.proofs.number.serialize_decimal_parts.Goals.{then-value-lt0+in_ok-push, else-value-lt0}
 use Rattle.sfv_writer.proofs.number.serialize_decimal_parts.Goals as goal
@@ -33,10 +29,8 @@ returns-in_err-serialize_natural-clause-text g c =
       | then-value-lt0+in_ok-push w ↦ (_, ap string_bytes w.output-is ∙ w.in_ok-push.ensures.bytes)
       | else-value-lt0 w ↦ unchanged old _ (ap string_bytes w.output-is)
     ] in
-    stops old front.0 _ _ (decimal_text (thousandths_of c.args.value))
-    c.from_residual-in_err-serialize_natural.result c.from_residual-in_err-serialize_natural.ensures.0
-    front.1
-    (unchanged _ _ c.in_err-serialize_natural.ensures.text)
+    stops old front.0 _ _ (decimal_text (thousandths_of c.args.value)) c.from_residual-in_err-serialize_natural.result
+    c.from_residual-in_err-serialize_natural.ensures.0 front.1 (unchanged _ _ c.in_err-serialize_natural.ensures.text)
 
 pub returns-in_err-push-2-clause-text : goal.returns-in_err-push-2-clause-text
 returns-in_err-push-2-clause-text g c =

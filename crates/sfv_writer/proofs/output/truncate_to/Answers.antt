@@ -1,6 +1,4 @@
-use Rattle.std.proofs.Common.{rules, string_bytes}
-use Rattle.std.specs.Str.{IsCharBoundary}
-use Rattle.std.proofs.lemmas.Str.{IsUtf8-string_bytes}
+use Rattle.std.proofs.{Common.{rules, string_bytes, IsCharBoundary}, lemmas.Str.IsUtf8-string_bytes}
 use Rattle.sfv_writer.proofs.Written.{cut_there, cut_nowhere}
 use Rattle.sfv_writer.proofs.output.truncate_to.Goals as goal
 

@@ -1,6 +1,5 @@
 use Rattle.std.proofs.Common.{◌≤◌, length, string_bytes, string_capacity}
-use Rattle.sfv_writer.specs.Quoted.{piece_of}
-use Rattle.sfv_writer.proofs.Written.{IsWrittenUpTo}
+use Rattle.sfv_writer.{specs.Quoted.piece_of, proofs.Written.IsWrittenUpTo}
 use Rattle.sfv_writer.proofs.quoted.serialize_pieces.Given as goal
 
 abbrev pub invariant-loop-byte : goal.invariant-loop-byte

@@ -1,6 +1,5 @@
 use Rattle.std.proofs.Common.{[], ◌∷◌, ◌++◌, subst, rules}
-use Rattle.std.specs.Iterator.{IsFinite, Yields}
-use Rattle.std.proofs.iter.Next.{Yields-more}
+use Rattle.std.{specs.Iterator.{IsFinite, Yields}, proofs.iter.Next.Yields-more}
 use Rattle.sfv_writer.proofs.Checks.{at_exit, each_more, each_stops}
 use Rattle.sfv_writer.proofs.version_check.check_all.Goals as goal
 

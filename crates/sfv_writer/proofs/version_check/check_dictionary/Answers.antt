@@ -1,11 +1,7 @@
-use Rattle.std.proofs.Common.{subst}
-use Rattle.std.specs.Map.{values_of}
-use Rattle.std.specs.Map.Iter.{deref}
+use Rattle.std.{proofs.Common.subst, specs.Map.values_of, specs.Map.Iter.deref}
 use Rattle.sfv_spec.specs.Values.{member_values}
 use Rattle.sfv_tree.specs.Trees.{member_tree}
-use Rattle.sfv_writer.specs.Versions.{ChecksVersion}
-use Rattle.sfv_writer.proofs.Checks.{checks_whole, entry_values}
-use Rattle.sfv_writer.proofs.Lent.{map_gives}
+use Rattle.sfv_writer.{specs.Versions.ChecksVersion, proofs.Checks.{checks_whole, entry_values}, proofs.Lent.map_gives}
 use Rattle.sfv_writer.proofs.version_check.check_dictionary.Goals as goal
 
 pub returns : goal.returns

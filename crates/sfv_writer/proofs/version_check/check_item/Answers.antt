@@ -1,10 +1,8 @@
 use Rattle.std.proofs.Common.{[], ◌∷◌, subst}
-use Rattle.sfv_spec.specs.Values.{AllFit}
+use Rattle.sfv_spec.{specs.Values.AllFit, proofs.Marks.parameter_values}
 use Rattle.sfv_values.specs.BareItems.{bare_value}
 use Rattle.sfv_tree.specs.Trees.{pairs_tree}
-use Rattle.sfv_writer.specs.Versions.{NamesFirstUnfit}
-use Rattle.sfv_spec.proofs.Marks.{parameter_values}
-use Rattle.sfv_writer.proofs.Checks.{at_exit, names_front, looks_after}
+use Rattle.sfv_writer.{specs.Versions.NamesFirstUnfit, proofs.Checks.{at_exit, names_front, looks_after}}
 use Rattle.sfv_writer.proofs.version_check.check_item.Goals as goal
 
 pub returns-in_err-check_bare_item : goal.returns-in_err-check_bare_item
@@ -19,6 +17,5 @@ pub returns : goal.returns
 returns c =
     let version = c.args.version in
     let params = parameter_values (pairs_tree c.args.item.now.params.entries) in
-    looks_after version (bare_value c.args.item.now.bare_item ∷ []) params c.check_parameters.result
-    (subst (λ b. AllFit version (b ∷ [])) c.as_ref_item.ensures.value c.in_ok-check_bare_item.ensures)
-    c.check_parameters.ensures
+    looks_after _ (bare_value c.args.item.now.bare_item ∷ []) _ _ (subst (λ b. AllFit version
+    (b ∷ [])) c.as_ref_item.ensures.value c.in_ok-check_bare_item.ensures) c.check_parameters.ensures

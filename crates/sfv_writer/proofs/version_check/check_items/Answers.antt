@@ -1,9 +1,6 @@
 use Rattle.sfv_spec.specs.Values.{item_values}
-use Rattle.sfv_tree.specs.Trees.{item_tree}
-use Rattle.sfv_writer.proofs.Checks.{checks_whole}
-use Rattle.sfv_writer.proofs.Lent.{slice_gives}
+use Rattle.sfv_writer.proofs.{Checks.checks_whole, Lent.slice_gives}
 use Rattle.sfv_writer.proofs.version_check.check_items.Goals as goal
 
 pub returns : goal.returns
-returns c = checks_whole item_values c.args.version c.check_all.result
-    (slice_gives item_tree c.iter.result c.args.items.now c.iter.ensures.rest) c.check_all.ensures
+returns c = checks_whole item_values c.args.version _ (slice_gives _ _ _ c.iter.ensures.rest) c.check_all.ensures

@@ -1,10 +1,6 @@
 use Rattle.std.proofs.Common.{◌∙◌}
-use Rattle.sfv_spec.specs.Values.{member_values}
-use Rattle.sfv_tree.specs.Trees.{member_tree}
-use Rattle.sfv_writer.proofs.Checks.{checks_whole}
-use Rattle.sfv_writer.proofs.Lent.{slice_gives}
+use Rattle.sfv_writer.proofs.{Checks.checks_whole, Lent.slice_gives}
 use Rattle.sfv_writer.proofs.version_check.check_list.Goals as goal
 
 pub returns : goal.returns
-returns c = checks_whole member_values c.args.version c.check_all.result (slice_gives member_tree c.iter.result
-    c.args.list.now.items (c.iter.ensures.rest ∙ c.deref.ensures.value)) c.check_all.ensures
+returns c = checks_whole _ _ _ (slice_gives _ _ _ (c.iter.ensures.rest ∙ c.deref.ensures.value)) c.check_all.ensures

@@ -1,13 +1,7 @@
 use Rattle.std.proofs.Common.{[], ◌∷◌, subst}
-use Rattle.std.specs.Map.{values_of}
-use Rattle.std.specs.Map.Iter.{deref}
-use Rattle.sfv_values.specs.BareItems.{bare_value}
-use Rattle.sfv_writer.specs.Versions.{ChecksVersion}
-use Rattle.sfv_writer.proofs.Checks.{checks_whole, param_values}
-use Rattle.sfv_writer.proofs.Lent.{map_gives}
+use Rattle.sfv_writer.{specs.Versions.ChecksVersion, proofs.Checks.{checks_whole, param_values}, proofs.Lent.map_gives}
 use Rattle.sfv_writer.proofs.version_check.check_parameters.Goals as goal
 
 pub returns : goal.returns
-returns c = subst (λ bs. ChecksVersion c.args.version bs c.check_all.result) (param_values c.args.params.now.entries)
-    (checks_whole (λ b. b ∷ []) c.args.version c.check_all.result
-    (map_gives deref bare_value c.values.result (values_of c.args.params.now.entries) c.values.ensures.rest) c.check_all.ensures)
+returns c = subst (λ bs. ChecksVersion c.args.version bs c.check_all.result) (param_values _)
+    (checks_whole (λ b. b ∷ []) c.args.version _ (map_gives _ _ _ _ c.values.ensures.rest) c.check_all.ensures)

@@ -1,8 +1,6 @@
-use Rattle.sfv_spec.specs.declared.field_kind.FieldKind.TheVariants.{Dictionary as dictionary_field}
-use Rattle.sfv_tree.specs.Trees.{dictionary_tree}
 use Rattle.sfv_tree.proofs.Words.{entry_tree}
 use Rattle.sfv_writer.proofs.ReadBack.{value_read_back}
-use Rattle.sfv.proofs.Emptiness.{first_unless_empty}
+use Rattle.sfv.{specs.Field.{dictionary_field, dictionary_tree}, proofs.Emptiness.first_unless_empty}
 use Rattle.sfv.proofs.field_type.DictionaryFieldType.append_to.Goals as goal
 
 pub returns-clause-has_member : goal.returns-clause-has_member

@@ -1,6 +1,5 @@
-use Rattle.sfv_spec.specs.declared.field_kind.FieldKind.TheVariants.{Item as item_field}
-use Rattle.sfv_tree.specs.Trees.{item_tree}
 use Rattle.sfv_writer.proofs.ReadBack.{value_read_back}
+use Rattle.sfv.specs.Field.{item_field, item_tree}
 use Rattle.sfv.proofs.field_type.ItemFieldType.append_to.Goals as goal
 
 pub returns-clause-read_back : goal.returns-clause-read_back

@@ -1,9 +1,6 @@
-use Rattle.std.proofs.Common.{rules, ◌≡◌, length}
-use Rattle.std.specs.Prelude.{IsTrue, ◌↔◌}
-use Rattle.sfv_spec.specs.declared.field_kind.FieldKind.TheVariants.{List as list_field}
-use Rattle.sfv_tree.specs.Trees.{member_tree, list_tree}
+use Rattle.std.proofs.Common.{rules, ◌≡◌, length, IsTrue, ◌↔◌}
 use Rattle.sfv_writer.proofs.ReadBack.{value_read_back}
-use Rattle.sfv.proofs.Emptiness.{first_unless_empty}
+use Rattle.sfv.{specs.Field.{list_field, member_tree, list_tree}, proofs.Emptiness.first_unless_empty}
 use Rattle.sfv.proofs.field_type.ListFieldType.append_to.Goals as goal
 
 pub returns-clause-has_member : goal.returns-clause-has_member

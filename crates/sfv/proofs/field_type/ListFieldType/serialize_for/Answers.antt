@@ -1,33 +1,24 @@
 use Rattle.std.proofs.Common.{string_bytes, option_map}
-use Rattle.sfv_spec.specs.Values.{HasMember, bare_values}
-use Rattle.sfv_spec.specs.declared.field_kind.FieldKind.TheVariants.{List as list_field}
-use Rattle.sfv_tree.specs.Trees.{list_tree}
 use Rattle.sfv_writer.proofs.Checks.{look_fails, memory_fails, named_has_member}
-use Rattle.sfv_writer.proofs.ReadBack.{serialized_for}
-use Rattle.sfv_writer.proofs.Separated.{anyway}
+use Rattle.sfv_writer.proofs.{ReadBack.serialized_for, Separated.anyway}
+use Rattle.sfv.specs.Field.{list_field, list_tree}
 use Rattle.sfv.proofs.field_type.ListFieldType.serialize_for.Goals as goal
 
 pub returns-in_err-check_list-clause-unsupported : goal.returns-in_err-check_list-clause-unsupported
 returns-in_err-check_list-clause-unsupported c =
-    look_fails c.args.version (bare_values list_field (list_tree c.args.self.now.items)) c.from_residual.result
-    c.in_err-check_list.field-0.0 c.from_residual.ensures.1 c.in_err-check_list.ensures
+    look_fails _ _ _ _ c.from_residual.ensures.1 c.in_err-check_list.ensures
 
 pub returns-in_err-check_list-clause-failed : goal.returns-in_err-check_list-clause-failed
-returns-in_err-check_list-clause-failed c =
-    anyway (HasMember list_field (list_tree c.args.self.now.items)) c.from_residual.result
-    (named_has_member c.args.version list_field (list_tree c.args.self.now.items) c.in_err-check_list.field-0.0
-    c.in_err-check_list.ensures)
+returns-in_err-check_list-clause-failed c = anyway _ _ (named_has_member c.args.version list_field
+    (list_tree c.args.self.now.items) _ c.in_err-check_list.ensures)
 
 pub returns-in_err-text-clause-unsupported : goal.returns-in_err-text-clause-unsupported
 returns-in_err-text-clause-unsupported c =
-    memory_fails c.args.version (bare_values list_field (list_tree c.args.self.now.items)) c.from_residual-in_err-text.result
-    c.from_residual-in_err-text.ensures.1 c.in_ok-check_list.ensures
+    memory_fails _ _ _ c.from_residual-in_err-text.ensures.1 c.in_ok-check_list.ensures
 
 pub returns-in_err-text-clause-failed : goal.returns-in_err-text-clause-failed
-returns-in_err-text-clause-failed c =
-    anyway (HasMember list_field (list_tree c.args.self.now.items)) c.from_residual-in_err-text.result c.in_err-text.ensures.out_of_memory
+returns-in_err-text-clause-failed c = anyway _ _ c.in_err-text.ensures.out_of_memory
 
 pub returns-clause-text : goal.returns-clause-text
-returns-clause-text c =
-    serialized_for c.args.version list_field (list_tree c.args.self.now.items) (option_map string_bytes c.in_ok-text.text)
-    c.in_ok-check_list.ensures c.in_ok-text.ensures.text
+returns-clause-text c = serialized_for c.args.version list_field (list_tree c.args.self.now.items)
+    (option_map string_bytes c.in_ok-text.text) c.in_ok-check_list.ensures c.in_ok-text.ensures.text

@@ -1,9 +1,6 @@
-use Rattle.sfv_spec.specs.declared.field_kind.FieldKind.TheVariants.{Item as item_field}
-use Rattle.sfv.specs.Parsers.{input_of, version_of}
-use Rattle.sfv.proofs.visits.Fields.{visits_answer, visits_syntax, visits_before}
-use Rattle.sfv.proofs.visits.Failed.{on_tree, visits_failure}
-use Rattle.sfv.proofs.visits.First.{visits_first}
-use Rattle.sfv.proofs.Memory.{visits_memory}
+use Rattle.sfv.specs.{Field.item_field, Parsers.{input_of, version_of}}
+use Rattle.sfv.proofs.{Memory.visits_memory, visits.Failed.{on_tree, visits_failure}}
+use Rattle.sfv.proofs.visits.{Fields.{visits_answer, visits_syntax, visits_before}, First.visits_first}
 use Rattle.sfv.proofs.parser.Parser.parse_item_with_visitor.Goals as goal
 
 pub returns-clause-visited : goal.returns-clause-visited
@@ -26,8 +23,7 @@ returns-clause-visitor g c = visits_failure g.V.Visitor c.args.self item_field c
     c.parse_item_field.ensures.visited
 
 pub returns-clause-first : goal.returns-clause-first
-returns-clause-first g c = visits_first g.V.Visitor c.args.self c.args.visitor c.parse_item_field.result
-    c.parse_item_field.ensures.visited
+returns-clause-first g c = visits_first _ _ _ _ c.parse_item_field.ensures.visited
 
 pub returns-clause-memory : goal.returns-clause-memory
 returns-clause-memory g c = visits_memory g.V.Visitor.takes g.V.Visitor.fails g.V.Visitor.finishes

@@ -1,8 +1,5 @@
-use Rattle.sfv_spec.specs.declared.field_kind.FieldKind.TheVariants.{List as list_field}
-use Rattle.sfv.specs.Parsers.{input_of, version_of}
-use Rattle.sfv.proofs.visits.Fields.{visits_answer, visits_syntax, visits_before}
-use Rattle.sfv.proofs.visits.Failed.{on_tree, visits_failure}
-use Rattle.sfv.proofs.Memory.{visits_memory}
+use Rattle.sfv.{specs.Field.list_field, specs.Parsers.{input_of, version_of}, proofs.Memory.visits_memory}
+use Rattle.sfv.proofs.visits.{Failed.{on_tree, visits_failure}, Fields.{visits_answer, visits_syntax, visits_before}}
 use Rattle.sfv.proofs.parser.Parser.parse_list_with_visitor.Goals as goal
 
 pub returns-clause-visited : goal.returns-clause-visited

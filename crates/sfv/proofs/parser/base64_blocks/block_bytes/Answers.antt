@@ -1,9 +1,6 @@
-use Rattle.std.proofs.Common.{◌≡◌, ◌%◌, ◌∙◌, ap, map, length, arith}
-use Rattle.std.proofs.lemmas.List.{length-map}
-use Rattle.sfv_model.specs.Content.{symbol_value}
-use Rattle.sfv_model.proofs.base64.Shape.{are_values}
-use Rattle.sfv.specs.parser.Base64.{bytes_of_groups}
-use Rattle.sfv.proofs.reads.Blocks.{grouped}
+use Rattle.std.proofs.{Common.{◌≡◌, ◌%◌, ◌∙◌, ap, map, length, arith}, lemmas.List.length-map}
+use Rattle.sfv_model.{specs.Content.symbol_value, proofs.base64.Shape.are_values}
+use Rattle.sfv.{specs.parser.Base64.bytes_of_groups, proofs.reads.Blocks.grouped}
 use Rattle.sfv.proofs.parser.base64_blocks.block_bytes.Goals as goal
 
 pub groups_of-requires : goal.groups_of-requires

@@ -1,5 +1,4 @@
-use Rattle.std.proofs.Common.{w32}
-use Rattle.std.proofs.lemmas.Simd.{below_from_Fits}
+use Rattle.std.proofs.{Common.w32, lemmas.Simd.below_from_Fits}
 use Rattle.sfv.proofs.reads.Blocks.{bytes_are}
 use Rattle.sfv.proofs.parser.base64_blocks.bytes_of.Goals as goal
 

@@ -16,8 +16,7 @@ pub loop-count-preserved : goal.loop-count-preserved
 loop-count-preserved c = (
   omega arith,
   omega arith,
-  rw c.in-Some.ensures.1 (spells_more c.args.bytes.now c.loop-count.count c.loop-count.value c.if-count-bytes.true
-      c.in-Some.ensures.0 c.loop-count.invariant.2),
+  rw c.in-Some.ensures.1 (spells_more _ _ _ c.if-count-bytes.true c.in-Some.ensures.0 c.loop-count.invariant.2),
 )
 
 pub returns-in_default-clause-run : goal.returns-in_default-clause-run

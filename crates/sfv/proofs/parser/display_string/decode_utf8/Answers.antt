@@ -1,8 +1,5 @@
-use Rattle.std.proofs.Common.{◌≡◌, ap, ◌∙◌, arith, rules, subst, string_bytes}
-use Rattle.std.proofs.lemmas.Str.{utf8_valid_len_le, IsUtf8-string_bytes}
-use Rattle.std.specs.Prelude.{IsUtf8}
-use Rattle.std.specs.Str.Lossy.{utf8_valid_len}
-use Rattle.std.specs.Str.{valid_up_to}
+use Rattle.std.{proofs.Common.{◌≡◌, ap, ◌∙◌, arith, rules, subst, string_bytes, IsUtf8}, specs.Str.valid_up_to}
+use Rattle.std.{specs.Str.Lossy.utf8_valid_len, proofs.lemmas.Str.{utf8_valid_len_le, IsUtf8-string_bytes}}
 use Rattle.sfv_model.proofs.quoted.DisplaySteps.{shown_text, shown_wrong}
 use Rattle.sfv.specs.parser.Cursor.{located}
 use Rattle.sfv.proofs.parser.display_string.decode_utf8.Goals as goal

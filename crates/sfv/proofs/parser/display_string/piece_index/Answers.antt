@@ -1,11 +1,8 @@
-use Rattle.std.proofs.Common.{◌≡◌, ℕ, suc, ◌+◌, ◌-◌, cond, sym, subst, arith, drop}
-use Rattle.std.specs.Prelude.{slice_index, ◌==◌}
-use Rattle.std.proofs.lemmas.Bool.{eq-eqb, ne_eqb}
+use Rattle.std.proofs.Common.{◌≡◌, ℕ, suc, ◌+◌, ◌-◌, cond, sym, subst, arith, drop, slice_index, ◌==◌, eq-eqb, ne_eqb}
 use Rattle.sfv_spec.proofs.Marks.{percent_sign}
-use Rattle.sfv_model.specs.Quoted.{after_pieces}
-use Rattle.sfv_model.proofs.quoted.DisplaySteps.{LeadsTo, leads_on}
-use Rattle.sfv.proofs.parser.display_string.piece_index.Goals as goal
+use Rattle.sfv_model.{specs.Quoted.after_pieces, proofs.quoted.DisplaySteps.{LeadsTo, leads_on}}
 use Rattle.sfv.proofs.parser.display_string.piece_index.Goals.{then-input-index-eq37, else-input-index-eq37}
+use Rattle.sfv.proofs.parser.display_string.piece_index.Goals as goal
 
 pub bounds-input-index : goal.bounds-input-index
 bounds-input-index c =
@@ -22,9 +19,8 @@ loop-preserved c =
     (after_pieces c.args.count (drop c.args.start c.args.input.now))) n c.loop.invariant)).1 in
     let step : cond (slice_index c.args.input.now c.loop.index == percent_sign) 3 1 ≡ c.if-input-index-eq37.index =
     elim c.if-input-index-eq37.branch [
-      | then-input-index-eq37 w ↦
-          rw (eq-eqb (slice_index c.args.input.now c.loop.index) percent_sign w.if-input-index-eq37.true)
-          (sym w.index-is)
+      | then-input-index-eq37 w ↦ rw
+          (eq-eqb (slice_index c.args.input.now c.loop.index) percent_sign w.if-input-index-eq37.true) (sym w.index-is)
       | else-input-index-eq37 w ↦ rw (ne_eqb (slice_index c.args.input.now c.loop.index) percent_sign
           w.if-input-index-eq37.false) (sym w.index-is)
     ] in

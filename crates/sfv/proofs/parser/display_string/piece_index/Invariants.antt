@@ -1,6 +1,5 @@
 use Rattle.std.proofs.Common.{◌-◌, drop}
-use Rattle.sfv_model.specs.Quoted.{after_pieces}
-use Rattle.sfv_model.proofs.quoted.DisplaySteps.{LeadsTo}
+use Rattle.sfv_model.{specs.Quoted.after_pieces, proofs.quoted.DisplaySteps.LeadsTo}
 use Rattle.sfv.proofs.parser.display_string.piece_index.Given as goal
 
 abbrev pub invariant-loop : goal.invariant-loop

@@ -1,9 +1,7 @@
 use Rattle.std.proofs.Common.{◌≡◌, ◌∙◌, Ok, sym}
 use Rattle.sfv_spec.proofs.Marks.{is_space}
 use Rattle.sfv_model.specs.Reader.{span}
-use Rattle.sfv.specs.parser.Cursor.{rest}
-use Rattle.sfv.specs.Parsers.{input_of}
-use Rattle.sfv.proofs.reads.Errors.{left_with}
+use Rattle.sfv.{specs.Parsers.input_of, specs.parser.Cursor.rest, proofs.reads.Errors.left_with}
 use Rattle.sfv.proofs.visits.AsRead.{item_field_fails, item_field_unfinished, item_field_trailing, item_field_done}
 use Rattle.sfv.proofs.visits.AsRead.{item_field_read}
 use Rattle.sfv.proofs.parser.field.parse_item_field.Goals as goal

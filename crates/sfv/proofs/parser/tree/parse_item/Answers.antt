@@ -1,12 +1,7 @@
-use Rattle.std.proofs.Common.{◌∙◌, sym, subst}
-use Rattle.std.specs.declared.alloc.Global.{Global}
-use Rattle.sfv_spec.specs.declared.field_kind.FieldKind.TheVariants.{Item as item_field}
-use Rattle.sfv_tree.specs.Trees.{item_tree}
-use Rattle.sfv.specs.declared.parser.Parser.{Parser}
-use Rattle.sfv.specs.Memory.{NeedsMemory}
-use Rattle.sfv.specs.parser.Cursor.{kept_input}
-use Rattle.sfv.proofs.reads.Errors.{left_with}
-use Rattle.sfv.proofs.trees.Items.{item_rejected, start_rejected, item_trailing, item_read}
+use Rattle.std.{proofs.Common.{◌∙◌, sym, subst}, specs.declared.alloc.Global.Global}
+use Rattle.sfv.specs.Field.{item_field, item_tree, NeedsMemory}
+use Rattle.sfv.specs.{declared.parser.Parser.Parser, parser.Cursor.kept_input}
+use Rattle.sfv.proofs.{reads.Errors.left_with, trees.Items.{item_rejected, start_rejected, item_trailing, item_read}}
 use Rattle.sfv.proofs.parser.tree.parse_item.Goals as goal
 
 pub returns-in_err-expect_bare_item_start-clause-rejected : goal.returns-in_err-expect_bare_item_start-clause-rejected

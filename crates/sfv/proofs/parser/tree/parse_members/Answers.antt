@@ -1,10 +1,7 @@
 use Rattle.std.proofs.Common.{◌∙◌, ap, not}
-use Rattle.sfv.proofs.reads.Errors.{left_with}
-use Rattle.sfv.proofs.trees.Fields.{none_read, first_rejected, members_read, members_fault}
-use Rattle.sfv.proofs.trees.Fields.{members_need}
-use Rattle.sfv.proofs.Needed.{needed}
-use Rattle.sfv.specs.Parsers.{input_of}
-use Rattle.sfv.specs.parser.Members.{field_of}
+use Rattle.sfv.specs.{Parsers.input_of, parser.Members.field_of}
+use Rattle.sfv.proofs.{Needed.needed, reads.Errors.left_with}
+use Rattle.sfv.proofs.trees.Fields.{none_read, first_rejected, members_read, members_fault, members_need}
 use Rattle.sfv.proofs.parser.tree.parse_members.Goals as goal
 
 pub returns-then-is_none-clause-read : goal.returns-then-is_none-clause-read

@@ -1,8 +1,5 @@
-use Rattle.std.proofs.Common.{rules, ◌≡◌, ◌++◌, ◌∙◌, refl, codes, string_bytes}
-use Rattle.std.specs.Prelude.{pos}
-use Rattle.sfv.specs.Canonical.{bare_text}
-use Rattle.sfv.specs.Written.{param_text}
-use Rattle.sfv_readers.specs.Field.{ref_value, token, integer, text_of as token_text}
+use Rattle.std.proofs.Common.{rules, ◌≡◌, ◌++◌, ◌∙◌, refl, codes, string_bytes, pos}
+use Rattle.sfv.specs.{Canonical.bare_text, Field.{ref_value, token, integer, text_of as token_text}, Written.param_text}
 use Rattle.sfv_http_fields.proofs.ReadBack.{three_added}
 use Rattle.sfv_http_fields.proofs.proxy_status.writing.append_item.Goals as goal
 

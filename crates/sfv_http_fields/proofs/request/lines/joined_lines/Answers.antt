@@ -1,11 +1,10 @@
-use Rattle.std.specs.Prelude.{map}
+use Rattle.std.proofs.Common.{map}
 use Rattle.httparse.specs.Spans.{header_bytes}
 use Rattle.sfv_headers.proofs.Joining.{none_yet}
 use Rattle.sfv_http_fields.specs.Lines.{lines_of}
-use Rattle.sfv_http_fields.proofs.Faults.{of_any}
-use Rattle.sfv_http_fields.proofs.Joined.{line_appended, line_left_out, line_fails}
-use Rattle.sfv_http_fields.proofs.request.lines.joined_lines.Goals as goal
+use Rattle.sfv_http_fields.proofs.{Faults.of_any, Joined.{line_appended, line_left_out, line_fails}}
 use Rattle.sfv_http_fields.proofs.request.lines.joined_lines.Goals.{then-is_named+in_ok-add_line, else-is_named}
+use Rattle.sfv_http_fields.proofs.request.lines.joined_lines.Goals as goal
 
 pub loop-header-init : goal.loop-header-init
 loop-header-init c = none_yet (lines_of c.args.name.now (map (header_bytes c.args.input.now) c.args.headers.now))

@@ -1,4 +1,4 @@
-use Rattle.std.specs.Prelude.{map, drop}
+use Rattle.std.proofs.Common.{map, drop}
 use Rattle.httparse.specs.Spans.{header_bytes}
 use Rattle.sfv_headers.proofs.Joining.{IsSoFar}
 use Rattle.sfv_http_fields.specs.Lines.{lines_of}

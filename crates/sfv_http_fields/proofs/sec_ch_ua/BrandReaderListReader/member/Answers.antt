@@ -1,4 +1,4 @@
-use Rattle.std.specs.Prelude.{vec_items}
+use Rattle.std.proofs.Common.{vec_items}
 use Rattle.sfv_http_fields.proofs.BrandLists.{pushed, not_pushed, left_out}
 use Rattle.sfv_http_fields.proofs.sec_ch_ua.BrandReaderListReader.member.Goals as goal
 

@@ -1,5 +1,4 @@
-use Rattle.std.proofs.Common.{◌∙◌}
-use Rattle.std.specs.Prelude.{map}
+use Rattle.std.proofs.Common.{◌∙◌, map}
 use Rattle.sfv_lint_head.specs.Heads.{line_of}
 use Rattle.sfv_lint_report.proofs.Fields.{with_field}
 use Rattle.sfv_lint_report.proofs.report.Report.add.Goals as goal

@@ -24,6 +24,5 @@ returns-clause-text g c =
     }
 
 pub returns-in_err-none-clause-failed : goal.returns-in_err-none-clause-failed
-returns-in_err-none-clause-failed g c =
-    at_exit c.from_residual.result _ _ _ c.from_residual.ensures.1
+returns-in_err-none-clause-failed g c = at_exit c.from_residual.result _ _ _ c.from_residual.ensures.1
     (rw (c.text_mut.ensures.text, c.separator-separator.ensures) at c.in_err-none.ensures.failed)

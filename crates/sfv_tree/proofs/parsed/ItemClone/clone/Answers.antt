@@ -1,6 +1,5 @@
 use Rattle.std.proofs.Common.{◌≡◌, refl}
-use Rattle.sfv_values.proofs.Copies.{copied_value}
-use Rattle.sfv_values.specs.BareItems.{bare_value}
+use Rattle.sfv_values.{specs.BareItems.bare_value, proofs.Copies.copied_value}
 use Rattle.sfv_tree.proofs.parsed.ItemClone.clone.Goals as goal
 
 pub returns : goal.returns

@@ -1,19 +1,9 @@
-use Rattle.std.proofs.Common.{◌≡◌, codes}
-use Rattle.std.specs.Prelude.{IsTrue}
-use Rattle.std.specs.Map.Iter.{TakesFirst, deref_pair}
+use Rattle.std.{proofs.Common.{◌≡◌, codes, IsTrue}, specs.Map.Iter.{TakesFirst, deref_pair}}
 use Rattle.indexmap.proofs.MapLemmas.{OnOk-map}
-use Rattle.sfv_spec.specs.Classes.{is_key}
-use Rattle.sfv_spec.specs.Values.{IsMember, member_values}
-use Rattle.sfv_spec.specs.Ordered.{ordered_member}
-use Rattle.sfv_spec.proofs.Distinct.{dictionary_own}
-use Rattle.sfv_spec.specs.Canonical.{dictionary_member_text}
-use Rattle.sfv_tree.specs.Trees.{dictionary_tree}
-use Rattle.sfv_tree.proofs.Words.{entry_tree}
-use Rattle.sfv_tree.proofs.Distinct.{members_distinct}
-use Rattle.sfv_writer.proofs.Words.{lent_dictionary_member}
-use Rattle.sfv_writer.proofs.Lent.{map_gives}
-use Rattle.sfv_writer.proofs.Separated.{all_both}
-use Rattle.sfv_writer.proofs.AllTaken.{whole_written}
+use Rattle.sfv_spec.specs.{Canonical.dictionary_member_text, Classes.is_key, Ordered.ordered_member}
+use Rattle.sfv_spec.{specs.Values.{IsMember, member_values}, proofs.Distinct.dictionary_own}
+use Rattle.sfv_tree.{specs.Trees.dictionary_tree, proofs.Distinct.members_distinct, proofs.Words.entry_tree}
+use Rattle.sfv_writer.proofs.{AllTaken.whole_written, Lent.map_gives, Separated.all_both, Words.lent_dictionary_member}
 use Rattle.sfv_writer.proofs.dictionary.RefDictionaryFragment.serialize.Goals as goal
 
 pub returns : goal.returns

@@ -1,15 +1,9 @@
-use Rattle.std.proofs.Common.{◌≡◌, codes, ◌∙◌}
-use Rattle.std.specs.Slice.Iter.{iter_steps}
+use Rattle.std.{proofs.Common.{◌≡◌, codes, ◌∙◌}, specs.Slice.Iter.iter_steps}
 use Rattle.indexmap.proofs.MapLemmas.{OnOk-map}
-use Rattle.sfv_spec.specs.Values.{IsMember, member_values}
-use Rattle.sfv_spec.specs.Ordered.{ordered_member}
+use Rattle.sfv_spec.specs.{Canonical.member_text, Ordered.ordered_member, Values.{IsMember, member_values}}
 use Rattle.sfv_spec.proofs.Distinct.{list_own}
-use Rattle.sfv_spec.specs.Canonical.{member_text}
 use Rattle.sfv_tree.specs.Trees.{member_tree, list_tree}
-use Rattle.sfv_writer.proofs.Words.{lent_list_member}
-use Rattle.sfv_writer.proofs.Lent.{slice_gives}
-use Rattle.sfv_writer.proofs.Separated.{all_both}
-use Rattle.sfv_writer.proofs.AllTaken.{whole_written}
+use Rattle.sfv_writer.proofs.{AllTaken.whole_written, Lent.slice_gives, Separated.all_both, Words.lent_list_member}
 use Rattle.sfv_writer.proofs.list.RefListFragment.serialize.Goals as goal
 
 pub returns : goal.returns

@@ -1,7 +1,5 @@
-use Rattle.std.proofs.Common.{◌∷◌, [], ◌++◌, ℕ, length, flat_map, false, ap, arith}
-use Rattle.std.proofs.lemmas.List.{length-append}
-use Rattle.sfv_writer.specs.Quoted.{piece_of}
-use Rattle.sfv_writer.proofs.Room.{refused, inside_len}
+use Rattle.std.proofs.Common.{◌∷◌, [], ◌++◌, ℕ, length, flat_map, false, ap, arith, length-append}
+use Rattle.sfv_writer.{specs.Quoted.piece_of, proofs.Room.{refused, inside_len}}
 use Rattle.sfv_writer.proofs.string.StringRefFragment.serialize.Goals as goal
 
 pub returns-in_err-reserve-clause-room : goal.returns-in_err-reserve-clause-room

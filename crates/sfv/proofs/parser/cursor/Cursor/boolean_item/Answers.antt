@@ -1,7 +1,6 @@
 use Rattle.std.proofs.Common.{◌∙◌}
 use Rattle.sfv_model.specs.Bare.{boolean_at}
-use Rattle.sfv.proofs.reads.Errors.{left_with, FaultOf-same}
-use Rattle.sfv.proofs.reads.Steps.{bare_boolean}
+use Rattle.sfv.proofs.reads.{Errors.{left_with, FaultOf-same}, Steps.bare_boolean}
 use Rattle.sfv.proofs.parser.cursor.Cursor.boolean_item.Goals as goal
 
 pub returns-in_err-boolean-clause-read : goal.returns-in_err-boolean-clause-read

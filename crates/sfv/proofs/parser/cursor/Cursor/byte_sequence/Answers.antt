@@ -1,12 +1,11 @@
 use Rattle.std.proofs.Common.{◌≡◌, ◌+◌, List, ℕ, length, drop, sym, ◌∙◌, inl, inr, ◌⊎◌, get_or, arith, refl}
-use Rattle.std.proofs.lemmas.List.{take_rest}
-use Rattle.std.proofs.lemmas.Result.{err_from_is_err_and}
-use Rattle.sfv.proofs.reads.Contents.{runs_of, bytes_read, lone_located, malformed_located, unterminated_located}
-use Rattle.sfv.proofs.parser.cursor.Cursor.byte_sequence.Goals as goal
+use Rattle.std.proofs.lemmas.{List.take_rest, Result.err_from_is_err_and}
+use Rattle.sfv_spec.proofs.Marks.{colon}
 use Rattle.sfv.proofs.parser.cursor.Cursor.byte_sequence.Goals.{then-end-content-via-then-end-content}
 use Rattle.sfv.proofs.parser.cursor.Cursor.byte_sequence.Goals.{then-end-content-via-else-end-content+then-content-end-ne58}
 use Rattle.sfv.proofs.parser.cursor.Cursor.byte_sequence.Goals.{then-contains, else-contains}
-use Rattle.sfv_spec.proofs.Marks.{colon}
+use Rattle.sfv.proofs.reads.Contents.{runs_of, bytes_read, lone_located, malformed_located, unterminated_located}
+use Rattle.sfv.proofs.parser.cursor.Cursor.byte_sequence.Goals as goal
 
 pub returns-then-end-content-clause-read : goal.returns-then-end-content-clause-read
 returns-then-end-content-clause-read c =

@@ -1,8 +1,6 @@
 use Rattle.std.proofs.Common.{◌∙◌}
-use Rattle.sfv_spec.specs.Values.{byte_sequence}
 use Rattle.sfv_model.specs.Content.{bytes_at}
-use Rattle.sfv.proofs.reads.Errors.{left_with, ErrorOf-part}
-use Rattle.sfv.proofs.reads.Steps.{bare_bytes, given}
+use Rattle.sfv.proofs.reads.{Errors.{left_with, ErrorOf-part}, Steps.{bare_bytes, given}}
 use Rattle.sfv.proofs.parser.cursor.Cursor.byte_sequence_item.Goals as goal
 
 pub returns-in_err-byte_sequence-clause-read : goal.returns-in_err-byte_sequence-clause-read
@@ -12,7 +10,6 @@ returns-in_err-byte_sequence-clause-read c =
 
 pub returns-clause-read : goal.returns-clause-read
 returns-clause-read c = (
-  bare_bytes _ _ _ c.requires c.skip.ensures.skips
-      ∙ given bytes_at (λ s. byte_sequence s) _ _ _ c.in_ok-byte_sequence.ensures.read.0,
+  bare_bytes _ _ _ c.requires c.skip.ensures.skips ∙ given _ _ _ _ _ c.in_ok-byte_sequence.ensures.read.0,
   c.in_ok-byte_sequence.ensures.read.1 ∙ c.skip.ensures.kept,
 )

@@ -1,12 +1,10 @@
 use Rattle.std.proofs.Common.{◌∙◌, refl, ap}
+use Rattle.sfv_model.{specs.Items.{parameter_at, parameters_at}, proofs.sound.Items.Consumes-parameter}
 use Rattle.sfv_tree.specs.Trees.{pairs_tree}
-use Rattle.sfv_model.specs.Items.{parameter_at, parameters_at}
-use Rattle.sfv_model.proofs.sound.Items.{Consumes-parameter}
 use Rattle.sfv.specs.parser.Cursor.{version, input, rest}
-use Rattle.sfv.proofs.trees.Errors.{Any, fails_in, refused}
-use Rattle.sfv.proofs.reads.Errors.{left_with, kept_reads}
-use Rattle.sfv.proofs.visits.Parameters.{visited_all}
+use Rattle.sfv.proofs.{reads.Errors.{left_with, kept_reads}, trees.Errors.{Any, fails_in, refused}}
 use Rattle.sfv.proofs.trees.Parameters.{collected_none, collected_more, collected_fails}
+use Rattle.sfv.proofs.visits.Parameters.{visited_all}
 use Rattle.sfv.proofs.parser.cursor.Cursor.collect_parameters.Goals as goal
 
 pub loop-parameter-init : goal.loop-parameter-init

@@ -1,7 +1,6 @@
 use Rattle.std.proofs.Common.{◌≡◌, length}
 use Rattle.indexmap.specs.IndexMap.{hasher_of}
-use Rattle.sfv.specs.parser.Cursor.{kept, version, rest}
-use Rattle.sfv.proofs.trees.Parameters.{CollectedParameters}
+use Rattle.sfv.{specs.parser.Cursor.{kept, version, rest}, proofs.trees.Parameters.CollectedParameters}
 use Rattle.sfv.proofs.parser.cursor.Cursor.collect_parameters.Given as goal
 
 abbrev pub invariant-loop-parameter : goal.invariant-loop-parameter

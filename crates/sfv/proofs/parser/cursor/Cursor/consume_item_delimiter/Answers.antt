@@ -1,6 +1,5 @@
 use Rattle.std.proofs.Common.{◌∙◌, sym}
-use Rattle.sfv.proofs.reads.Errors.{FaultOf-here}
-use Rattle.sfv.proofs.reads.Delimiters.{parted_item, closed_item, undelimited_item, unended_item}
+use Rattle.sfv.proofs.reads.{Delimiters.{parted_item, closed_item, undelimited_item, unended_item}, Errors.FaultOf-here}
 use Rattle.sfv.proofs.parser.cursor.Cursor.consume_item_delimiter.Goals as goal
 
 pub returns-then-take_if : goal.returns-then-take_if
@@ -17,8 +16,7 @@ returns-then-take_if-2 c = (
 )
 
 pub returns-then-is_some : goal.returns-then-is_some
-returns-then-is_some c = rw c.error.ensures
-    (FaultOf-here _ c.take_if-2.new.self _ _ (c.take_if-2.ensures.kept
+returns-then-is_some c = rw c.error.ensures (FaultOf-here _ c.take_if-2.new.self _ _ (c.take_if-2.ensures.kept
     ∙ c.take_if.ensures.kept) (undelimited_item _ _ _ c.if-take_if.ensures.takes c.if-take_if-2.ensures.takes
     (rw (← c.peek.ensures) (sym c.is_some.ensures ∙ c.if-is_some.true))))
 

@@ -1,9 +1,6 @@
 use Rattle.std.proofs.Common.{◌∙◌, refl}
-use Rattle.sfv_spec.specs.declared.version.Version.TheVariants.{Rfc9651}
-use Rattle.sfv_model.specs.Bare.{date_at}
-use Rattle.sfv.specs.parser.Cursor.{kept}
-use Rattle.sfv.proofs.reads.Errors.{left_with, FaultOf-same}
-use Rattle.sfv.proofs.reads.Steps.{bare_date}
+use Rattle.sfv_model.{specs.Bare.date_at, proofs.Types.Rfc9651}
+use Rattle.sfv.{specs.parser.Cursor.kept, proofs.reads.Errors.{left_with, FaultOf-same}, proofs.reads.Steps.bare_date}
 use Rattle.sfv.proofs.parser.cursor.Cursor.date_item.Goals as goal
 
 pub returns-in_err-date-in-Rfc9651-clause-read : goal.returns-in_err-date-in-Rfc9651-clause-read

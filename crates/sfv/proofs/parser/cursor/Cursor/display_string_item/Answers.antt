@@ -1,9 +1,6 @@
 use Rattle.std.proofs.Common.{◌∙◌, refl}
-use Rattle.sfv_spec.specs.declared.version.Version.TheVariants.{Rfc9651}
-use Rattle.sfv_model.specs.Bare.{quoted_at}
-use Rattle.sfv.specs.parser.Cursor.{kept}
-use Rattle.sfv.proofs.reads.Errors.{left_with, ErrorOf-same}
-use Rattle.sfv.proofs.reads.Steps.{bare_quoted}
+use Rattle.sfv_model.{specs.Bare.quoted_at, proofs.Types.Rfc9651}
+use Rattle.sfv.{specs.parser.Cursor.kept, proofs.reads.Errors.{left_with, ErrorOf-same}, proofs.reads.Steps.bare_quoted}
 use Rattle.sfv.proofs.parser.cursor.Cursor.display_string_item.Goals as goal
 
 pub returns-in_err-display_string-in-Rfc9651-clause-read : goal.returns-in_err-display_string-in-Rfc9651-clause-read

@@ -1,8 +1,5 @@
-use Rattle.std.proofs.Common.{refl, ◌∙◌, ap}
-use Rattle.std.specs.Prelude.{is_some}
-use Rattle.sfv.specs.parser.Cursor.{kept}
-use Rattle.sfv.proofs.reads.Errors.{FaultOf-here}
-use Rattle.sfv.proofs.reads.Escapes.{stops}
+use Rattle.std.proofs.Common.{refl, ◌∙◌, ap, is_some}
+use Rattle.sfv.{specs.parser.Cursor.kept, proofs.reads.Errors.FaultOf-here, proofs.reads.Escapes.stops}
 use Rattle.sfv.proofs.parser.cursor.Cursor.end_error.Goals as goal
 
 pub returns : goal.returns

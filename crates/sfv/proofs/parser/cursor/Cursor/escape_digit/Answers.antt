@@ -1,6 +1,5 @@
 use Rattle.std.proofs.Common.{refl, ◌∙◌, sym}
-use Rattle.sfv.specs.parser.Cursor.{kept, rest}
-use Rattle.sfv.proofs.reads.Errors.{FaultOf-here}
+use Rattle.sfv.{specs.parser.Cursor.{kept, rest}, proofs.reads.Errors.FaultOf-here}
 use Rattle.sfv.proofs.reads.Escapes.{digit_cut, digit_wrong, no_digit, digit_is, no_first, first_is}
 use Rattle.sfv.proofs.parser.cursor.Cursor.escape_digit.Goals as goal
 
@@ -24,12 +23,7 @@ returns-in_default-escape_digit_value c =
 pub returns : goal.returns
 returns c =
     let digit = digit_is c.in-Some.byte _ (sym c.escape_digit_value.ensures ∙ c.in-Some-escape_digit_value.is) in (
-      (
-        c.in-Some.byte,
-        first_is _ _ _ _ (sym c.peek.ensures ∙ c.in-Some.is) c.skip.ensures.skips.1,
-        digit.0,
-        digit.1,
-      ),
+      (c.in-Some.byte, first_is _ _ _ _ (sym c.peek.ensures ∙ c.in-Some.is) c.skip.ensures.skips.1, digit.0, digit.1),
       digit.2,
       c.skip.ensures.kept,
     )

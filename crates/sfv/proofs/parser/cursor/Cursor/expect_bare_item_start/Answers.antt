@@ -1,7 +1,5 @@
 use Rattle.std.proofs.Common.{refl}
-use Rattle.sfv.specs.parser.Cursor.{kept}
-use Rattle.sfv.proofs.reads.Errors.{FaultOf-here}
-use Rattle.sfv.proofs.trees.Parts.{bare_none}
+use Rattle.sfv.{specs.parser.Cursor.kept, proofs.reads.Errors.FaultOf-here, proofs.trees.Parts.bare_none}
 use Rattle.sfv.proofs.parser.cursor.Cursor.expect_bare_item_start.Goals as goal
 
 pub returns : goal.returns

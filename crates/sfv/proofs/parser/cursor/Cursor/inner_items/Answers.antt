@@ -1,26 +1,21 @@
-use Rattle.std.proofs.Common.{◌≡◌, ◌∙◌, true, false, ap, not, refl, []}
-use Rattle.std.specs.Prelude.{is_some}
+use Rattle.std.proofs.Common.{◌≡◌, ◌∙◌, true, false, ap, not, refl, [], is_some}
+use Rattle.sfv_spec.proofs.Marks.{right_parenthesis}
 use Rattle.sfv_model.specs.Reader.{first, byte}
 use Rattle.sfv.specs.parser.Cursor.{rest}
-use Rattle.sfv_spec.proofs.Marks.{right_parenthesis}
-use Rattle.sfv.proofs.reads.Delimiters.{items_closed, items_first}
-use Rattle.sfv.proofs.reads.Errors.{left_with}
-use Rattle.sfv.proofs.visits.Loops.{items_loop}
-use Rattle.sfv.proofs.visits.AsRead.{begun_reads, more_reads, ended_reads, shorter_reads, no_items_read}
-use Rattle.sfv.proofs.visits.AsRead.{first_stops, one_stops, delimiter_error}
-use Rattle.sfv.proofs.visits.Passed.{passes_then, passes_spaces, passes_if, Passing-item_delimiter}
+use Rattle.sfv.proofs.reads.{Delimiters.{items_closed, items_first}, Errors.left_with}
+use Rattle.sfv.proofs.visits.AsRead.{begun_reads, more_reads, ended_reads, shorter_reads, no_items_read, first_stops}
+use Rattle.sfv.proofs.visits.AsRead.{one_stops, delimiter_error}
+use Rattle.sfv.proofs.visits.{Loops.items_loop, Passed.{passes_then, passes_spaces, passes_if, Passing-item_delimiter}}
 use Rattle.sfv.proofs.parser.cursor.Cursor.inner_items.Goals as goal
 
 pub returns-in_err-inner_item-clause-visited : goal.returns-in_err-inner_item-clause-visited
-returns-in_err-inner_item-clause-visited g c =
-    rw (left_with c.from_residual.ensures.1)
-    (first_stops g.V.Visitor items_loop c.args.self.now _ c.take_if.new.self c.inner_item.new.self c.args.visitor.now
-    c.inner_item.new.visitor _ (passes_then _ _ _ (passes_spaces _ _ _ c.skip_sp.ensures.skipped.1)
+returns-in_err-inner_item-clause-visited g c = rw (left_with c.from_residual.ensures.1)
+    (first_stops g.V.Visitor items_loop c.args.self.now _ c.take_if.new.self c.inner_item.new.self
+    c.args.visitor.now c.inner_item.new.visitor _ (passes_then _ _ _ (passes_spaces _ _ _ c.skip_sp.ensures.skipped.1)
     (passes_if (byte right_parenthesis) false _ _ refl c.if-take_if.ensures.takes)) (
       items_first _ _ _ _ _ (rw (← c.peek.ensures) (c.is_none.ensures
           ∙ ap not c.if-is_none.false)) c.skip_sp.ensures.skipped.1 c.if-take_if.ensures.takes,
-      c.take_if.ensures.kept
-          ∙ c.skip_sp.ensures.kept,
+      c.take_if.ensures.kept ∙ c.skip_sp.ensures.kept,
     ) c.in_err-inner_item.ensures.visited)
 
 pub loop-self-init : goal.loop-self-init
@@ -31,8 +26,7 @@ loop-self-init g c = record {
       (passes_if (byte right_parenthesis) false _ _ refl c.if-take_if.ensures.takes)) (
         items_first _ _ _ _ _ (rw (← c.peek.ensures) (c.is_none.ensures
             ∙ ap not c.if-is_none.false)) c.skip_sp.ensures.skipped.1 c.if-take_if.ensures.takes,
-        c.take_if.ensures.kept
-            ∙ c.skip_sp.ensures.kept,
+        c.take_if.ensures.kept ∙ c.skip_sp.ensures.kept,
       ) c.in_ok-inner_item.ensures.visited;
 }
 
@@ -90,7 +84,6 @@ returns-then-take_if-clause-visited g c t pass = (
     items_closed _ _ _ _ _ (rw (← c.peek.ensures) (c.is_none.ensures
         ∙ ap not c.if-is_none.false)) c.skip_sp.ensures.skipped.1 c.if-take_if.ensures.takes,
     refl,
-    c.take_if.ensures.kept
-        ∙ c.skip_sp.ensures.kept,
+    c.take_if.ensures.kept ∙ c.skip_sp.ensures.kept,
   ),
 )

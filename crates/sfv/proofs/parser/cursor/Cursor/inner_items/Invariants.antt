@@ -1,8 +1,6 @@
 use Rattle.std.proofs.Common.{length}
 use Rattle.sfv_model.specs.Members.{inner_items_at}
-use Rattle.sfv.specs.parser.Cursor.{version, rest}
-use Rattle.sfv.proofs.visits.Loops.{items_loop}
-use Rattle.sfv.proofs.visits.AsRead.{ReadSoFar}
+use Rattle.sfv.{specs.parser.Cursor.{version, rest}, proofs.visits.AsRead.ReadSoFar, proofs.visits.Loops.items_loop}
 use Rattle.sfv.proofs.parser.cursor.Cursor.inner_items.Given as goal
 
 abbrev pub invariant-loop-self : goal.invariant-loop-self

@@ -1,13 +1,9 @@
 use Rattle.std.proofs.Common.{◌∙◌, refl, inr}
+use Rattle.sfv_model.specs.{Items.key_at, Members.{member_value_at, keyed_at}}
 use Rattle.sfv_tree.specs.Seeds.{MemberHasSeed}
-use Rattle.sfv_values.specs.CheckedTexts.{text_of as key_text}
-use Rattle.sfv_model.specs.Items.{key_at}
-use Rattle.sfv_model.specs.Members.{member_value_at, keyed_at}
-use Rattle.sfv.specs.parser.Cursor.{version, rest}
-use Rattle.sfv.proofs.reads.Errors.{left_with, kept_reads}
-use Rattle.sfv.proofs.trees.Errors.{fails_in}
-use Rattle.sfv.proofs.trees.Loops.{seed_kept}
-use Rattle.sfv.proofs.trees.Parts.{key_fails, keyed_fails, keyed_some, entered_tree, entered_seed}
+use Rattle.sfv.specs.{Field.text_of as key_text, parser.Cursor.{version, rest}}
+use Rattle.sfv.proofs.{reads.Errors.{left_with, kept_reads}, trees.Errors.fails_in}
+use Rattle.sfv.proofs.trees.{Loops.seed_kept, Parts.{key_fails, keyed_fails, keyed_some, entered_tree, entered_seed}}
 use Rattle.sfv.proofs.parser.cursor.Cursor.insert_member.Goals as goal
 
 pub returns-in_err-key-clause-tree : goal.returns-in_err-key-clause-tree

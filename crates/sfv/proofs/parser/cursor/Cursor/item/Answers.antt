@@ -1,10 +1,8 @@
-use Rattle.sfv.proofs.reads.Errors.{left_with}
-use Rattle.sfv.proofs.visits.AsRead.{item_error, item_stops, item_reads}
+use Rattle.sfv.proofs.{reads.Errors.left_with, visits.AsRead.{item_error, item_stops, item_reads}}
 use Rattle.sfv.proofs.parser.cursor.Cursor.item.Goals as goal
 
 pub returns-in_err-bare_item-clause-visited : goal.returns-in_err-bare_item-clause-visited
-returns-in_err-bare_item-clause-visited g c =
-    rw (left_with c.from_residual.ensures.1)
+returns-in_err-bare_item-clause-visited g c = rw (left_with c.from_residual.ensures.1)
     (item_error g.V.Visitor c.args.self.now c.bare_item.new.self c.args.visitor.now _ c.in_err-bare_item.ensures.read)
 
 pub returns-in_err-visit-clause-visited : goal.returns-in_err-visit-clause-visited

@@ -1,12 +1,8 @@
-use Rattle.std.proofs.Common.{◌∙◌, ap, not, refl, []}
-use Rattle.std.proofs.lemmas.Bool.{true≢false}
-use Rattle.sfv.specs.parser.Cursor.{version}
-use Rattle.sfv.specs.parser.Members.{member_parts, one_member_at}
-use Rattle.sfv.proofs.reads.Delimiters.{members_none, members_first, ends_there}
-use Rattle.sfv.proofs.reads.Errors.{left_with}
-use Rattle.sfv.proofs.visits.Loops.{members_loop}
+use Rattle.std.proofs.Common.{◌∙◌, ap, not, refl, [], true≢false}
+use Rattle.sfv.specs.parser.{Cursor.version, Members.{member_parts, one_member_at}}
+use Rattle.sfv.proofs.reads.{Delimiters.{members_none, members_first, ends_there}, Errors.left_with}
 use Rattle.sfv.proofs.visits.AsRead.{awaits_first, awaits_next, turn_shorter, delimiter_error}
-use Rattle.sfv.proofs.visits.Passed.{passes_then, passes_spaces, Passing-member_delimiter}
+use Rattle.sfv.proofs.visits.{Loops.members_loop, Passed.{passes_then, passes_spaces, Passing-member_delimiter}}
 use Rattle.sfv.proofs.parser.cursor.Cursor.members.Goals as goal
 
 pub returns-then-is_none-clause-visited : goal.returns-then-is_none-clause-visited

@@ -1,16 +1,12 @@
 use Rattle.std.proofs.Common.{◌∙◌, refl, false}
 use Rattle.sfv_model.specs.Bare.{number_at}
-use Rattle.sfv.specs.parser.Cursor.{kept}
-use Rattle.sfv.proofs.reads.Errors.{left_with, FaultOf-same}
-use Rattle.sfv.proofs.reads.Steps.{bare_number}
-use Rattle.sfv.proofs.parser.cursor.Cursor.number_item.Goals.{in-Integer, in-Decimal}
+use Rattle.sfv.{specs.parser.Cursor.kept, proofs.parser.cursor.Cursor.number_item.Goals.{in-Integer, in-Decimal}}
+use Rattle.sfv.proofs.reads.{Errors.{left_with, FaultOf-same}, Steps.bare_number}
 use Rattle.sfv.proofs.parser.cursor.Cursor.number_item.Goals as goal
 
 pub returns-in_err-value-clause-read : goal.returns-in_err-value-clause-read
-returns-in_err-value-clause-read c =
-    rw (left_with c.from_residual.ensures.1) (FaultOf-same (kept c.args.self.now) (kept c.args.self.now) _ (λ _. number_at false) _ _ refl
-    (bare_number _ _ c.requires)
-    (c.in_err-value.ensures false))
+returns-in_err-value-clause-read c = rw (left_with c.from_residual.ensures.1) (FaultOf-same (kept c.args.self.now) _ _
+    (λ _. number_at false) _ _ refl (bare_number _ _ c.requires) (c.in_err-value.ensures false))
 
 pub returns-clause-read : goal.returns-clause-read
 returns-clause-read c =

@@ -1,6 +1,4 @@
-use Rattle.sfv.specs.parser.Cursor.{input}
-use Rattle.sfv.proofs.reads.Errors.{left_with}
-use Rattle.sfv.proofs.trees.Errors.{refused, refused_needs}
+use Rattle.sfv.{specs.parser.Cursor.input, proofs.reads.Errors.left_with, proofs.trees.Errors.{refused, refused_needs}}
 use Rattle.sfv.proofs.parser.cursor.Cursor.owned_bare_item.Goals as goal
 
 pub returns-in_err-bare_item-clause-read : goal.returns-in_err-bare_item-clause-read

@@ -1,7 +1,6 @@
 use Rattle.std.proofs.Common.{refl}
 use Rattle.sfv.specs.parser.Cursor.{version, rest}
-use Rattle.sfv.proofs.reads.Steps.{parameter_none}
-use Rattle.sfv.proofs.visits.AsRead.{read_none, end_reads}
+use Rattle.sfv.proofs.{reads.Steps.parameter_none, visits.AsRead.{read_none, end_reads}}
 use Rattle.sfv.proofs.parser.cursor.Cursor.parameters.Goals as goal
 
 pub returns-then-not-next_is-clause-visited : goal.returns-then-not-next_is-clause-visited

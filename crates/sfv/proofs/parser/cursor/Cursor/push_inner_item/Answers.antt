@@ -1,12 +1,9 @@
 use Rattle.std.proofs.Common.{◌∙◌, ap, Ok, Err}
 use Rattle.indexmap.specs.IndexMap.{hasher_of}
-use Rattle.sfv_spec.specs.Events.{begins_item}
-use Rattle.sfv_spec.specs.Ordered.{ordered_item}
+use Rattle.sfv_spec.specs.{Events.begins_item, Ordered.ordered_item}
+use Rattle.sfv_model.specs.{Items.item_at, Members.inner_item_at}
 use Rattle.sfv_tree.proofs.Words.{item_with}
-use Rattle.sfv_model.specs.Items.{item_at}
-use Rattle.sfv_model.specs.Members.{inner_item_at}
-use Rattle.sfv.proofs.reads.Errors.{left_with}
-use Rattle.sfv.proofs.trees.Parts.{led_builds, pushed_item, pushed_item_seed}
+use Rattle.sfv.proofs.{reads.Errors.left_with, trees.Parts.{led_builds, pushed_item, pushed_item_seed}}
 use Rattle.sfv.proofs.parser.cursor.Cursor.push_inner_item.Goals as goal
 
 pub returns-in_err-bare_item-clause-tree : goal.returns-in_err-bare_item-clause-tree

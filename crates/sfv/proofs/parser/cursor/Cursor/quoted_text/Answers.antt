@@ -1,9 +1,6 @@
-use Rattle.std.proofs.Common.{◌∙◌, true, refl, sym}
-use Rattle.std.proofs.lemmas.Bool.{true≢false}
-use Rattle.sfv_model.specs.Reader.{byte}
-use Rattle.sfv_model.specs.Quoted.{after_bytes}
-use Rattle.sfv.specs.parser.Cursor.{rest, kept, NextIs}
-use Rattle.sfv.specs.parser.Quoted.{mark_of, inside}
+use Rattle.std.proofs.Common.{◌∙◌, true, refl, sym, true≢false}
+use Rattle.sfv_model.specs.{Quoted.after_bytes, Reader.byte}
+use Rattle.sfv.specs.parser.{Cursor.{rest, kept, NextIs}, Quoted.{mark_of, inside}}
 use Rattle.sfv.proofs.reads.Errors.{left_with, ErrorOf-same}
 use Rattle.sfv.proofs.reads.Escapes.{begins, all_plain, after_fault, no_escape, some_escape}
 use Rattle.sfv.proofs.parser.cursor.Cursor.quoted_text.Goals as goal
@@ -23,15 +20,12 @@ returns-then-take_if-clause-plain g c = (
 )
 
 pub returns-then-not-next_is-clause-read : goal.returns-then-not-next_is-clause-read
-returns-then-not-next_is-clause-read g c =
-    after_fault (kept c.take_if.new.self) (kept c.args.self.now) _ c.plain-plain.result.now _ _ (c.take_if.ensures.kept
-    ∙ c.plain-plain.ensures.kept)
-    (sym (begins g.Q.QuotedText.display _ _ _ _ c.plain-plain.ensures.each c.plain-plain.ensures.taken
+returns-then-not-next_is-clause-read g c = after_fault _ _ _ _ _ _ (c.take_if.ensures.kept ∙ c.plain-plain.ensures.kept)
+    (sym (begins _ _ _ _ _ c.plain-plain.ensures.each c.plain-plain.ensures.taken
     c.if-take_if.ensures.takes.0)) c.end_error.ensures
 
 pub returns-in_err-bytes-clause-read : goal.returns-in_err-bytes-clause-read
-returns-in_err-bytes-clause-read g c =
-    rw (left_with c.from_residual.ensures.1)
+returns-in_err-bytes-clause-read g c = rw (left_with c.from_residual.ensures.1)
     (ErrorOf-same _ _ _ (λ _ t. after_bytes c.plain-plain.result.now (inside g.Q.QuotedText.display t))
     (rest c.take_if.new.self) _ (c.take_if.ensures.kept ∙ c.plain-plain.ensures.kept)
     (begins g.Q.QuotedText.display _ _ _ _ c.plain-plain.ensures.each c.plain-plain.ensures.taken

@@ -1,5 +1,4 @@
-use Rattle.std.proofs.Common.{get_or, arith}
-use Rattle.std.proofs.lemmas.List.{drop_more, length-drop}
+use Rattle.std.proofs.{Common.{get_or, arith, length-drop}, lemmas.List.drop_more}
 use Rattle.sfv.proofs.parser.cursor.Cursor.skip.Goals as goal
 
 pub returns-clause-skips : goal.returns-clause-skips

@@ -1,7 +1,6 @@
 use Rattle.std.proofs.Common.{◌≡◌, length}
 use Rattle.sfv_spec.proofs.Marks.{is_space_or_tab}
-use Rattle.sfv.specs.parser.Cursor.{kept, rest}
-use Rattle.sfv.proofs.reads.Runs.{Skipped}
+use Rattle.sfv.{specs.parser.Cursor.{kept, rest}, proofs.reads.Runs.Skipped}
 use Rattle.sfv.proofs.parser.cursor.Cursor.skip_ows.Given as goal
 
 abbrev pub invariant-loop-self : goal.invariant-loop-self

@@ -1,7 +1,6 @@
 use Rattle.std.proofs.Common.{◌∙◌, refl}
 use Rattle.sfv_spec.proofs.Marks.{is_space}
-use Rattle.sfv.specs.parser.Cursor.{rest}
-use Rattle.sfv.proofs.reads.Runs.{skipped_none, skipped_more, skipped_all}
+use Rattle.sfv.{specs.parser.Cursor.rest, proofs.reads.Runs.{skipped_none, skipped_more, skipped_all}}
 use Rattle.sfv.proofs.parser.cursor.Cursor.skip_sp.Goals as goal
 
 pub loop-init : goal.loop-init

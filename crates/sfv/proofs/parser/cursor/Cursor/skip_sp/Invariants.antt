@@ -1,7 +1,6 @@
 use Rattle.std.proofs.Common.{◌≡◌, length}
 use Rattle.sfv_spec.proofs.Marks.{is_space}
-use Rattle.sfv.specs.parser.Cursor.{kept, rest}
-use Rattle.sfv.proofs.reads.Runs.{Skipped}
+use Rattle.sfv.{specs.parser.Cursor.{kept, rest}, proofs.reads.Runs.Skipped}
 use Rattle.sfv.proofs.parser.cursor.Cursor.skip_sp.Given as goal
 
 abbrev pub invariant-loop : goal.invariant-loop

@@ -1,9 +1,7 @@
 use Rattle.std.proofs.Common.{◌∙◌, false}
-use Rattle.sfv_spec.specs.Values.{string}
 use Rattle.sfv_model.specs.Quoted.{string_at}
-use Rattle.sfv.proofs.reads.Errors.{left_with, ErrorOf-part}
-use Rattle.sfv.proofs.reads.Steps.{bare_string, given}
-use Rattle.sfv.proofs.reads.Escapes.{string_opens, after_opening}
+use Rattle.sfv.{specs.Field.string, proofs.reads.Errors.{left_with, ErrorOf-part}}
+use Rattle.sfv.proofs.reads.{Escapes.{string_opens, after_opening}, Steps.{bare_string, given}}
 use Rattle.sfv.proofs.parser.cursor.Cursor.string_item.Goals as goal
 
 pub returns-in_err-string-clause-read : goal.returns-in_err-string-clause-read
@@ -13,8 +11,7 @@ returns-in_err-string-clause-read c =
 
 pub returns-clause-read : goal.returns-clause-read
 returns-clause-read c = (
-  bare_string _ _ _ c.requires c.skip.ensures.skips
-      ∙ given string_at (λ s. string s) _ _ _ c.in_ok-string.ensures.read.0,
+  bare_string _ _ _ c.requires c.skip.ensures.skips ∙ given _ _ _ _ _ c.in_ok-string.ensures.read.0,
   c.in_ok-string.ensures.read.1 ∙ c.skip.ensures.kept,
 )
 

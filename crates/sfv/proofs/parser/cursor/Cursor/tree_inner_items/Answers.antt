@@ -1,18 +1,14 @@
-use Rattle.std.proofs.Common.{◌≡◌, ◌∙◌, false, refl, inr, ap, map, not, sym, subst, []}
-use Rattle.std.specs.Prelude.{All, is_some}
+use Rattle.std.proofs.Common.{◌≡◌, ◌∙◌, false, refl, inr, ap, map, not, sym, subst, [], All, is_some}
 use Rattle.std.proofs.lemmas.List.Elements.{All-nil}
 use Rattle.sfv_spec.specs.Ordered.{ordered_item}
-use Rattle.sfv_tree.specs.Trees.{item_tree}
-use Rattle.sfv_tree.specs.Seeds.{ItemHasSeed}
-use Rattle.sfv_model.specs.Reader.{first}
+use Rattle.sfv_model.specs.{Members.inner_items_at, Reader.first}
+use Rattle.sfv_tree.specs.{Seeds.ItemHasSeed, Trees.item_tree}
 use Rattle.sfv.specs.parser.Cursor.{kept, version, rest}
-use Rattle.sfv_model.specs.Members.{inner_items_at}
+use Rattle.sfv.proofs.reads.{Delimiters.{items_none, items_closed, items_first}, Errors.{left_with, FaultOf-here}}
 use Rattle.sfv.proofs.trees.Errors.{Any, Never}
-use Rattle.sfv.proofs.reads.Delimiters.{items_none, items_closed, items_first}
-use Rattle.sfv.proofs.reads.Errors.{left_with, FaultOf-here}
-use Rattle.sfv.proofs.visits.Loops.{shorter, items_loop}
 use Rattle.sfv.proofs.trees.Loops.{as_one, built_first, built_more, built_all, items_with, item_added, seed_kept}
 use Rattle.sfv.proofs.trees.Loops.{keeps_seed, first_fails, delimiter_fails, one_fails}
+use Rattle.sfv.proofs.visits.Loops.{shorter, items_loop}
 use Rattle.sfv.proofs.parser.cursor.Cursor.tree_inner_items.Goals as goal
 
 pub returns-then-is_none-clause-tree : goal.returns-then-is_none-clause-tree

@@ -1,12 +1,8 @@
-use Rattle.std.proofs.Common.{length, map}
-use Rattle.std.specs.Prelude.{All}
+use Rattle.std.proofs.Common.{length, map, All}
 use Rattle.sfv_spec.specs.Ordered.{ordered_item}
-use Rattle.sfv_tree.specs.Trees.{item_tree}
-use Rattle.sfv_tree.specs.Seeds.{ItemHasSeed}
 use Rattle.sfv_model.specs.Members.{inner_items_at}
-use Rattle.sfv.specs.parser.Cursor.{version, rest}
-use Rattle.sfv.proofs.visits.Loops.{items_loop}
-use Rattle.sfv.proofs.trees.Loops.{BuiltSoFar}
+use Rattle.sfv_tree.specs.{Seeds.ItemHasSeed, Trees.item_tree}
+use Rattle.sfv.{specs.parser.Cursor.{version, rest}, proofs.trees.Loops.BuiltSoFar, proofs.visits.Loops.items_loop}
 use Rattle.sfv.proofs.parser.cursor.Cursor.tree_inner_items.Given as goal
 
 abbrev pub invariant-loop-items : goal.invariant-loop-items

@@ -1,10 +1,7 @@
 use Rattle.std.proofs.Common.{◌∙◌, refl}
-use Rattle.sfv_model.specs.Items.{parameters_at}
-use Rattle.sfv_model.specs.Members.{inner_items_at, inner_at, inner_of}
-use Rattle.sfv.specs.parser.Cursor.{version, rest}
-use Rattle.sfv.proofs.reads.Errors.{left_with, kept_reads}
-use Rattle.sfv.proofs.trees.Errors.{fails_in}
-use Rattle.sfv.proofs.trees.Parts.{items_fail, closed_fails, inner_some, inner_list_parts}
+use Rattle.sfv_model.specs.{Items.parameters_at, Members.{inner_items_at, inner_at, inner_of}}
+use Rattle.sfv.{specs.parser.Cursor.{version, rest}, proofs.reads.Errors.{left_with, kept_reads}}
+use Rattle.sfv.proofs.trees.{Errors.fails_in, Parts.{items_fail, closed_fails, inner_some, inner_list_parts}}
 use Rattle.sfv.proofs.parser.cursor.Cursor.tree_inner_list.Goals as goal
 
 pub returns-in_err-items-clause-tree : goal.returns-in_err-items-clause-tree

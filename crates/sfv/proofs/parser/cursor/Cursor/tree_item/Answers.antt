@@ -1,10 +1,7 @@
-use Rattle.sfv_model.specs.Bare.{bare_at}
-use Rattle.sfv_model.specs.Items.{parameters_at, item_at}
-use Rattle.sfv.specs.parser.Cursor.{version, rest}
-use Rattle.sfv.proofs.reads.Errors.{left_with}
-use Rattle.sfv.proofs.trees.Errors.{fails_in}
-use Rattle.sfv.proofs.trees.Parts.{bare_fails, later_fails, item_builds}
 use Rattle.std.proofs.Common.{refl}
+use Rattle.sfv_model.specs.{Bare.bare_at, Items.{parameters_at, item_at}}
+use Rattle.sfv.{specs.parser.Cursor.{version, rest}, proofs.reads.Errors.left_with}
+use Rattle.sfv.proofs.trees.{Errors.fails_in, Parts.{bare_fails, later_fails, item_builds}}
 use Rattle.sfv.proofs.parser.cursor.Cursor.tree_item.Goals as goal
 
 pub returns-in_err-bare_item-clause-tree : goal.returns-in_err-bare_item-clause-tree

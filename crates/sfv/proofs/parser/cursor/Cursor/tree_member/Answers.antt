@@ -1,18 +1,11 @@
-use Rattle.std.proofs.Common.{◌∙◌, ap, subst, sym}
-use Rattle.std.specs.Prelude.{All}
-use Rattle.std.specs.declared.alloc.Global.{Global}
-use Rattle.std.specs.declared.vec.Vec.{Vec}
+use Rattle.std.proofs.Common.{◌∙◌, ap, subst, sym, All}
+use Rattle.std.specs.declared.{alloc.Global.Global, vec.Vec.Vec}
 use Rattle.indexmap.specs.IndexMap.{hasher_of}
-use Rattle.sfv_spec.specs.Values.{item, inner_list}
-use Rattle.sfv_tree.specs.Seeds.{ItemHasSeed}
-use Rattle.sfv_tree.specs.declared.parsed.Item.{Item}
-use Rattle.sfv_model.specs.Items.{item_at}
-use Rattle.sfv_model.specs.Members.{inner_at, member_at}
-use Rattle.sfv.specs.parser.Cursor.{version}
-use Rattle.sfv.proofs.reads.Errors.{left_with, kept_reads}
-use Rattle.sfv.proofs.trees.Errors.{fails_in}
-use Rattle.sfv.proofs.trees.Loops.{seed_kept}
-use Rattle.sfv.proofs.trees.Parts.{list_fails, item_fails, member_list_some, member_item_some}
+use Rattle.sfv_model.specs.{Items.item_at, Members.{inner_at, member_at}}
+use Rattle.sfv_tree.specs.{Seeds.ItemHasSeed, declared.parsed.Item.Item}
+use Rattle.sfv.specs.{Field.{item, inner_list}, parser.Cursor.version}
+use Rattle.sfv.proofs.{reads.Errors.{left_with, kept_reads}, trees.Errors.fails_in}
+use Rattle.sfv.proofs.trees.{Loops.seed_kept, Parts.{list_fails, item_fails, member_list_some, member_item_some}}
 use Rattle.sfv.proofs.parser.cursor.Cursor.tree_member.Goals as goal
 
 pub returns-in_err-items-clause-tree : goal.returns-in_err-items-clause-tree

@@ -1,12 +1,8 @@
 use Rattle.std.proofs.Common.{◌∙◌, true, refl, ap}
-use Rattle.sfv_spec.specs.Values.{item, boolean}
-use Rattle.sfv_spec.proofs.Marks.{true_with}
-use Rattle.sfv_model.specs.Items.{parameters_at}
-use Rattle.sfv_model.specs.Members.{member_value_at}
-use Rattle.sfv.specs.parser.Cursor.{version}
-use Rattle.sfv.proofs.reads.Errors.{left_with, kept_reads}
-use Rattle.sfv.proofs.trees.Errors.{fails_in}
-use Rattle.sfv.proofs.trees.Parts.{value_builds, true_fails, true_some, item_parts}
+use Rattle.sfv_spec.{specs.Values.{item, boolean}, proofs.Marks.true_with}
+use Rattle.sfv_model.specs.{Items.parameters_at, Members.member_value_at}
+use Rattle.sfv.{specs.parser.Cursor.version, proofs.reads.Errors.{left_with, kept_reads}}
+use Rattle.sfv.proofs.trees.{Errors.fails_in, Parts.{value_builds, true_fails, true_some, item_parts}}
 use Rattle.sfv.proofs.parser.cursor.Cursor.tree_member_value.Goals as goal
 
 pub returns-then-take_if-clause-tree : goal.returns-then-take_if-clause-tree

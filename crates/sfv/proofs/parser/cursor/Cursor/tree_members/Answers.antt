@@ -1,13 +1,9 @@
 use Rattle.std.proofs.Common.{◌∙◌}
-use Rattle.sfv.specs.parser.Members.{some_members_at}
-use Rattle.sfv.specs.parser.Trees.{ordered_members, with_member}
-use Rattle.sfv.proofs.trees.Errors.{Any, Never}
-use Rattle.sfv.proofs.reads.Delimiters.{ends_there}
-use Rattle.sfv.proofs.reads.Errors.{left_with}
-use Rattle.sfv.proofs.visits.Loops.{shorter, members_loop}
-use Rattle.sfv.proofs.trees.Loops.{as_one, built_first, built_more, built_all, keeps_seed, first_fails}
-use Rattle.sfv.proofs.trees.Loops.{delimiter_fails, one_fails}
-use Rattle.sfv.proofs.trees.Fields.{first_member, member_added}
+use Rattle.sfv.specs.parser.{Members.some_members_at, Trees.{ordered_members, with_member}}
+use Rattle.sfv.proofs.reads.{Delimiters.ends_there, Errors.left_with}
+use Rattle.sfv.proofs.trees.{Errors.{Any, Never}, Fields.{first_member, member_added}}
+use Rattle.sfv.proofs.trees.Loops.{as_one, built_first, built_more, built_all, keeps_seed, first_fails, delimiter_fails}
+use Rattle.sfv.proofs.{trees.Loops.one_fails, visits.Loops.{shorter, members_loop}}
 use Rattle.sfv.proofs.parser.cursor.Cursor.tree_members.Goals as goal
 
 pub returns-in_err-add_member-clause-tree : goal.returns-in_err-add_member-clause-tree

@@ -1,9 +1,6 @@
 use Rattle.std.proofs.Common.{length}
-use Rattle.sfv.specs.parser.Cursor.{version, rest}
-use Rattle.sfv.specs.parser.Members.{some_members_at}
-use Rattle.sfv.specs.parser.Trees.{ordered_members}
-use Rattle.sfv.proofs.visits.Loops.{members_loop}
-use Rattle.sfv.proofs.trees.Loops.{BuiltSoFar}
+use Rattle.sfv.specs.parser.{Cursor.{version, rest}, Members.some_members_at, Trees.ordered_members}
+use Rattle.sfv.proofs.{trees.Loops.BuiltSoFar, visits.Loops.members_loop}
 use Rattle.sfv.proofs.parser.cursor.Cursor.tree_members.Given as goal
 
 abbrev pub invariant-loop-members : goal.invariant-loop-members

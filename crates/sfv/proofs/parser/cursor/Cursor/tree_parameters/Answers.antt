@@ -1,9 +1,7 @@
 use Rattle.std.proofs.Common.{refl, [], ap}
 use Rattle.sfv_spec.specs.Ordered.{collapse}
-use Rattle.sfv_tree.specs.Trees.{pairs_tree}
-use Rattle.sfv.specs.parser.Cursor.{version, rest}
-use Rattle.sfv.proofs.reads.Steps.{parameter_none}
-use Rattle.sfv.proofs.trees.Parts.{no_parameters}
+use Rattle.sfv.specs.{Field.pairs_tree, parser.Cursor.{version, rest}}
+use Rattle.sfv.proofs.{reads.Steps.parameter_none, trees.Parts.no_parameters}
 use Rattle.sfv.proofs.parser.cursor.Cursor.tree_parameters.Goals as goal
 
 pub returns-clause-tree : goal.returns-clause-tree

@@ -1,7 +1,6 @@
 use Rattle.std.proofs.Common.{◌≡◌, length}
 use Rattle.sfv_model.specs.Quoted.{after_bytes}
-use Rattle.sfv.specs.parser.Cursor.{kept, rest}
-use Rattle.sfv.specs.parser.Quoted.{inside}
+use Rattle.sfv.specs.parser.{Cursor.{kept, rest}, Quoted.inside}
 use Rattle.sfv.proofs.parser.cursor.Cursor.unescape_rest.Given as goal
 
 abbrev pub invariant-loop-cursor : goal.invariant-loop-cursor

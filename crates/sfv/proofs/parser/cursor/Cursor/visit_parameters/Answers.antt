@@ -1,8 +1,6 @@
 use Rattle.std.proofs.Common.{◌∙◌, refl, ap}
-use Rattle.sfv_model.specs.Items.{parameter_at}
-use Rattle.sfv_model.proofs.sound.Items.{Consumes-parameter}
-use Rattle.sfv.specs.parser.Cursor.{version, kept_version, rest}
-use Rattle.sfv.proofs.reads.Errors.{left_with, kept_reads}
+use Rattle.sfv_model.{specs.Items.parameter_at, proofs.sound.Items.Consumes-parameter}
+use Rattle.sfv.{specs.parser.Cursor.{version, kept_version, rest}, proofs.reads.Errors.{left_with, kept_reads}}
 use Rattle.sfv.proofs.visits.AsRead.{read_none, read_more, parameter_error, parameter_stops, end_reads}
 use Rattle.sfv.proofs.parser.cursor.Cursor.visit_parameters.Goals as goal
 
@@ -14,11 +12,10 @@ loop-parameter-init g c = record {
 }
 
 pub returns-in_err-parameter-clause-visited : goal.returns-in_err-parameter-clause-visited
-returns-in_err-parameter-clause-visited g c =
-    rw (left_with c.from_residual.ensures.1)
-    (parameter_error g.V.Visitor c.args.self.now c.loop-parameter.self c.parameter.new.self c.args.visitor.now
-    c.loop-parameter.visitor _ c.loop-parameter.invariant.kept c.loop-parameter.invariant.visited
-    c.in_err-parameter.ensures.read)
+returns-in_err-parameter-clause-visited g c = rw (left_with c.from_residual.ensures.1)
+    (parameter_error g.V.Visitor c.args.self.now c.loop-parameter.self c.parameter.new.self
+    c.args.visitor.now c.loop-parameter.visitor _ c.loop-parameter.invariant.kept
+    c.loop-parameter.invariant.visited c.in_err-parameter.ensures.read)
 
 pub returns-in_err-visit-clause-visited : goal.returns-in_err-visit-clause-visited
 returns-in_err-visit-clause-visited g c =

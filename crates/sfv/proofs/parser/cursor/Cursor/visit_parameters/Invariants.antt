@@ -1,6 +1,5 @@
 use Rattle.std.proofs.Common.{◌≡◌, length}
-use Rattle.sfv.specs.parser.Cursor.{kept, version, rest}
-use Rattle.sfv.proofs.visits.AsRead.{ReadParameters}
+use Rattle.sfv.{specs.parser.Cursor.{kept, version, rest}, proofs.visits.AsRead.ReadParameters}
 use Rattle.sfv.proofs.parser.cursor.Cursor.visit_parameters.Given as goal
 
 abbrev pub invariant-loop-parameter : goal.invariant-loop-parameter

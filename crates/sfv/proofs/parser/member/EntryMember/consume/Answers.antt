@@ -1,17 +1,14 @@
 use Rattle.std.proofs.Common.{refl}
-use Rattle.sfv_spec.specs.Events.{member_events}
 use Rattle.sfv_model.specs.Members.{member_at, entry_at}
+use Rattle.sfv.{specs.Field.member_events, proofs.reads.Errors.left_with, proofs.visits.AsRead.{led_stops, led_reads}}
 use Rattle.sfv_tree.specs.declared.visitor.Event.TheVariants as event
-use Rattle.sfv.proofs.reads.Errors.{left_with}
-use Rattle.sfv.proofs.visits.AsRead.{led_stops, led_reads}
 use Rattle.sfv.proofs.parser.member.EntryMember.consume.Goals as goal
 
 pub returns-in_err-visit-clause-visited : goal.returns-in_err-visit-clause-visited
 unfolding entry_at
-returns-in_err-visit-clause-visited g c =
-    rw (left_with c.from_residual.ensures.1)
-    (led_stops g.V.Visitor event.Entry member_events member_at c.args.cursor.now c.args.cursor.now c.args.visitor.now
-    c.visit.new.visitor _ refl c.in_err-visit.ensures.failed c.in_err-visit.ensures.failed_read)
+returns-in_err-visit-clause-visited g c = rw (left_with c.from_residual.ensures.1)
+    (led_stops g.V.Visitor event.Entry member_events member_at c.args.cursor.now c.args.cursor.now
+    c.args.visitor.now c.visit.new.visitor _ refl c.in_err-visit.ensures.failed c.in_err-visit.ensures.failed_read)
 
 pub returns-clause-visited : goal.returns-clause-visited
 unfolding entry_at

@@ -1,12 +1,10 @@
 use Rattle.std.proofs.Common.{◌≡◌, ◌∷◌, ◌∙◌, ap, arith, length, ℕ}
 use Rattle.sfv.specs.parser.Cursor.{rest}
-use Rattle.sfv.proofs.reads.Escapes.{both_digits, second_fault}
-use Rattle.sfv.proofs.reads.Errors.{left_with}
+use Rattle.sfv.proofs.reads.{Errors.left_with, Escapes.{both_digits, second_fault}}
 use Rattle.sfv.proofs.parser.quoted.InDisplayStringQuotedText.take_escape.Goals as goal
 
 pub returns-in_err-high : goal.returns-in_err-high
-returns-in_err-high c =
-    rw (left_with c.from_residual.ensures.1) c.in_err-high.ensures.0
+returns-in_err-high c = rw (left_with c.from_residual.ensures.1) c.in_err-high.ensures.0
 
 pub returns-in_err-low : goal.returns-in_err-low
 returns-in_err-low c =

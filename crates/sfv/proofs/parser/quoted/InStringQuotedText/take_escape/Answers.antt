@@ -1,6 +1,5 @@
 use Rattle.std.proofs.Common.{refl, ◌∙◌, sym, ap, arith, length, ℕ}
-use Rattle.sfv.specs.parser.Cursor.{kept, rest}
-use Rattle.sfv.proofs.reads.Errors.{FaultOf-here}
+use Rattle.sfv.{specs.parser.Cursor.kept, proofs.reads.Errors.FaultOf-here}
 use Rattle.sfv.proofs.reads.Escapes.{string_cut, string_wrong, string_escaped, no_first, first_is}
 use Rattle.sfv.proofs.parser.quoted.InStringQuotedText.take_escape.Goals as goal
 
@@ -10,10 +9,8 @@ returns-in_default c = rw c.error.ensures (FaultOf-here _ c.args.cursor.now (kep
 
 pub returns-then-not-is_escaped_in_string : goal.returns-then-not-is_escaped_in_string
 returns-then-not-is_escaped_in_string c =
-    rw c.error-then-not-is_escaped_in_string.ensures
-    (FaultOf-here _ c.args.cursor.now (kept c.args.cursor.now) _ refl
-    (string_wrong (rest c.args.cursor.now) c.in-Some.byte (sym c.peek.ensures
-    ∙ c.in-Some.is) (sym c.is_escaped_in_string.ensures ∙ c.if-not-is_escaped_in_string.true)))
+    rw c.error-then-not-is_escaped_in_string.ensures (FaultOf-here _ c.args.cursor.now _ _ refl (string_wrong _ _
+    (sym c.peek.ensures ∙ c.in-Some.is) (sym c.is_escaped_in_string.ensures ∙ c.if-not-is_escaped_in_string.true)))
 
 pub returns : goal.returns
 returns c =

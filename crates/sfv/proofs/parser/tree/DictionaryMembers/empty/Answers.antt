@@ -1,6 +1,5 @@
 use Rattle.std.proofs.Common.{◌∙◌, ap}
-use Rattle.sfv_tree.specs.Trees.{dictionary_tree}
-use Rattle.sfv.proofs.trees.Fields.{no_pairs}
+use Rattle.sfv.{specs.Field.dictionary_tree, proofs.trees.Fields.no_pairs}
 use Rattle.sfv.proofs.parser.tree.DictionaryMembers.empty.Goals as goal
 
 pub returns-clause-tree : goal.returns-clause-tree

@@ -1,8 +1,6 @@
 use Rattle.std.proofs.Common.{refl}
 use Rattle.sfv.specs.parser.Cursor.{kept, version, rest}
-use Rattle.sfv.proofs.reads.Errors.{FaultOf-here}
-use Rattle.sfv.proofs.reads.Steps.{key_none}
-use Rattle.sfv.proofs.trees.Parts.{key_fails}
+use Rattle.sfv.proofs.{reads.Errors.FaultOf-here, reads.Steps.key_none, trees.Parts.key_fails}
 use Rattle.sfv.proofs.parser.tree.DictionaryMembers.expect_start.Goals as goal
 
 pub returns : goal.returns

@@ -1,7 +1,6 @@
 use Rattle.std.proofs.lemmas.Result.{IfErr-weaker}
 use Rattle.sfv.specs.parser.Cursor.{input, version, rest}
-use Rattle.sfv.proofs.trees.Errors.{fault_with}
-use Rattle.sfv.proofs.trees.Parts.{entry_fails}
+use Rattle.sfv.proofs.trees.{Errors.fault_with, Parts.entry_fails}
 use Rattle.sfv.proofs.parser.tree.ListMembers.expect_start.Goals as goal
 
 pub returns : goal.returns

@@ -1,7 +1,5 @@
-use Rattle.std.proofs.Common.{rules, ◌≡◌, ℕ, List, refl, subst, inl}
-use Rattle.std.specs.Prelude.{⊤, Option, Some, MatchOption}
-use Rattle.sfv_tree.specs.Builders.{HasSeedSoFar}
-use Rattle.sfv_tree.specs.declared.visitor.member.Member.{Member}
+use Rattle.std.{proofs.Common.{rules, ◌≡◌, ℕ, List, refl, subst, inl, Option, Some, MatchOption}, specs.Prelude.⊤}
+use Rattle.sfv_tree.specs.{Builders.HasSeedSoFar, declared.visitor.member.Member.Member}
 use Rattle.sfv_tree.proofs.visitor.dictionary_builder.DictionaryBuilder.parameter.Goals as goal
 
 pub returns-in_ok-parameter-clause-seed : goal.returns-in_ok-parameter-clause-seed

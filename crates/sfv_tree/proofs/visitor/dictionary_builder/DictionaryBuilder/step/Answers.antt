@@ -1,13 +1,8 @@
-use Rattle.std.proofs.Common.{rules, ◌≡◌, refl, ap}
-use Rattle.std.proofs.lemmas.Map.Made.{lookup-map_values}
-use Rattle.std.specs.Prelude.{Some, None, IsTrue, bytes_eq}
+use Rattle.std.proofs.{Common.{rules, ◌≡◌, refl, ap, Some, None, IsTrue, bytes_eq}, lemmas.Map.Made.lookup-map_values}
 use Rattle.indexmap.specs.IndexMap.{get}
-use Rattle.sfv_tree.proofs.Entered.{dictionary_tree-insert}
-use Rattle.sfv_tree.specs.Trees.{member_tree}
 use Rattle.sfv_tree.specs.Builders.{member_state, member_step, dictionary_state, dictionary_takes_memory, ended}
-use Rattle.sfv_tree.specs.Events.{event_of}
-use Rattle.sfv_tree.specs.declared.visitor.member.Member.{Member}
-use Rattle.sfv_tree.proofs.Members.{or_true}
+use Rattle.sfv_tree.specs.{Events.event_of, Trees.member_tree, declared.visitor.member.Member.Member}
+use Rattle.sfv_tree.proofs.{Entered.dictionary_tree-insert, Members.or_true}
 use Rattle.sfv_tree.proofs.visitor.dictionary_builder.DictionaryBuilder.step.Goals as goal
 
 pub returns-in_ok-insert-clause-state : goal.returns-in_ok-insert-clause-state

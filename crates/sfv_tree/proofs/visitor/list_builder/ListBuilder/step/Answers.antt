@@ -1,9 +1,5 @@
-use Rattle.std.proofs.Common.{rules, ◌≡◌, refl, ap}
-use Rattle.std.proofs.lemmas.List.{map-append}
-use Rattle.std.specs.Prelude.{Some}
-use Rattle.sfv_tree.specs.Trees.{member_tree}
-use Rattle.sfv_tree.specs.Builders.{member_state, member_step, ended}
-use Rattle.sfv_tree.specs.Events.{event_of}
+use Rattle.std.proofs.{Common.{rules, ◌≡◌, refl, ap, Some}, lemmas.List.map-append}
+use Rattle.sfv_tree.specs.{Builders.{member_state, member_step, ended}, Events.event_of, Trees.member_tree}
 use Rattle.sfv_tree.proofs.visitor.list_builder.ListBuilder.step.Goals as goal
 
 pub returns-in_ok-append-clause-state : goal.returns-in_ok-append-clause-state
