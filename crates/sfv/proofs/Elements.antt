@@ -3,15 +3,15 @@ use Rattle.std.proofs.Common.{◌≡◌, ◌++◌, ◌∙◌, ℕ, zero, suc, Bo
 use Rattle.std.proofs.Common.{append-nil, Iter, arith, inl, inr, codes, ◌||◌, Bor, Any}
 use Rattle.std.specs.{Iterator.Drains, List.list_any, Map.Iter.{TakesFirst, deref_pair}}
 use Rattle.std.{specs.Slice.Iter.{iter_rest, iter_steps}, proofs.lemmas.Simd.map-map}
-use Rattle.sfv_spec.specs.Canonical.{canonical, value_text, parameters_text, item_text, inner_list_text, member_text}
-use Rattle.sfv_spec.specs.{Canonical.dictionary_member_text, Texts.joined}
-use Rattle.sfv_spec.{specs.Values.{BareValue, RawItem, RawParameters, RawMember}, proofs.Given.newer_has_all}
-use Rattle.sfv_tree.{specs.Trees.{item_tree, member_tree, list_tree, dictionary_tree}, proofs.Words.entry_tree}
+use Rattle.sfv_spec.specs.{Canonical.{value_text, parameters_text, item_text, dictionary_member_text}, Texts.joined}
+use Rattle.sfv_spec.proofs.Given.{newer_has_all}
 use Rattle.sfv_writer.specs.Versions.{inner_items, list_members, dictionary_members, parts_text, IsSerializeError}
 use Rattle.sfv_writer.specs.Written.{with_separators}
 use Rattle.sfv_writer.proofs.{Lent.{slice_gives, map_gives}, Separated.in_a_row_first}
 use Rattle.sfv_serializer.proofs.Scripts.{inner_list_ended as ended}
-use Rattle.sfv.specs.Types.{list_field, dictionary_field, Rfc9651, Item, ListEntry, SerializeError}
+use Rattle.sfv.specs.Field.{canonical, inner_list_text, member_text, BareValue, RawItem, RawParameters, RawMember}
+use Rattle.sfv.specs.Field.{item_tree, list_tree, dictionary_tree, list_field, dictionary_field, Rfc9651}
+use Rattle.sfv.specs.Types.{Item, ListEntry, SerializeError}
 use Rattle.sfv_writer.specs.declared.serialize_error.SerializeError.TheVariants as errors
 
 -- the text of all elements, through a function of each

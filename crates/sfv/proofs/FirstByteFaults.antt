@@ -8,8 +8,8 @@ use Rattle.sfv_model.specs.Members.{member_at, entry_at, keyed_at}
 use Rattle.sfv_model.specs.Reader.{Answer, Apart, first, byte, span, led, led_answer}
 use Rattle.sfv_model.proofs.{Types.ExpectedStartOfBareItem, complete.Combinators.branch_past}
 use Rattle.sfv.specs.Field.{FieldKind, item_field, list_field, dictionary_field, Version, TreeEvent, entry, begins_item}
-use Rattle.sfv.specs.{Field.{events, entry_events, keyed_events, ErrorKind, IsParseError}, Memory.IsRefusal}
-use Rattle.sfv.specs.{Types.Error, declared.parser.Parser.Parser, declared.parser.cursor.Cursor.Cursor}
+use Rattle.sfv.specs.{Field.{ErrorKind, IsParseError}, Memory.IsRefusal, Types.Error}
+use Rattle.sfv.specs.declared.parser.{Parser.Parser, cursor.Cursor.Cursor}
 use Rattle.sfv.specs.parser.Cursor.{kept, kept_input, kept_version, input, version, rest, located, located_whole}
 use Rattle.sfv.specs.parser.Cursor.{IsFaultOf}
 use Rattle.sfv.proofs.{Parsed.parse_error, reads.Delimiters.{first_of, members_first}, reads.Errors.fault_bind}

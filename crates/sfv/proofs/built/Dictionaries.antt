@@ -13,7 +13,7 @@ use Rattle.sfv_spec.proofs.{Last.{over, last_of-over}, Marks.keys, Repeats.{no_r
 use Rattle.sfv_tree.specs.Builders.{MemberState, begun, item_head, item_parameters, inner_items, inner_head}
 use Rattle.sfv_tree.specs.Builders.{inner_parameters, list_parameters, ended, member_step, DictionaryState, settle_pair}
 use Rattle.sfv_tree.specs.Builders.{dictionary_step, complete, dictionary_state, DictionaryAddsUnder, DictionaryAdds}
-use Rattle.sfv_tree.specs.{Seeds.{MemberHasSeed, DictionaryHasSeed}, Trees.{member_tree, dictionary_tree}}
+use Rattle.sfv_tree.specs.{Seeds.{MemberHasSeed, DictionaryHasSeed}, Trees.dictionary_tree}
 use Rattle.sfv_tree.proofs.{Entered.insert_entry-entered, Seeded.{AddsTo, adds_none, adds_more, adds_entered, adds_all}}
 use Rattle.sfv.specs.Types.{dictionary_field, Version, ListEntry, DictionaryBuilder, HashSeed}
 use Rattle.sfv.proofs.Relations.{Answers}

@@ -3,14 +3,13 @@ use Rattle.std.proofs.Common.{◌≡◌, ℕ, List, [], ◌∷◌, ◌++◌, map
 use Rattle.std.{proofs.Common.{subst, Some, None, fold, append-nil}, specs.List.FoldsTo}
 use Rattle.std.specs.declared.{alloc.Global.Global, vec.Vec.Vec}
 use Rattle.std.proofs.lemmas.List.{Elements.{All-nil, All-cons, All-append, All-same}, Sums.fold-append}
-use Rattle.sfv_spec.specs.{Events.{TreeEvent, member_events, events}, Grammar.IsFieldText}
-use Rattle.sfv_spec.specs.{Ordered.{ordered, ordered_member}, Statements.IsParsedAs, Values.RawMember}
 use Rattle.sfv_spec.proofs.Runs.{runs_fold}
 use Rattle.sfv_tree.specs.Builders.{MemberState, begun, item_head, item_parameters, inner_items, inner_head}
 use Rattle.sfv_tree.specs.Builders.{inner_parameters, list_parameters, ended, member_step, settle, list_step, complete}
-use Rattle.sfv_tree.specs.Builders.{list_state, ListAddsUnder, ListAdds}
-use Rattle.sfv_tree.specs.{Seeds.{MemberHasSeed, ListHasSeed}, Trees.{member_tree, list_tree}}
-use Rattle.sfv.{specs.Types.{list_field, Version, ListEntry, ListBuilder, HashSeed}, proofs.Relations.Answers}
+use Rattle.sfv_tree.specs.{Builders.{list_state, ListAddsUnder, ListAdds}, Seeds.{MemberHasSeed, ListHasSeed}}
+use Rattle.sfv.specs.Field.{TreeEvent, member_events, events, IsFieldText, ordered, ordered_member, IsParsedAs}
+use Rattle.sfv.specs.{Field.{RawMember, list_tree, list_field, Version}, Types.{ListEntry, ListBuilder, HashSeed}}
+use Rattle.sfv.proofs.Relations.{Answers}
 use Rattle.sfv.proofs.built.{Members.{IsOpen, member_built}, Seeded.{map_none, runs_grow, runs_weaker}}
 
 -- what the builder does with an event, and with the end

@@ -2,14 +2,14 @@
 use Rattle.std.proofs.Common.{◌≡◌, ℕ, true, false, List, [], ◌∷◌, ◌++◌, map, None, Ok, Err, refl, sym, ap, ap₂, subst}
 use Rattle.std.proofs.{Common.{◌∙◌, All, Result, IfOk, IfErr, IsTrue, bytes_eq}, lemmas.List.map-append}
 use Rattle.indexmap.specs.IndexMap.{insert_entry}
-use Rattle.sfv_spec.specs.Events.{TreeEvent, begins_item, begins_inner_list, bare_item, member_events, keyed_entry}
-use Rattle.sfv_spec.specs.{Events.{parameters_events, item_events}, Ordered.{collapse, ordered_item, ordered_member}}
+use Rattle.sfv_spec.specs.Events.{TreeEvent, begins_item, bare_item, member_events, parameters_events, item_events}
+use Rattle.sfv_spec.specs.Ordered.{collapse, ordered_item, ordered_member}
 use Rattle.sfv_spec.specs.Values.{BareValue, boolean, RawParameters, RawItem, RawMember, item, inner_list}
 use Rattle.sfv_spec.proofs.Marks.{equals_sign, left_parenthesis, true_with}
 use Rattle.sfv_model.specs.Bare.{bare_at}
 use Rattle.sfv_model.specs.Items.{key_at, parameter_event, parameter_at, parameters_at, item_at, item_of}
-use Rattle.sfv_model.specs.Members.{inner_items_at, inner_at, inner_of, closed_events, member_at, member_value_at}
-use Rattle.sfv_model.specs.{Members.keyed_at, Reader.{Reader, led, give, ◌>>=◌, byte}}
+use Rattle.sfv_model.specs.Members.{inner_items_at, inner_at, inner_of, member_at, member_value_at, keyed_at}
+use Rattle.sfv_model.specs.Reader.{Reader, led, give, ◌>>=◌, byte}
 use Rattle.sfv_model.proofs.complete.Combinators.{bind_complete, led_complete}
 use Rattle.sfv_model.proofs.sound.{Items.Consumes-parameter, Many.{starts, is_done}}
 use Rattle.sfv_values.specs.BareItems.{bare_value, input_value, is_borrowed}

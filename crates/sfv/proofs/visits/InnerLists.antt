@@ -10,7 +10,7 @@ use Rattle.sfv_base.specs.declared.error.ParseError.{ParseError, TheVariants.{Sy
 use Rattle.sfv.specs.Field.{RawParameters, RawItem, RawMember, item, inner_list, Version, TreeEvent, begins_item}
 use Rattle.sfv.specs.Field.{begins_inner_list, inner_list_end, parameters_events, member_events}
 use Rattle.sfv.specs.declared.parser.{Parser.Parser, cursor.Cursor.Cursor}
-use Rattle.sfv.specs.parser.{Cursor.{TakesIf, kept_input}, Members.after_begin, Visits.{VisitsAnswer, IsOfVisitor}}
+use Rattle.sfv.specs.parser.{Cursor.TakesIf, Members.after_begin, Visits.{VisitsAnswer, IsOfVisitor}}
 use Rattle.sfv.proofs.{reads.Steps.{branch_true, branch_false}, visits.Parameters.of_visitor}
 use Rattle.sfv.proofs.visits.Parts.{visits_as, map_visits, then_visits, first_failed, failed_longer, failed_after}
 use Rattle.sfv.proofs.visits.{Parts.{led_visits, led_fails}, Taken.{runs_on, took_part}}

@@ -2,7 +2,7 @@
 use Rattle.std.proofs.Common.{◌≡◌, ℕ, ◌<◌, Bool, true, false, List, [], ◌∷◌, ◌++◌, length, Option, Some, None, Ok, Err}
 use Rattle.std.proofs.Common.{refl, sym, ap, subst, ◌∙◌, ◌≤◌, ◌+◌, cond, arith, length-append, flat_map, append-nil}
 use Rattle.std.{specs.List.FoldsTo, specs.declared.alloc.Global.Global, proofs.lemmas.List.Concat.flat_map-append}
-use Rattle.sfv_spec.specs.{Events.inner_item_events, Grammar.{IsMemberText, IsDictionaryMemberText}}
+use Rattle.sfv_spec.specs.Events.{inner_item_events}
 use Rattle.sfv_model.specs.{Fields.next_at, Judgements.{Sound, Reached}}
 use Rattle.sfv_model.specs.Members.{inner_item_at, next_item_at, entry_at, keyed_at}
 use Rattle.sfv_model.specs.Reader.{Answer, Reader, Fault, after_events, visited, and_then, bind, give, led, many, ◌>>=◌}
@@ -12,7 +12,7 @@ use Rattle.sfv_model.proofs.sound.Many.{Consumes, put, in_front, starts, regroup
 use Rattle.sfv_model.proofs.sound.{Members.{Consumes-next_item, Sound-entry, Sound-keyed}, Separated.Consumes-next}
 use Rattle.sfv_model.proofs.visits.Parts.{failed_within}
 use Rattle.sfv_base.specs.declared.error.{Error.Error, ParseError.ParseError, ParseError.TheVariants.{Syntax, Visitor}}
-use Rattle.sfv.specs.Field.{RawItem, Version, TreeEvent, entry_events, keyed_events}
+use Rattle.sfv.specs.Field.{RawItem, Version, TreeEvent}
 use Rattle.sfv.specs.declared.parser.{Parser.Parser, cursor.Cursor.Cursor}
 use Rattle.sfv.specs.parser.Cursor.{kept, kept_input, version, input, rest, IsFaultOf, IsErrorOf}
 use Rattle.sfv.specs.parser.Members.{item_delimiter_at, member_delimiter_at, MemberValue, member_parts, one_member_at}

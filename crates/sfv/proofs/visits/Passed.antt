@@ -3,13 +3,11 @@ use Rattle.std.proofs.Common.{◌≡◌, ℕ, Bool, true, false, not, cond, List
 use Rattle.std.proofs.Common.{refl, sym, ap, subst, ◌∙◌, append_assoc, ◌==◌, true≢false, eqb-true}
 use Rattle.std.specs.{List.list_all, Prelude.⊤}
 use Rattle.std.proofs.lemmas.{Bool.and_from, List.Folds.list_all-append}
-use Rattle.sfv_spec.specs.{Texts.RunOf, declared.error_kind.ErrorKind.ErrorKind}
-use Rattle.sfv_spec.proofs.Marks.{double_quote, is_space, is_space_or_tab, comma, right_parenthesis}
+use Rattle.sfv_spec.{specs.Texts.RunOf, proofs.Marks.{double_quote, is_space}}
 use Rattle.sfv_model.specs.Fields.{comma_at}
 use Rattle.sfv_model.specs.Reader.{Answer, Reader, and_then, give, fail, bind, ◌>>=◌, branch, ahead, at_start, back}
-use Rattle.sfv_model.specs.Reader.{span, byte, any}
-use Rattle.sfv_model.proofs.sound.Combinators.{Steady-span, run_cons, run_head, run_tail}
-use Rattle.sfv.specs.Parsers.{HasNoQuote}
+use Rattle.sfv_model.{specs.Reader.span, proofs.sound.Combinators.{Steady-span, run_cons, run_head, run_tail}}
+use Rattle.sfv.specs.{Field.ErrorKind, Parsers.HasNoQuote}
 use Rattle.sfv.specs.parser.{AsRead.Passes, Cursor.TakesIf, Members.{item_delimiter_at, member_delimiter_at}}
 
 -- a byte of a class to which the quote does not belong

@@ -1,18 +1,18 @@
 -- An error with an index: all events before the fault were taken.
-use Rattle.std.proofs.Common.{◌≡◌, ℕ, ◌≤◌, true, false, List, [], ◌∷◌, ◌++◌, length, drop, Option, Some, None, Ok, Err}
-use Rattle.std.proofs.Common.{refl, sym, ap, subst, ◌∙◌, inl, inr, MatchOption, is_some, flat_map}
+use Rattle.std.proofs.Common.{◌≡◌, ℕ, ◌≤◌, false, List, [], ◌∷◌, ◌++◌, length, drop, Option, Some, None, Ok, Err, refl}
+use Rattle.std.proofs.Common.{sym, ap, subst, ◌∙◌, inl, inr, MatchOption, is_some, flat_map}
 use Rattle.std.{specs.List.FoldsTo, specs.Prelude.⊤, proofs.lemmas.Bool.cases_Bool}
-use Rattle.sfv_spec.specs.{Events.{TreeEvent, inner_item_events}, Grammar.{IsKeyText, IsBareText, IsValueText}}
-use Rattle.sfv_model.specs.{Bare.bare_at, Fields.comma_at, Items.{key_at, value_at, parameter_at}}
+use Rattle.sfv_spec.specs.{Events.{TreeEvent, inner_item_events}, Grammar.{IsKeyText, IsBareText}}
+use Rattle.sfv_model.specs.{Bare.bare_at, Fields.comma_at, Items.{key_at, parameter_at}}
 use Rattle.sfv_model.specs.{Judgements.{Reached, Sound, Mute, Quiet}, Members.inner_items_at}
 use Rattle.sfv_model.specs.Reader.{Answer, Reader, Fault, after_events, visited, and_then, bind, ◌>>=◌, ahead, fail}
 use Rattle.sfv_model.specs.{Reader.{first, give, at_reach}, Visits.Visited}
-use Rattle.sfv_model.proofs.{Types.{Version, TrailingComma, UnterminatedInnerList, ErrorKind}, sound.Bare.Sound-bare}
+use Rattle.sfv_model.proofs.{Types.{Version, UnterminatedInnerList, ErrorKind}, sound.Bare.Sound-bare}
 use Rattle.sfv_model.proofs.sound.Combinators.{Sound-give, Sound-fail, Sound-branch, Sound-ahead, Sound-bind}
 use Rattle.sfv_model.proofs.sound.{Combinators.{Sound-span, Sound-back, Found, Reads}, Items.{Sound-key, Sound-value}}
 use Rattle.sfv_base.specs.{Errors.{kind_of, index_of, error_of}, declared.error.Error.Error}
 use Rattle.sfv.specs.{Memory.IsRefusal, declared.parser.cursor.Cursor.Cursor}
-use Rattle.sfv.specs.parser.Cursor.{kept, input, version, rest, located, IsErrorOf}
+use Rattle.sfv.specs.parser.Cursor.{input, version, rest, located, IsErrorOf}
 use Rattle.sfv.specs.parser.{Members.{item_delimiter_at, member_delimiter_at}, Visits.TookAll}
 use Rattle.sfv.proofs.reads.{Delimiters.items_none, Errors.ErrorOf-here}
 

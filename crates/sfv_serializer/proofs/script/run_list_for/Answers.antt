@@ -1,6 +1,5 @@
-use Rattle.sfv_spec.specs.declared.field_kind.FieldKind.TheVariants.{List as list_field}
 use Rattle.sfv_writer.proofs.{Checks.at_exit, ReadBack.read_back}
-use Rattle.sfv_serializer.{specs.Scripts.described_list, proofs.Described.list_fits, proofs.Handed.named_list}
+use Rattle.sfv_serializer.proofs.{Described.list_fits, Handed.named_list}
 use Rattle.sfv_serializer.proofs.script.run_list_for.Goals as goal
 
 pub returns-clause-read_back : goal.returns-clause-read_back

@@ -1,8 +1,7 @@
 use Rattle.std.proofs.Common.{◌<◌, length, subst, rules, flat_map, take_all}
 use Rattle.sfv_spec.specs.Values.{AllFit, member_values}
-use Rattle.sfv_values.specs.CheckedTexts.{text_of as key_text}
 use Rattle.sfv_writer.{specs.Versions.NamesFirstUnfit, proofs.Checks.at_exit}
-use Rattle.sfv_serializer.specs.ScriptSteps.{supplied_member, member_calls, dictionary_calls}
+use Rattle.sfv_serializer.specs.ScriptSteps.{supplied_member, dictionary_calls}
 use Rattle.sfv_serializer.proofs.{Handed.dictionary_supplied, Slices.{slice_more, slice_stops}}
 use Rattle.sfv_serializer.proofs.version_check_of_calls.check_dictionary_calls.Goals as goal
 

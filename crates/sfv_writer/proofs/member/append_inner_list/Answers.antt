@@ -1,5 +1,3 @@
-use Rattle.sfv_spec.specs.Values.{inner_list}
-use Rattle.sfv_tree.specs.Trees.{inner_list_tree}
 use Rattle.sfv_writer.proofs.ReadBack.{member_read_back}
 use Rattle.sfv_writer.proofs.member.append_inner_list.Goals as goal
 

@@ -1,4 +1,3 @@
-use Rattle.sfv_tree.specs.Trees.{member_tree}
 use Rattle.sfv_writer.proofs.ReadBack.{member_read_back}
 use Rattle.sfv_writer.proofs.member.append_member.Goals as goal
 

@@ -1,7 +1,7 @@
 use Rattle.std.{proofs.Common.{◌≡◌, map, codes, subst, lit<}, specs.List.AllByRecursion}
 use Rattle.sfv_spec.specs.{Canonical.item_text, Ordered.ordered_item, Texts.joined, Values.IsItem}
 use Rattle.sfv_spec.proofs.Distinct.{inner_list_own}
-use Rattle.sfv_tree.specs.Trees.{item_tree, inner_list_tree}
+use Rattle.sfv_tree.specs.Trees.{item_tree}
 use Rattle.sfv_writer.proofs.{Appended.{put, after, between}, Separated.{all_both, parts_on_ok}}
 use Rattle.sfv_writer.proofs.member.serialize_inner_list.Goals as goal
 

@@ -1,6 +1,6 @@
 use Rattle.std.proofs.Common.{◌++◌, ◌∙◌, List, [], ◌∷◌, ℕ, string_bytes, sym, ap, subst, arith, append-nil, flat_map}
 use Rattle.sfv_spec.proofs.Marks.{plain_of}
-use Rattle.sfv_writer.specs.{Quoted.{held_of, piece_of}, Written.LacksRoom}
+use Rattle.sfv_writer.specs.{Quoted.piece_of, Written.LacksRoom}
 use Rattle.sfv_writer.proofs.{Appended.{unchanged, stops}, Room.{refused, room_inside, run_itself}}
 use Rattle.sfv_writer.proofs.Written.{none_written, whole_written, next_held, run_shortens, plain_utf8, plain_itself}
 use Rattle.sfv_writer.proofs.Written.{run_written, byte_written}

@@ -1,5 +1,4 @@
 use Rattle.sfv_spec.specs.Values.{item_values}
-use Rattle.sfv_tree.specs.Trees.{item_tree}
 use Rattle.sfv_writer.proofs.{Checks.checks_whole, Lent.slice_gives}
 use Rattle.sfv_writer.proofs.version_check.check_items.Goals as goal
 

@@ -1,6 +1,4 @@
 use Rattle.std.proofs.Common.{◌∙◌}
-use Rattle.sfv_spec.specs.Values.{member_values}
-use Rattle.sfv_tree.specs.Trees.{member_tree}
 use Rattle.sfv_writer.proofs.{Checks.checks_whole, Lent.slice_gives}
 use Rattle.sfv_writer.proofs.version_check.check_list.Goals as goal
 

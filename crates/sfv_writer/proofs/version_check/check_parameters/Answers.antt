@@ -1,5 +1,4 @@
-use Rattle.std.{proofs.Common.{[], ◌∷◌, subst}, specs.Map.values_of, specs.Map.Iter.deref}
-use Rattle.sfv_values.specs.BareItems.{bare_value}
+use Rattle.std.proofs.Common.{[], ◌∷◌, subst}
 use Rattle.sfv_writer.{specs.Versions.ChecksVersion, proofs.Checks.{checks_whole, param_values}, proofs.Lent.map_gives}
 use Rattle.sfv_writer.proofs.version_check.check_parameters.Goals as goal
 

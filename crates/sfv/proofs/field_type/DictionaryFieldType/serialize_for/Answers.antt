@@ -1,8 +1,7 @@
 use Rattle.std.proofs.Common.{string_bytes, option_map}
-use Rattle.sfv_spec.specs.Values.{bare_values}
 use Rattle.sfv_writer.proofs.Checks.{look_fails, memory_fails, named_has_member}
 use Rattle.sfv_writer.proofs.{ReadBack.serialized_for, Separated.anyway}
-use Rattle.sfv.specs.Field.{HasMember, dictionary_field, dictionary_tree}
+use Rattle.sfv.specs.Field.{dictionary_field, dictionary_tree}
 use Rattle.sfv.proofs.field_type.DictionaryFieldType.serialize_for.Goals as goal
 
 pub returns-in_err-check_dictionary-clause-unsupported : goal.returns-in_err-check_dictionary-clause-unsupported

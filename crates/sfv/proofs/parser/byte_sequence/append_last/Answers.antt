@@ -1,5 +1,5 @@
 use Rattle.std.proofs.Common.{◌∙◌, ◌++◌, ℕ, List, ap, refl, sym, eqb-true}
-use Rattle.sfv.proofs.reads.Coded.{none_after, zeros, zeros_each, filled_each, filled_decoded}
+use Rattle.sfv.proofs.reads.Coded.{none_after, zeros_each, filled_each, filled_decoded}
 use Rattle.sfv.proofs.parser.byte_sequence.append_last.Goals as goal
 
 pub returns-then-is_empty-clause-bytes : goal.returns-then-is_empty-clause-bytes

@@ -1,5 +1,4 @@
 use Rattle.std.proofs.Common.{◌∙◌}
-use Rattle.sfv_spec.specs.Values.{byte_sequence}
 use Rattle.sfv_model.specs.Content.{bytes_at}
 use Rattle.sfv.proofs.reads.{Errors.{left_with, ErrorOf-part}, Steps.{bare_bytes, given}}
 use Rattle.sfv.proofs.parser.cursor.Cursor.byte_sequence_item.Goals as goal

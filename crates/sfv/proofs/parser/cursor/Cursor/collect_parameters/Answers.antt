@@ -1,8 +1,8 @@
-use Rattle.std.{proofs.Common.{◌∙◌, refl, ap}, specs.Prelude.⊤}
+use Rattle.std.proofs.Common.{◌∙◌, refl, ap}
 use Rattle.sfv_model.{specs.Items.parameter_at, proofs.sound.Items.Consumes-parameter}
-use Rattle.sfv.specs.{Field.{parameters_events, pairs_tree}, parser.Cursor.{version, kept, rest}}
+use Rattle.sfv.specs.{Field.pairs_tree, parser.Cursor.{version, kept}}
 use Rattle.sfv.proofs.reads.Errors.{left_with, kept_reads}
-use Rattle.sfv.proofs.trees.{Errors.{Any, NoMemory, as_fault}, Parameters.{collected_none, collected_more}}
+use Rattle.sfv.proofs.trees.{Errors.{Any, as_fault}, Parameters.{collected_none, collected_more}}
 use Rattle.sfv.proofs.visits.Parameters.{of_visitor, visited_all, visited_error, parameter_failed}
 use Rattle.sfv.proofs.parser.cursor.Cursor.collect_parameters.Goals as goal
 

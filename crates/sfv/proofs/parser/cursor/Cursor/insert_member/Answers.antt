@@ -1,7 +1,7 @@
 use Rattle.std.{proofs.Common.{◌∙◌, ap, Err}, specs.declared.alloc.Global.Global}
-use Rattle.sfv_model.specs.Members.{member_value_at, keyed_at}
-use Rattle.sfv.specs.Field.{keyed_entry, member_events, keyed_events, text_of as key_text}
-use Rattle.sfv.specs.{declared.parser.Parser.Parser, parser.Cursor.{kept, version, rest}, parser.Trees.HeadHasSeed}
+use Rattle.sfv_model.specs.Members.{member_value_at}
+use Rattle.sfv.specs.{Field.{member_events, text_of as key_text}, declared.parser.Parser.Parser}
+use Rattle.sfv.specs.parser.{Cursor.{kept, version, rest}, Trees.HeadHasSeed}
 use Rattle.sfv.proofs.reads.Errors.{left_with, kept_reads, ErrorOf-fault}
 use Rattle.sfv.proofs.trees.Errors.{Any, NoMemory, as_answer, as_fault, fails_after, keyed_begins}
 use Rattle.sfv.proofs.trees.{Loops.seed_kept, Parts.{keyed_some, entered_tree, entered_seed}}

@@ -1,8 +1,8 @@
 use Rattle.std.proofs.Common.{◌∙◌, ap, subst, sym, Err, All}
 use Rattle.std.specs.declared.{alloc.Global.Global, vec.Vec.Vec}
 use Rattle.indexmap.specs.IndexMap.{hasher_of}
-use Rattle.sfv_spec.specs.{Events.{item_events, member_events, parameters_end}, Values.{item, inner_list}}
-use Rattle.sfv_model.specs.{Items.item_at, Members.{inner_at, member_at}}
+use Rattle.sfv_spec.specs.{Events.item_events, Values.{item, inner_list}}
+use Rattle.sfv_model.specs.{Items.item_at, Members.inner_at}
 use Rattle.sfv_tree.specs.{Seeds.ItemHasSeed, declared.parsed.Item.Item}
 use Rattle.sfv.specs.parser.{Cursor.{kept, version}, Members.after_begin}
 use Rattle.sfv.proofs.reads.Errors.{left_with, kept_reads}

@@ -1,5 +1,5 @@
 use Rattle.std.proofs.Common.{refl, ◌∙◌, sym, ap, arith, length, ℕ}
-use Rattle.sfv.{specs.parser.Cursor.{kept, rest}, proofs.reads.Errors.FaultOf-here}
+use Rattle.sfv.{specs.parser.Cursor.kept, proofs.reads.Errors.FaultOf-here}
 use Rattle.sfv.proofs.reads.Escapes.{string_cut, string_wrong, string_escaped, no_first, first_is}
 use Rattle.sfv.proofs.parser.quoted.InStringQuotedText.take_escape.Goals as goal
 
