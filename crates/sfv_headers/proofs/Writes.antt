@@ -36,8 +36,7 @@ module _ (version : Version) (kind : FieldKind) (value : RawField kind) where
 
   -- the errors of serialization; memory runs out only for a member
   fault_of : (headers : Entries FieldValue) (name : List ℕ) (e : SerializeError)
-      → IsSerializeError version (bare_values kind value) e
-      → (e ≡ serialize_errors.OutOfMemory → HasMember kind value)
+      → IsSerializeError version (bare_values kind value) e → (e ≡ serialize_errors.OutOfMemory → HasMember kind value)
       → IsWriteError version kind headers name value (of_serializing e)
   fault_of headers name (serialize_errors.Unsupported b) (inl h) member = absurd (let is = h.0 in cc)
   fault_of headers name (serialize_errors.Unsupported b) (inr h) member = h

@@ -5,10 +5,11 @@ use Rattle.sfv_spec.{specs.Events.inner_item_events, specs.Ordered.ordered_item,
 use Rattle.sfv.specs.Field.{BareValue, RawParameters, RawItem, RawMember, item, inner_list, dictionary_field, TreeEvent}
 use Rattle.sfv.specs.Field.{keyed_entry, begins_item, bare_item, parameter, parameters_end, inner_list_end}
 use Rattle.sfv.specs.Field.{parameters_events, member_events, events, ordered, ordered_member}
+use Rattle.sfv.proofs.visits.Taken.{split_run}
 use Rattle.sfv_readers.specs.Steps.{WithinKey, DictionaryTakes}
 use Rattle.sfv_readers.specs.Words.{Head, of_item, of_inner_list, member_of, raw_item, put, IsIgnored}
 use Rattle.sfv_readers.specs.declared.dictionary.DictionaryVisitor.{DictionaryVisitor}
-use Rattle.sfv_readers.proofs.{Puts.{put_all, all_put, collapse-over}, Runs.{split_run, items_known, on_none, on_some}}
+use Rattle.sfv_readers.proofs.{Puts.{put_all, all_put, collapse-over}, Runs.{items_known, on_none, on_some}}
 
 module _ {R K I : Type 0} (inner : I → List RawItem → Type 0) (text : R → K → List ℕ)
     (from : R → R → List (List ℕ × RawMember) → Type 0) (start : R) where

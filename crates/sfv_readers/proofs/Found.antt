@@ -6,11 +6,10 @@ use Rattle.sfv_readers.specs.{Steps.{ListTakes, DictionaryTakes}, Words.{Head, I
 use Rattle.sfv_readers.specs.declared.{dictionary.DictionaryVisitor.DictionaryVisitor, list.ListVisitor.ListVisitor}
 use Rattle.sfv_readers.proofs.{DictionarySteps.dictionary_read, ListSteps.list_read}
 
-pub list_found : {R M I : Type 0} (inner : I → List RawItem → Type 0) (keeps : R → M → Head → RawParameters → Type 0) (reads : R → R → List RawMember → Type 0)
-    (first : R) {version : Version} {t : List ℕ} {from : ListVisitor R M I} {out : R} → from.items ≡ None
-    → reads first from.reader []
-    → Answers (ListTakes inner keeps reads) (λ s found. found ≡ s.reader) version list_field t from out
-    → IsReadBy version list_field (reads first) t out
+pub list_found : {R M I : Type 0} (inner : I → List RawItem → Type 0) (keeps : R → M → Head → RawParameters → Type 0)
+    (reads : R → R → List RawMember → Type 0) (first : R) {version : Version} {t : List ℕ} {from : ListVisitor R M I}
+    {out : R} → from.items ≡ None → reads first from.reader [] → Answers (ListTakes inner keeps reads)
+    (λ s found. found ≡ s.reader) version list_field t from out → IsReadBy version list_field (reads first) t out
 list_found inner keeps reads first {version} {t} {from} w start h = (
   ordered list_field h.raw,
   parsed_as version list_field t h.raw h.accepted,

@@ -2,13 +2,14 @@
 use Rattle.std.proofs.Common.{◌≡◌, ℕ, List, [], ◌∷◌, ◌++◌, None, sym, ap, subst, ◌∙◌, append_assoc, append-nil, map}
 use Rattle.std.{proofs.Common.flat_map, specs.List.FoldsTo}
 use Rattle.sfv_spec.specs.{Events.inner_item_events, Ordered.ordered_item}
+use Rattle.sfv.proofs.visits.Taken.{split_run}
 use Rattle.sfv_readers.specs.Field.{BareValue, RawParameters, RawItem, RawMember, item, inner_list, list_field}
 use Rattle.sfv_readers.specs.Field.{TreeEvent, begins_item, bare_item, parameter, parameters_end, inner_list_end}
 use Rattle.sfv_readers.specs.Field.{parameters_events, member_events, events, ordered, ordered_member, Head, of_item}
 use Rattle.sfv_readers.specs.Field.{of_inner_list, member_of, head_of, parameters_of, raw_item, put}
 use Rattle.sfv_readers.specs.{Steps.{Keeps, Within, ListTakes}, declared.list.ListVisitor.ListVisitor}
 use Rattle.sfv_readers.proofs.Puts.{put_all, all_put}
-use Rattle.sfv_readers.proofs.Runs.{split_run, items_known, head_there, parameters_there, on_none, on_some}
+use Rattle.sfv_readers.proofs.Runs.{items_known, head_there, parameters_there, on_none, on_some}
 
 module _ {R M I : Type 0} (inner : I → List RawItem → Type 0) (keeps : R → M → Head → RawParameters → Type 0)
     (from : R → R → List RawMember → Type 0) (start : R) where
@@ -100,8 +101,7 @@ module _ {R M I : Type 0} (inner : I → List RawItem → Type 0) (keeps : R →
 
   members_read : (raw ms : List RawMember) (s to : Visitor) → Read s ms
       → FoldsTo Takes s (events list_field raw) to → Read to (ms ++ ordered list_field raw)
-  members_read [] ms s to h run =
-      subst (λ (s : Visitor). Read s (ms ++ [])) run (rw (append-nil ms) h)
+  members_read [] ms s to h run = subst (λ (s : Visitor). Read s (ms ++ [])) run (rw (append-nil ms) h)
   members_read (m ∷ raw) ms s to h run =
       let parts = split_run Takes (member_events m) (events list_field raw) run.0 to run.2 in
       let first = member_read m ms run.0 parts.0 (subst (λ (s : Visitor). Read s ms) (sym run.1) h) parts.1 in

@@ -1,10 +1,10 @@
 -- Pairs that are put one after another are the ordered pairs.
 use Rattle.std.proofs.Common.{◌≡◌, ℕ, List, [], ◌∷◌, ◌++◌, Bool, true, false, cond, Option, Some, None, refl, sym, ap}
-use Rattle.std.proofs.Common.{◌∙◌, append_assoc, append-nil, inl, inr, bytes_eq, unwrap_or, option_map, fold}
-use Rattle.std.proofs.lemmas.{Bool.{cases_Bool, both_ways}, List.Sums.fold-append, Slice.Eq.bytes_eq-Decides}
+use Rattle.std.proofs.Common.{◌∙◌, append_assoc, append-nil, bytes_eq, unwrap_or, option_map, fold}
+use Rattle.std.proofs.lemmas.{List.Sums.fold-append, Slice.Eq.bytes_eq-Decides}
 use Rattle.sfv_spec.specs.Ordered.{collapse, without}
-use Rattle.sfv_spec.proofs.Collapse.{entered, collapse-push, collapse-distinct, no_repeats-collapse, last_of-collapse}
-use Rattle.sfv_spec.proofs.{Collapse.last_of-push, Last.{over, last_of-over}}
+use Rattle.sfv_spec.proofs.Collapse.{symmetric, entered, collapse-push, collapse-distinct, no_repeats-collapse}
+use Rattle.sfv_spec.proofs.{Collapse.{last_of-collapse, last_of-push}, Last.{over, last_of-over}}
 use Rattle.sfv_readers.specs.{Field.last_of, Words.put}
 
 put-collapse : {A : Type 0} (ps : List (List ℕ × A)) (k : List ℕ) (v : A)
@@ -46,16 +46,6 @@ collapse-over {A} {B} f ((k, v) ∷ ps) = rw (last_of-over f k ps, collapse-over
     by_default : (o : Option A) → unwrap_or (option_map f o) (f v) ≡ f (unwrap_or o v)
     by_default None = refl
     by_default (Some x) = refl
-
--- a test of two keys either way round
-symmetric : (j k : List ℕ) → bytes_eq j k ≡ bytes_eq k j
-symmetric j k = elim (cases_Bool (bytes_eq j k)) [
-  | inl e ↦ e ∙ sym ((bytes_eq-Decides k j).1 (sym ((bytes_eq-Decides j k).0 e)))
-  | inr e ↦ elim (cases_Bool (bytes_eq k j)) [
-    | inl f ↦ absurd (both_ways (bytes_eq j k) e ((bytes_eq-Decides j k).1 (sym ((bytes_eq-Decides k j).0 f))))
-    | inr f ↦ e ∙ sym f
-  ]
-]
 
 -- A function of a key's last pair after one more pair: its value at that pair, if the pair has this key.
 pub of_put : {A X : Type 0} (of : Option A → X) (key : List ℕ) (ps : List (List ℕ × A)) (k : List ℕ) (v : A)

@@ -3,14 +3,9 @@ use Rattle.std.proofs.Common.{◌≡◌, ℕ, Option, Some, None, List, [], ◌�
 use Rattle.std.{proofs.Common.{map, flat_map, MatchOption}, specs.List.FoldsTo, proofs.lemmas.Option.same_Some}
 use Rattle.sfv_spec.specs.Events.{TreeEvent, begins_item, bare_item, parameter, parameters_end, parameters_events}
 use Rattle.sfv_spec.specs.{Events.inner_item_events, Ordered.ordered_item, Values.{BareValue, RawParameters, RawItem}}
+use Rattle.sfv.proofs.visits.Taken.{split_run}
 use Rattle.sfv_readers.specs.Words.{Head, of_item, of_inner_list, member_of, head_of, parameters_of, raw_item, put}
 use Rattle.sfv_readers.proofs.Puts.{put_all, all_put}
-
-pub split_run : {S : Type 0} (takes : S → TreeEvent → S → Type 0) (es fs : List TreeEvent) (s to : S)
-    → FoldsTo takes s (es ++ fs) to → (middle : S) × FoldsTo takes s es middle × FoldsTo takes middle fs to
-split_run takes [] fs s to h = (s, refl, h)
-split_run takes (e ∷ es) fs s to h =
-    let rest = split_run takes es fs h.0 to h.2 in (rest.0, (h.0, h.1, rest.1), rest.2)
 
 -- The items of an inner list, if each part leads to the state with one part more.
 module _ {S : Type 0} (takes : S → TreeEvent → S → Type 0) (Known : S → List RawItem → Type 0)

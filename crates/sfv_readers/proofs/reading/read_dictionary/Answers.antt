@@ -4,10 +4,9 @@ use Rattle.sfv_readers.{specs.Steps.DictionaryTakes, proofs.Found.dictionary_fou
 use Rattle.sfv_readers.proofs.reading.read_dictionary.Goals as goal
 
 pub returns-in-Ok-clause-read : goal.returns-in-Ok-clause-read
-returns-in-Ok-clause-read g c =
-    dictionary_found g.R.Items.InnerListReader.reads g.R.DictionaryReader.text g.R.DictionaryReader.reads c.args.reader
-    (subst (λ r. g.R.DictionaryReader.reads c.args.reader r []) (sym c.new-2.ensures) c.requires)
-    (rw (c.with_version-parser.ensures, c.new.ensures) at c.in-Ok.ensures.visited)
+returns-in-Ok-clause-read g c = dictionary_found g.R.Items.InnerListReader.reads g.R.DictionaryReader.text
+    g.R.DictionaryReader.reads c.args.reader (subst (λ r. g.R.DictionaryReader.reads c.args.reader r [])
+    (sym c.new-2.ensures) c.requires) (rw (c.with_version-parser.ensures, c.new.ensures) at c.in-Ok.ensures.visited)
 
 pub returns-in-Err-Visitor-clause-memory : goal.returns-in-Err-Visitor-clause-memory
 returns-in-Err-Visitor-clause-memory g c = λ same. inr (reader_fails g.R.Items.InnerListReader.may_fail
