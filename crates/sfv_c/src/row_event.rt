@@ -62,7 +62,6 @@ fn text_in<'a>(row: &Row<'a>) -> Option<&'a [u8]>
 }
 
 /// The key of these bytes.
-#[inline(always)]
 fn key_in(bytes: &[u8]) -> Option<KeyRef<'_>>
     ensures { MatchOption result (¬ IsTrue (is_key bytes.now))
         (λ key. (text_of key ≡ bytes.now) × IsTrue (is_key bytes.now)) }
@@ -71,7 +70,7 @@ fn key_in(bytes: &[u8]) -> Option<KeyRef<'_>>
 }
 
 /// The token of these bytes.
-// Inlined, as is `key_in`: a call takes a third of the instructions for a short token.
+// Inlined, since a call copies its result.
 #[inline(always)]
 fn token_in(bytes: &[u8]) -> Option<TokenRef<'_>>
     ensures { MatchOption result (¬ IsTrue (is_token bytes.now))
@@ -108,7 +107,7 @@ fn bare_item_in<'a>(row: &Row<'a>) -> Option<RefBareItem<'a>>
 }
 
 /// Returns `true` if the row has no value.
-// Here and in `is_plain`, `&` takes fewer branches than `&&`.
+// Here and in `is_plain`, `&` takes fewer branches than `&&`. Only the tag often differs.
 #[inline(always)]
 fn is_no_value(row: &Row<'_>) -> bool
     ensures { IsTrue result ↔ ((row_parts row.now).value ≡ value_numbers None) }
@@ -121,7 +120,7 @@ fn is_no_value(row: &Row<'_>) -> bool
 pub(crate) fn is_plain(row: &Row<'_>, tag: u32) -> bool
     ensures { IsTrue result ↔ (row_parts row.now ≡ plain_numbers tag) }
 {
-    (row.tag == tag) & row.key.is_empty() & is_no_value(row)
+    row.tag == tag && row.key.is_empty() & is_no_value(row)
 }
 
 /// The key of the dictionary member that the row begins.

@@ -6,17 +6,15 @@ ghost use Rattle.sfv_spec.specs.Classes.{is_key, is_token, is_string_byte};
 ghost use Rattle.sfv_values.specs.InvalidTexts.{IsInvalidKey, IsInvalidToken, IsInvalidString};
 
 use sfv_base::error::{Error, ErrorKind};
-use sfv_base::runs::{InnerKey, InnerToken, RunClass, StringByte, whole_run_end};
+use sfv_base::runs::{InnerKey, InnerToken, RunClass, StringByte, run_end, whole_run_end};
 use sfv_base::utils::{is_allowed_start_key_char, is_allowed_start_token_char};
 
 /// Returns the index of the first byte outside the class.
-#[inline(always)]
 #[tactic(auto, using(crate::proofs::Outside::run_is_position))]
 fn first_outside<C: RunClass>(bytes: &[u8]) -> Option<usize>
     ensures { result ≡ position (λ b. not (C.class b)) bytes.now }
 {
-    // Most texts are short, and valid to their end.
-    let end = whole_run_end::<C>(bytes);
+    let end = run_end::<C>(bytes);
     if end < bytes.len() { Some(end) } else { None }
 }
 
@@ -38,7 +36,7 @@ pub(crate) fn check_key(bytes: &[u8]) -> Result<(), Error>
 }
 
 /// Checks that the bytes are a token.
-#[tactic(auto, using(crate::proofs::Outside::all_from_position))]
+#[tactic(auto, using(crate::proofs::Outside::all_from_position, crate::proofs::Outside::run_is_position))]
 pub(crate) fn check_token(bytes: &[u8]) -> Result<(), Error>
     ensures { MatchResult result (λ _. IsTrue (is_token bytes.now)) (IsInvalidToken bytes.now) }
 {
@@ -48,21 +46,25 @@ pub(crate) fn check_token(bytes: &[u8]) -> Result<(), Error>
     if !is_allowed_start_token_char(*start) {
         return Err(Error::at(ErrorKind::InvalidCharacter, 0));
     }
-    match first_outside::<InnerToken>(inner) {
-        Some(index) => Err(Error::at(ErrorKind::InvalidCharacter, index + 1)),
-        None => Ok(()),
+    // Most tokens are short, and valid to their end.
+    let end = whole_run_end::<InnerToken>(inner);
+    if end < inner.len() {
+        return Err(Error::at(ErrorKind::InvalidCharacter, end + 1));
     }
+    Ok(())
 }
 
 /// Checks that the bytes are a string.
-#[tactic(auto, using(crate::proofs::Outside::all_from_position))]
+#[tactic(auto, using(crate::proofs::Outside::all_from_position, crate::proofs::Outside::run_is_position))]
 pub(crate) fn check_string(bytes: &[u8]) -> Result<(), Error>
     ensures { MatchResult result
         (λ _. IsTrue (list_all is_string_byte bytes.now))
         (IsInvalidString bytes.now) }
 {
-    match first_outside::<StringByte>(bytes) {
-        Some(index) => Err(Error::at(ErrorKind::InvalidCharacter, index)),
-        None => Ok(()),
+    // As for tokens.
+    let end = whole_run_end::<StringByte>(bytes);
+    if end < bytes.len() {
+        return Err(Error::at(ErrorKind::InvalidCharacter, end));
     }
+    Ok(())
 }

@@ -38,7 +38,8 @@ impl Escaping for StringEscaping {
     #[inline(always)]
     #[tactic(auto, using(crate::proofs::Written::string_escape))]
     fn push_escape<A: Allocator>(output: &mut String<A>, byte: u8) -> Result<(), AllocError> {
-        output.push_str(if byte == b'"' { "\\\"" } else { "\\\\" })
+        output.push('\\')?;
+        output.push(if byte == b'"' { '"' } else { '\\' })
     }
 }
 
