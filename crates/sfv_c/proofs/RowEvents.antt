@@ -69,13 +69,7 @@ rows_first (suc n) [] (e ∷ es) h = absurd h
 rows_first (suc n) (r ∷ rs) [] h = absurd h
 rows_first (suc n) (r ∷ rs) (e ∷ es) h = (h.0, rows_first n rs es h.1)
 
--- the rows of a first chunk
-pub two_rows : (rows chunk : List Row) (d : Row) → IsFirstChunk rows chunk 2
-    → rows ≡ get_or chunk 0 d ∷ get_or chunk 1 d ∷ drop 2 rows
-two_rows (a ∷ b ∷ rest) chunk d h = rw h.same refl
-two_rows (a ∷ []) chunk d h = absurd (omega (arith, h.enough))
-two_rows [] chunk d h = absurd (omega (arith, h.enough))
-
+-- the first four rows
 pub four_rows : (rows chunk : List Row) (d : Row) → IsFirstChunk rows chunk 4
     → rows ≡ get_or chunk 0 d ∷ get_or chunk 1 d ∷ get_or chunk 2 d ∷ get_or chunk 3 d ∷ drop 4 rows
 four_rows (a ∷ b ∷ c ∷ e ∷ rest) chunk d h = rw h.same refl

@@ -14,7 +14,7 @@ use crate::rows_to_text::field;
 use sfv::{FieldKind, GenericBareItem, TokenRef, Version};
 use std::alloc::Global;
 
-/// Returns the token, if the rows are those of an item that is a token without parameters.
+/// Returns the token, if the rows are the rows of an item that is a token without parameters.
 fn token_alone<'a>(kind: FieldKind, rows: &[Row<'a>]) -> Option<TokenRef<'a>>
     ensures { IfSome result (λ t. (kind ≡ item_field) × IsTokenAlone rows.now (text_of t)) }
 {
