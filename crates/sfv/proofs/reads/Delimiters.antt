@@ -10,7 +10,7 @@ use Rattle.sfv_spec.specs.Events.{TreeEvent, inner_item_events}
 use Rattle.sfv_spec.specs.declared.error_kind.ErrorKind.TheVariants.{TrailingComma, TrailingCharactersAfterMember}
 use Rattle.sfv_spec.specs.declared.error_kind.ErrorKind.TheVariants.{ExpectedInnerListDelimiter, UnterminatedInnerList}
 use Rattle.sfv_model.specs.Reader.{Answer, Reader, first, byte, any, give, fail, back, ahead, branch, and_then, bind}
-use Rattle.sfv_model.specs.Reader.{span, led, many, ◌>>=◌}
+use Rattle.sfv_model.specs.Reader.{span, led, many, one_and_more, ◌>>=◌}
 use Rattle.sfv_model.specs.Members.{inner_item_at, next_item_at, inner_items_at}
 use Rattle.sfv_model.specs.Fields.{comma_at, next_at, members_at}
 use Rattle.sfv_model.proofs.complete.Combinators.{bind_complete}
@@ -186,27 +186,32 @@ next_member_is {A} one t = let q = span_total is_space_or_tab t in rw q.2 (on q.
     on [] = refl
     on (c ∷ r) = at c r (byte comma c) refl
 
-pub members_none : {A : Type 0} (parts : A → List TreeEvent) (one : Reader A) (t s q : List ℕ)
-    → span is_space t ≡ Ok (s, q) → is_some (first q) ≡ false → members_at parts one t ≡ Ok ([], q)
-unfolding members_at ahead give
-members_none {A} parts one t s q e h = bind_complete (span is_space) _ t q s e ∙ on q h
-  where
-    on : (q : List ℕ) → is_some (first q) ≡ false → ahead any (one
-        >>= λ m. led (parts m) (many parts (next_at one) >>= λ ms. give (m ∷ ms))) (give []) q ≡ Ok ([], q)
-    on [] h = refl
-    on (c ∷ q) h = absurd cc
+-- after the spaces before the first member
+module _ {A : Type 0} (parts : A → List TreeEvent) (one : Reader A) where
+  abbrev after_spaces : Reader (List A)
+  after_spaces = ahead any (one_and_more parts one (next_at one)) (give [])
 
-pub members_first : {A : Type 0} (parts : A → List TreeEvent) (one : Reader A) (t s q : List ℕ)
-    → span is_space t ≡ Ok (s, q) → is_some (first q) ≡ true
-    → members_at parts one t ≡ first_of parts one (next_at one) q
-unfolding members_at ahead first_of
-members_first {A} parts one t s q e h = bind_complete (span is_space) _ t q s e ∙ on q h
-  where
-    on : (q : List ℕ) → is_some (first q) ≡ true → ahead any (one
-        >>= λ m. led (parts m) (many parts (next_at one) >>= λ ms. give (m ∷ ms))) (give []) q
-        ≡ (one >>= λ m. led (parts m) (many parts (next_at one) >>= λ ms. give (m ∷ ms))) q
-    on [] h = absurd cc
-    on (c ∷ q) h = refl
+  pub after_none : (q : List ℕ) → is_some (first q) ≡ false → after_spaces q ≡ Ok ([], q)
+  unfolding ahead give
+  after_none [] h = refl
+  after_none (c ∷ q) h = absurd cc
+
+  pub after_some : (q : List ℕ) → is_some (first q) ≡ true → after_spaces q ≡ first_of parts one (next_at one) q
+  unfolding ahead first_of
+  after_some [] h = absurd cc
+  after_some (c ∷ q) h = refl
+
+  pub members_after : (t s q : List ℕ) → span is_space t ≡ Ok (s, q) → members_at parts one t ≡ after_spaces q
+  unfolding members_at
+  members_after t s q e = bind_complete (span is_space) _ t q s e
+
+  pub members_none : (t s q : List ℕ) → span is_space t ≡ Ok (s, q) → is_some (first q) ≡ false
+      → members_at parts one t ≡ Ok ([], q)
+  members_none t s q e h = members_after t s q e ∙ after_none q h
+
+  pub members_first : (t s q : List ℕ) → span is_space t ≡ Ok (s, q) → is_some (first q) ≡ true
+      → members_at parts one t ≡ first_of parts one (next_at one) q
+  members_first t s q e h = members_after t s q e ∙ after_some q h
 
 -- where no member is wanted, the text has ended
 pub ends_there : (t r : List ℕ) → member_delimiter_at t ≡ Ok (false, r) → r ≡ []
