@@ -1,16 +1,21 @@
 -- What stands between two items of an inner list, and between two members, by what the code found out.
 use Rattle.std.proofs.Common.{◌≡◌, ℕ, Bool, true, false, not, List, [], ◌∷◌, Option, Some, None, Ok, Err, refl, sym, ap}
-use Rattle.std.proofs.Common.{◌∙◌, is_some, true≢false}
-use Rattle.sfv_spec.specs.Events.{inner_item_events}
+use Rattle.std.proofs.Common.{◌∙◌}
+use Rattle.std.specs.Prelude.{is_some}
+use Rattle.std.proofs.lemmas.Bool.{true≢false}
+use Rattle.sfv_spec.proofs.Marks.{right_parenthesis, comma, is_space, is_space_or_tab}
+use Rattle.sfv_spec.specs.Values.{RawItem}
+use Rattle.sfv_spec.specs.declared.version.Version.{Version}
+use Rattle.sfv_spec.specs.Events.{TreeEvent, inner_item_events}
 use Rattle.sfv_spec.specs.declared.error_kind.ErrorKind.TheVariants.{TrailingComma, TrailingCharactersAfterMember}
 use Rattle.sfv_spec.specs.declared.error_kind.ErrorKind.TheVariants.{ExpectedInnerListDelimiter, UnterminatedInnerList}
-use Rattle.sfv_spec.proofs.Marks.{right_parenthesis, comma, is_space, is_space_or_tab}
-use Rattle.sfv_model.specs.Fields.{comma_at, next_at, members_at}
-use Rattle.sfv_model.specs.Members.{inner_item_at, next_item_at, inner_items_at}
 use Rattle.sfv_model.specs.Reader.{Answer, Reader, first, byte, any, give, fail, back, ahead, branch, and_then, bind}
-use Rattle.sfv_model.{specs.Reader.{span, led, many, ◌>>=◌}, proofs.complete.Combinators.bind_complete}
-use Rattle.sfv.specs.Field.{RawItem, Version, TreeEvent}
-use Rattle.sfv.specs.parser.{Cursor.{located, TakesIf}, Members.{item_delimiter_at, member_delimiter_at}}
+use Rattle.sfv_model.specs.Reader.{span, led, many, one_and_more, ◌>>=◌}
+use Rattle.sfv_model.specs.Members.{inner_item_at, next_item_at, inner_items_at}
+use Rattle.sfv_model.specs.Fields.{comma_at, next_at, members_at}
+use Rattle.sfv_model.proofs.complete.Combinators.{bind_complete}
+use Rattle.sfv.specs.parser.Cursor.{located, TakesIf}
+use Rattle.sfv.specs.parser.Members.{item_delimiter_at, member_delimiter_at}
 use Rattle.sfv.proofs.reads.Steps.{branch_true, branch_false}
 
 -- a run is read wherever it is wanted
@@ -38,8 +43,10 @@ first_of parts one next = one >>= λ v. led (parts v) (many parts next >>= λ vs
 pub parted_item : (b : Bool) (t r s q w : List ℕ) → TakesIf is_space true t r → span is_space r ≡ Ok (s, q)
     → TakesIf (byte right_parenthesis) b q w → item_delimiter_at t ≡ Ok (not b, w)
 unfolding item_delimiter_at give
-parted_item true t r s q w sp e m = branch_true _ _ _ _ _ sp ∙ bind_complete _ _ _ _ _ e ∙ branch_true _ _ _ _ _ m
-parted_item false t r s q w sp e m = branch_true _ _ _ _ _ sp ∙ bind_complete _ _ _ _ _ e ∙ branch_false _ _ _ _ _ m
+parted_item true t r s q w sp e m = branch_true is_space _ _ t r sp ∙ bind_complete (span is_space) _ r q s e
+    ∙ branch_true (byte right_parenthesis) (λ _. give false) (give true) q w m
+parted_item false t r s q w sp e m = branch_true is_space _ _ t r sp ∙ bind_complete (span is_space) _ r q s e
+    ∙ branch_false (byte right_parenthesis) (λ _. give false) (give true) q w m
 
 pub closed_item : (t r q : List ℕ) → TakesIf is_space false t r → TakesIf (byte right_parenthesis) true r q
     → item_delimiter_at t ≡ Ok (false, q)
@@ -110,7 +117,8 @@ items_none version (c ∷ t) h = absurd cc
 
 -- after the spaces before the first item
 abbrev pub items_after : Version → Reader (List RawItem)
-items_after version = branch (byte right_parenthesis) (λ _. give []) (inner_item_at version
+items_after version =
+    branch (byte right_parenthesis) (λ _. give []) (inner_item_at version
     >>= λ i. led (inner_item_events i) (many inner_item_events (next_item_at version) >>= λ is. give (i ∷ is)))
 
 items_some : (version : Version) (t s q : List ℕ) → is_some (first t) ≡ true → span is_space t ≡ Ok (s, q)
@@ -178,27 +186,32 @@ next_member_is {A} one t = let q = span_total is_space_or_tab t in rw q.2 (on q.
     on [] = refl
     on (c ∷ r) = at c r (byte comma c) refl
 
-pub members_none : {A : Type 0} (parts : A → List TreeEvent) (one : Reader A) (t s q : List ℕ)
-    → span is_space t ≡ Ok (s, q) → is_some (first q) ≡ false → members_at parts one t ≡ Ok ([], q)
-unfolding members_at ahead give
-members_none {A} parts one t s q e h = bind_complete (span is_space) _ t q s e ∙ on q h
-  where
-    on : (q : List ℕ) → is_some (first q) ≡ false → ahead any (one
-        >>= λ m. led (parts m) (many parts (next_at one) >>= λ ms. give (m ∷ ms))) (give []) q ≡ Ok ([], q)
-    on [] h = refl
-    on (c ∷ q) h = absurd cc
+-- after the spaces before the first member
+module _ {A : Type 0} (parts : A → List TreeEvent) (one : Reader A) where
+  abbrev after_spaces : Reader (List A)
+  after_spaces = ahead any (one_and_more parts one (next_at one)) (give [])
 
-pub members_first : {A : Type 0} (parts : A → List TreeEvent) (one : Reader A) (t s q : List ℕ)
-    → span is_space t ≡ Ok (s, q) → is_some (first q) ≡ true
-    → members_at parts one t ≡ first_of parts one (next_at one) q
-unfolding members_at ahead first_of
-members_first {A} parts one t s q e h = bind_complete (span is_space) _ t q s e ∙ on q h
-  where
-    on : (q : List ℕ) → is_some (first q) ≡ true → ahead any (one
-        >>= λ m. led (parts m) (many parts (next_at one) >>= λ ms. give (m ∷ ms))) (give []) q
-        ≡ (one >>= λ m. led (parts m) (many parts (next_at one) >>= λ ms. give (m ∷ ms))) q
-    on [] h = absurd cc
-    on (c ∷ q) h = refl
+  pub after_none : (q : List ℕ) → is_some (first q) ≡ false → after_spaces q ≡ Ok ([], q)
+  unfolding ahead give
+  after_none [] h = refl
+  after_none (c ∷ q) h = absurd cc
+
+  pub after_some : (q : List ℕ) → is_some (first q) ≡ true → after_spaces q ≡ first_of parts one (next_at one) q
+  unfolding ahead first_of
+  after_some [] h = absurd cc
+  after_some (c ∷ q) h = refl
+
+  pub members_after : (t s q : List ℕ) → span is_space t ≡ Ok (s, q) → members_at parts one t ≡ after_spaces q
+  unfolding members_at
+  members_after t s q e = bind_complete (span is_space) _ t q s e
+
+  pub members_none : (t s q : List ℕ) → span is_space t ≡ Ok (s, q) → is_some (first q) ≡ false
+      → members_at parts one t ≡ Ok ([], q)
+  members_none t s q e h = members_after t s q e ∙ after_none q h
+
+  pub members_first : (t s q : List ℕ) → span is_space t ≡ Ok (s, q) → is_some (first q) ≡ true
+      → members_at parts one t ≡ first_of parts one (next_at one) q
+  members_first t s q e h = members_after t s q e ∙ after_some q h
 
 -- where no member is wanted, the text has ended
 pub ends_there : (t r : List ℕ) → member_delimiter_at t ≡ Ok (false, r) → r ≡ []

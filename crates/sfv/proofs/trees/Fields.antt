@@ -1,23 +1,42 @@
 -- Whole lists and dictionaries that are built.
 use Rattle.std.proofs.Common.{◌≡◌, ℕ, Bool, true, false, List, [], ◌∷◌, ◌++◌, Ok, Err, refl, sym, ap, ◌∙◌, inl, inr}
-use Rattle.std.proofs.Common.{subst, ◌⊎◌, Result, OnOk, IfOk, IfErr, is_some, cond, not}
+use Rattle.std.proofs.Common.{subst}
+use Rattle.std.specs.Prelude.{◌⊎◌, Result, OnOk, OnErr, IfOk, IfErr, is_some, cond, not}
 use Rattle.std.specs.declared.alloc.Global.{Global}
-use Rattle.std.proofs.lemmas.{Bool.cases_Bool, List.map-append, List.Elements.Contains-append_right}
-use Rattle.sfv_spec.{specs.Ordered.collapse, proofs.Collapse.collapse-push, proofs.Marks.is_space}
+use Rattle.std.proofs.lemmas.Bool.{cases_Bool}
+use Rattle.std.proofs.lemmas.List.{map-append}
+use Rattle.std.proofs.lemmas.List.Elements.{Contains-append_right}
+use Rattle.sfv_spec.specs.Values.{RawMember, RawField}
+use Rattle.sfv_spec.proofs.Marks.{is_space}
+use Rattle.sfv_spec.specs.declared.field_kind.FieldKind.TheVariants.{List as list_field, Dictionary as dictionary_field}
+use Rattle.sfv_spec.specs.declared.version.Version.{Version}
+use Rattle.sfv_spec.specs.Events.{entry, entry_events, keyed_events, events}
+use Rattle.sfv_spec.specs.Ordered.{collapse, ordered_member}
+use Rattle.sfv_spec.specs.Statements.{IsParsedAs}
+use Rattle.sfv_spec.proofs.Collapse.{collapse-push}
+use Rattle.sfv_base.specs.declared.error.Error.{Error}
+use Rattle.sfv_base.specs.Errors.{out_of_memory}
+use Rattle.sfv_model.specs.Reader.{Answer, and_then, first, give, span}
+use Rattle.sfv_model.specs.Members.{member_at, entry_at, keyed_at}
 use Rattle.sfv_model.specs.Fields.{members_at, whole_field_at, read_field}
-use Rattle.sfv_model.specs.{Members.{member_at, entry_at, keyed_at}, Reader.{Answer, and_then, first, give, span}}
-use Rattle.sfv.specs.Field.{RawMember, RawField, list_field, dictionary_field, Version, entry, entry_events}
-use Rattle.sfv.specs.Field.{keyed_events, events, ordered_member, IsParsedAs, out_of_memory, IsParseError}
-use Rattle.sfv.specs.{Types.Error, declared.parser.Parser.Parser, declared.parser.cursor.Cursor.Cursor}
-use Rattle.sfv.specs.parser.Cursor.{kept, kept_input, kept_version, input, version, rest, MayNeedMemory, IsFaultOf}
-use Rattle.sfv.specs.parser.Members.{MemberValue, member_parts, one_member_at, some_members_at, field_of}
+use Rattle.sfv.specs.declared.parser.Parser.{Parser}
+use Rattle.sfv.specs.declared.parser.cursor.Cursor.{Cursor}
+use Rattle.sfv.specs.parser.Cursor.{kept, kept_input, kept_version, version, rest, located, MayNeedMemory, IsFaultOf}
+use Rattle.sfv.specs.parser.Members.{MemberValue, member_parts, one_member_at, all_members_at, field_of}
 use Rattle.sfv.specs.parser.Trees.{Builds, FailsAs, ordered_pairs, ordered_members, with_member}
-use Rattle.sfv.proofs.{Memory.first_in, Parsed.parsed}
-use Rattle.sfv.proofs.built.{Dictionaries.collapse-over, Items.insert_entry-entered}
-use Rattle.sfv.proofs.reads.Delimiters.{members_none, members_first, first_of, at_end}
+use Rattle.sfv.proofs.trees.Errors.{Any, Never, FailsWith, field_fails}
+use Rattle.sfv.proofs.visits.Loops.{IsFirst, members_loop}
+use Rattle.sfv.specs.Memory.{NeedsMemory}
+use Rattle.sfv.specs.Parsers.{IsParseError}
+use Rattle.sfv.proofs.Memory.{first_in}
+use Rattle.sfv.proofs.Parsed.{parsed}
+use Rattle.sfv_tree.proofs.Entered.{insert_entry-entered}
+use Rattle.sfv.proofs.built.Dictionaries.{collapse-over}
+use Rattle.sfv.proofs.trees.Parts.{led_builds}
+use Rattle.sfv.proofs.reads.Delimiters.{after_some, members_after, first_of}
 use Rattle.sfv.proofs.reads.Errors.{fault_bind, kept_reads}
-use Rattle.sfv.proofs.trees.{Errors.{Any, Never, fails_in, field_fails}, Parts.led_builds}
-use Rattle.sfv.proofs.visits.{Fields.whole_read, Loops.{IsFirst, members_loop}, Whole.ending_located}
+use Rattle.sfv.proofs.visits.Fields.{whole_read}
+use Rattle.sfv.proofs.visits.Whole.{ending_located}
 
 -- ---- one more member
 
@@ -30,10 +49,17 @@ member_added true front m =
     ∙ collapse-push (ordered_pairs front) m.0 (ordered_member m.1)
     ∙ sym (insert_entry-entered (collapse (ordered_pairs front)) m.0 (ordered_member m.1))
 
-pub first_member : (keyed : Bool) (start : Cursor) → IsFirst Any Never (members_loop keyed) start
-    (some_members_at keyed (version start) (rest start)) start
+pub first_member : (keyed : Bool) (start : Cursor) → is_some (first (rest start)) ≡ true
+    → IsFirst Any Never (members_loop keyed) start (all_members_at keyed (version start) (rest start)) start
+first_member keyed start some =
+    (after_some (member_parts keyed) (one_member_at keyed (version start)) (rest start) some, refl)
+
+-- the first member fails, and the members with it
+pub begin_fails : (keyed : Bool) (version : Version) (t : List ℕ) → is_some (first t) ≡ true
+    → FailsWith (one_member_at keyed version t) (all_members_at keyed version t)
 unfolding first_of
-first_member keyed start = (refl, refl)
+begin_fails keyed version t some k q h =
+    ap located (after_some (member_parts keyed) (one_member_at keyed version) t some) ∙ fault_bind (one_member_at keyed version) _ t k q h
 
 -- the dictionary without members
 pub no_pairs : [] ≡ ordered_members true []
@@ -117,42 +143,32 @@ module _ (keyed : Bool) (start before : Cursor) (k : Parser × Global) (s : List
   skipped : span is_space (kept_input k) ≡ Ok (s, rest before)
   skipped = subst (λ (t : List ℕ). span is_space t ≡ Ok (s, rest before)) whole spaces_first
 
-  -- nothing follows
-  pub none_read : (value : RawField (field_of keyed)) → is_some (first (rest before)) ≡ false
-      → value ≡ ordered_members keyed [] → IsParsedAs (kept_version k) (field_of keyed) (kept_input k) value
-  none_read value none empty = members_parsed keyed (kept_version k) (kept_input k) (rest before) [] value
-      (members_none (member_parts keyed) (one_member_at keyed (kept_version k)) (kept_input k) s (rest before) skipped
-      none) (at_end (rest before) none) empty
+  all_at : members_at (member_parts keyed) (one_member_at keyed (kept_version k)) (kept_input k)
+      ≡ all_members_at keyed (kept_version k) (rest before)
+  all_at =
+      members_after (member_parts keyed) (one_member_at keyed (kept_version k)) (kept_input k) s (rest before) skipped
 
-  module _ (some : is_some (first (rest before)) ≡ true) where
-    all_at : members_at (member_parts keyed) (one_member_at keyed (kept_version k)) (kept_input k)
-        ≡ some_members_at keyed (kept_version k) (rest before)
-    unfolding first_of
-    all_at = members_first (member_parts keyed) (one_member_at keyed (kept_version k)) (kept_input k) s (rest before)
-        skipped some
+  pub all_rejected : (e : Error) → FailsAs before e (all_members_at keyed)
+      → IsParseError (kept_version k) (field_of keyed) (kept_input k) e
+  all_rejected e h = members_rejected keyed (kept_version k) (kept_input k) e (rw all_at
+      (subst (λ (k : Parser × Global). (e ≡ out_of_memory)
+      ⊎ IsFaultOf (kept_input k) e (all_members_at keyed (kept_version k) (rest before))) same h))
 
-    some_fail : (e : Error) → FailsAs before e (some_members_at keyed)
-        → IsParseError (kept_version k) (field_of keyed) (kept_input k) e
-    some_fail e h = members_rejected keyed (kept_version k) (kept_input k) e (rw all_at
-        (subst (λ (k : Parser × Global). (e ≡ out_of_memory)
-        ⊎ IsFaultOf (kept_input k) e (some_members_at keyed (kept_version k) (rest before))) same h))
+  module _ {X : Type 0} (view : X → RawField (field_of keyed)) (after : Cursor) where
+    pub members_read : (r : Result X Error) → OnOk r (rest after ≡ [])
+        → Builds view (ordered_members keyed) before after r (all_members_at keyed)
+        → IfOk r (λ x. IsParsedAs (kept_version k) (field_of keyed) (kept_input k) (view x))
+    members_read (Ok x) end h = members_parsed keyed (kept_version k) (kept_input k) (rest after) h.0 (view x)
+        (all_at ∙ kept_reads (all_members_at keyed) (rest before) (kept before) k same ∙ h.1) end h.2
+    members_read (Err e) end h = tt
 
-    -- no member begins here
-    pub first_rejected : (e : Error) → IsFaultOf (input before) e (one_member_at keyed (version before) (rest before))
-        → IsParseError (kept_version k) (field_of keyed) (kept_input k) e
-    first_rejected e fault = some_fail e (fails_in (one_member_at keyed) (some_members_at keyed) before before e refl
-        (fault_bind (one_member_at keyed (version before)) _ (rest before)) (inr fault))
+    pub members_fault : (r : Result X Error)
+        → Builds view (ordered_members keyed) before after r (all_members_at keyed)
+        → IfErr r (IsParseError (kept_version k) (field_of keyed) (kept_input k))
+    members_fault (Ok x) h = tt
+    members_fault (Err e) h = all_rejected e h
 
-    module _ {X : Type 0} (view : X → RawField (field_of keyed)) (after : Cursor) where
-      pub members_read : (r : Result X Error) → OnOk r (rest after ≡ [])
-          → Builds view (ordered_members keyed) before after r (some_members_at keyed)
-          → IfOk r (λ x. IsParsedAs (kept_version k) (field_of keyed) (kept_input k) (view x))
-      members_read (Ok x) end h = members_parsed keyed (kept_version k) (kept_input k) (rest after) h.0 (view x)
-          (all_at ∙ kept_reads (some_members_at keyed) (rest before) (kept before) k same ∙ h.1) end h.2
-      members_read (Err e) end h = tt
-
-      pub members_fault : (r : Result X Error)
-          → Builds view (ordered_members keyed) before after r (some_members_at keyed)
-          → IfErr r (IsParseError (kept_version k) (field_of keyed) (kept_input k))
-      members_fault (Ok x) h = tt
-      members_fault (Err e) h = some_fail e h
+  pub members_memory : {X : Type 0} (r : Result X Error) → OnErr r (is_some (first (rest before)) ≡ true)
+      → IfErr r (NeedsMemory (field_of keyed) (kept_input k))
+  members_memory (Ok x) some = tt
+  members_memory (Err e) some = λ _. members_need keyed (kept_input k) s (rest before) skipped some

@@ -1,12 +1,12 @@
 -- Delimiters of items and of members, and the two kinds of member.
-use Rattle.std.specs.Prelude.{true, false, Bool, ℕ, List, flat_map, ◌∷◌, ◌++◌}
+use Rattle.std.specs.Prelude.{true, false, Bool, ℕ, List, [], flat_map, ◌∷◌, ◌++◌}
 use Rattle.sfv_spec.specs.Values.{RawMember, item, inner_list}
 use Rattle.sfv_spec.specs.declared.field_kind.FieldKind.{FieldKind}
 use Rattle.sfv_spec.specs.declared.field_kind.FieldKind.TheVariants.{List as list_field, Dictionary as dictionary_field}
 use Rattle.sfv_spec.specs.declared.version.Version.{Version}
 use Rattle.sfv_spec.specs.Events.{TreeEvent, item_events, inner_list_end, parameters_events, inner_item_events}
 use Rattle.sfv_spec.specs.Events.{entry_events, keyed_events}
-use Rattle.sfv_model.specs.Reader.{Reader, give, one_and_more}
+use Rattle.sfv_model.specs.Reader.{Reader, give, ahead, any, one_and_more}
 use Rattle.sfv_model.specs.Members.{entry_at, keyed_at, item_delimited}
 use Rattle.sfv_model.specs.Fields.{member_delimited, next_at}
 
@@ -38,10 +38,10 @@ abbrev pub one_member_at : (keyed : Bool) → Version → Reader (MemberValue ke
 one_member_at true = keyed_at
 one_member_at false = entry_at
 
--- the reader of one member and those after it, up to the end of the text
-abbrev pub some_members_at : (keyed : Bool) → Version → Reader (List (MemberValue keyed))
-some_members_at keyed version =
-    one_and_more (member_parts keyed) (one_member_at keyed version) (next_at (one_member_at keyed version))
+-- the reader of the members up to the end of the text, after leading spaces
+abbrev pub all_members_at : (keyed : Bool) → Version → Reader (List (MemberValue keyed))
+all_members_at keyed version = ahead any
+    (one_and_more (member_parts keyed) (one_member_at keyed version) (next_at (one_member_at keyed version))) (give [])
 
 -- the type of field with such members
 abbrev pub field_of : Bool → FieldKind

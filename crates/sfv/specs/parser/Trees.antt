@@ -1,6 +1,6 @@
 -- Results of parsing to a tree.
 use Rattle.std.specs.Prelude.{◌≡◌, ◌⊎◌, Bool, true, false, ℕ, List, [], ◌∷◌, ◌++◌, All, map, Result, Ok, Err}
-use Rattle.std.specs.Prelude.{bytes_eq}
+use Rattle.std.specs.Prelude.{◌≤◌, length, drop, bytes_eq}
 use Rattle.indexmap.specs.IndexMap.{insert_entry}
 use Rattle.sfv_spec.specs.Values.{RawMember, RawField}
 use Rattle.sfv_spec.specs.Ordered.{collapse, ordered_member}
@@ -10,7 +10,8 @@ use Rattle.sfv_base.specs.Errors.{out_of_memory}
 use Rattle.sfv_tree.specs.Seeds.{MemberHasSeed}
 use Rattle.sfv_tree.specs.declared.parsed.ListEntry.{ListEntry}
 use Rattle.sfv_tree.specs.declared.hash_seed.HashSeed.{HashSeed}
-use Rattle.sfv_model.specs.Reader.{Reader}
+use Rattle.sfv_spec.proofs.Marks.{is_space}
+use Rattle.sfv_model.specs.Reader.{Reader, span}
 use Rattle.sfv.specs.declared.parser.cursor.Cursor.{Cursor}
 use Rattle.sfv.specs.parser.Cursor.{kept, input, version, rest, IsFaultOf}
 use Rattle.sfv.specs.parser.Members.{MemberValue, field_of}
@@ -28,6 +29,10 @@ Builds {Y = Y} view collapsed before after (Ok x) reader = (raw : Y)
     × (reader (version before) (rest before) ≡ Ok (raw, rest after)) × (view x ≡ collapsed raw)
     × (kept after ≡ kept before)
 Builds view collapsed before after (Err e) reader = FailsAs before e reader
+
+-- the leading spaces of the text end at this index
+abbrev pub SpacesEndAt : List ℕ → ℕ → Type 0
+SpacesEndAt t index = (index ≤ length t) × ((s : List ℕ) × (span is_space t ≡ Ok (s, drop index t)))
 
 -- each key with its member, whose keys are collapsed
 abbrev pub ordered_pairs : List (List ℕ × RawMember) → List (List ℕ × RawMember)

@@ -4,7 +4,7 @@
 //! room for an element when the element is complete.
 
 ghost use Rattle.std.specs.Prelude.{◌≡◌, ◌<◌, ◌≤◌, ◌++◌, ◌∷◌, [], Bool, true, false, None, OnOk, OnErr, IfOk, IfErr};
-ghost use Rattle.std.specs.Prelude.{All, map, length, vec_capacity, bytes_eq};
+ghost use Rattle.std.specs.Prelude.{All, map, length, is_some, vec_capacity, bytes_eq};
 ghost use Rattle.indexmap.specs.IndexMap.{get, hasher_of, insert_entry, spare};
 ghost use Rattle.sfv_spec.specs.Values.{RawField, inner_list};
 ghost use Rattle.sfv_spec.specs.Statements.{IsParsedAs};
@@ -17,6 +17,7 @@ ghost use Rattle.sfv_tree.specs.Trees.{pairs_tree, item_tree, member_tree, list_
 ghost use Rattle.sfv_tree.proofs.Words.{item_with, inner_list_with};
 ghost use Rattle.sfv_tree.specs.Seeds.{ItemHasSeed, MemberHasSeed, ListHasSeed, DictionaryHasSeed};
 ghost use Rattle.sfv_tree.specs.declared.hash_seed.HashSeed.{HashSeed};
+ghost use Rattle.sfv_model.specs.Reader.{first};
 ghost use Rattle.sfv_model.specs.Bare.{bare_at};
 ghost use Rattle.sfv_model.specs.Items.{parameters_at, item_at};
 ghost use Rattle.sfv_model.specs.Members.{inner_item_at, inner_items_at, inner_at, member_at, member_value_at};
@@ -24,8 +25,8 @@ ghost use Rattle.sfv_model.specs.Members.{keyed_at};
 ghost use Rattle.sfv.specs.Memory.{NeedsMemory};
 ghost use Rattle.sfv.specs.parser.Cursor.{MayNeedMemory, input, version, rest, IsFaultOf};
 ghost use Rattle.sfv.specs.Parsers.{input_of, version_of, IsParseError};
-ghost use Rattle.sfv.specs.parser.Members.{one_member_at, some_members_at, field_of};
-ghost use Rattle.sfv.specs.parser.Trees.{Builds, EntriesHaveSeed, ordered_members, with_member};
+ghost use Rattle.sfv.specs.parser.Members.{one_member_at, all_members_at, field_of};
+ghost use Rattle.sfv.specs.parser.Trees.{Builds, EntriesHaveSeed, SpacesEndAt, ordered_members, with_member};
 
 use crate::parser::Parser;
 use crate::parser::cursor::Cursor;
@@ -298,15 +299,19 @@ impl<'de> Cursor<'de> {
         Ok(())
     }
 
-    /// Parses at least one member of a list or a dictionary, and those after it up to the end of the input.
+    /// Parses the members of a list or a dictionary up to the end of the input, after leading spaces.
     #[inline(never)]
     fn tree_members<M: Members>(&mut self) -> Result<M, Error>
         ensures tree { Builds M.tree (ordered_members M.keyed)
-            self.old self.new result (some_members_at M.keyed) }
+            self.old self.new result (all_members_at M.keyed) }
         ensures end { OnOk result (rest self.new ≡ []) }
         ensures seed { IfOk result (M.has_seed self.old.parser.seed) }
+        ensures some { OnErr result (is_some (first (rest self.old)) ≡ true) }
     {
         let mut members = M::empty(self.alloc, self.parser.seed);
+        if self.peek().is_none() {
+            return Ok(members);
+        }
         M::add_member(self, &mut members)?;
         while self.consume_comma()? {
             M::add_member(self, &mut members)?;
@@ -329,10 +334,10 @@ pub(crate) trait Members: Drop {
         ensures tree { tree result ≡ ordered_members keyed [] }
         ensures seed { has_seed seed result };
 
-    /// Fails if the next byte begins no member.
+    /// Fails if neither a member begins nor the input ends.
     fn expect_start(cursor: &Cursor<'_>) -> Result<(), Error>
         ensures { IfErr result (λ e.
-            IsFaultOf (input cursor.now) e (one_member_at keyed (version cursor.now) (rest cursor.now))) };
+            IsFaultOf (input cursor.now) e (all_members_at keyed (version cursor.now) (rest cursor.now))) };
 
     /// Parses a member, and adds it to `members`.
     fn add_member(cursor: &mut Cursor<'_>, members: &mut Self) -> Result<(), Error>
@@ -356,6 +361,9 @@ impl Members for List {
 
     #[inline(always)]
     fn expect_start(cursor: &Cursor<'_>) -> Result<(), Error> {
+        if cursor.peek().is_none() {
+            return Ok(());
+        }
         if cursor.next_is(b'(') {
             return Ok(());
         }
@@ -382,6 +390,9 @@ impl Members for Dictionary {
 
     #[inline(always)]
     fn expect_start(cursor: &Cursor<'_>) -> Result<(), Error> {
+        if cursor.peek().is_none() {
+            return Ok(());
+        }
         if cursor.next_is_key_start() {
             return Ok(());
         }
@@ -394,11 +405,38 @@ impl Members for Dictionary {
     }
 }
 
+/// Parses the input from `index` on, where its leading spaces end, as an item.
+// A separate function: an item that is rejected at its first byte saves no registers.
+#[inline(never)]
+fn item_from(parser: Parser<'_>, alloc: Global, index: usize) -> Result<Item, Error>
+    requires { SpacesEndAt (input_of parser) index }
+    ensures read { IfOk result (λ item.
+        IsParsedAs (version_of parser.entry) item_field (input_of parser.entry) (item_tree item)) }
+    ensures seed { IfOk result (ItemHasSeed parser.entry.seed) }
+    ensures rejected { IfErr result (IsParseError (version_of parser.entry) item_field (input_of parser.entry)) }
+    ensures memory { IfErr result (NeedsMemory item_field (input_of parser.entry)) }
+{
+    let mut cursor = Cursor {
+        parser,
+        alloc,
+        index,
+        count: 0,
+    };
+    let mut params = Parameters::with_hasher(alloc, parser.seed);
+    let bare_item = cursor.tree_item(&mut params)?;
+    cursor.skip_sp();
+    if cursor.peek().is_some() {
+        return Err(cursor.error(ErrorKind::TrailingCharactersAfterParsedValue));
+    }
+    Ok(Item::with_params(bare_item, params))
+}
+
 /// Parses the input as an item.
 ///
 /// # Errors
 ///
 /// Returns the errors of `Parser::parse`.
+#[inline(always)]
 pub(crate) fn parse_item(parser: Parser<'_>, alloc: Global) -> Result<Item, Error>
     ensures read { IfOk result (λ item.
         IsParsedAs (version_of parser.entry) item_field (input_of parser.entry) (item_tree item)) }
@@ -409,13 +447,7 @@ pub(crate) fn parse_item(parser: Parser<'_>, alloc: Global) -> Result<Item, Erro
     let mut cursor = Cursor::new(parser, alloc);
     cursor.skip_sp();
     cursor.expect_bare_item_start()?;
-    let mut params = Parameters::with_hasher(alloc, parser.seed);
-    let bare_item = cursor.tree_item(&mut params)?;
-    cursor.skip_sp();
-    if cursor.peek().is_some() {
-        return Err(cursor.error(ErrorKind::TrailingCharactersAfterParsedValue));
-    }
-    Ok(Item::with_params(bare_item, params))
+    item_from(parser, alloc, cursor.index)
 }
 
 /// Parses the input as a list or a dictionary.
@@ -423,6 +455,7 @@ pub(crate) fn parse_item(parser: Parser<'_>, alloc: Global) -> Result<Item, Erro
 /// # Errors
 ///
 /// Returns the errors of `Parser::parse`.
+#[inline(always)]
 pub(crate) fn parse_members<M: Members>(parser: Parser<'_>, alloc: Global) -> Result<M, Error>
     ensures read { IfOk result (λ members.
         IsParsedAs (version_of parser.entry) (field_of M.keyed) (input_of parser.entry) (M.tree members)) }
@@ -433,9 +466,8 @@ pub(crate) fn parse_members<M: Members>(parser: Parser<'_>, alloc: Global) -> Re
 {
     let mut cursor = Cursor::new(parser, alloc);
     cursor.skip_sp();
-    if cursor.peek().is_none() {
-        return Ok(M::empty(alloc, parser.seed));
-    }
     M::expect_start(&cursor)?;
-    cursor.tree_members()
+    // Only this copy is kept in memory, so a field that is rejected at its first byte stores no cursor.
+    let mut rest = cursor;
+    rest.tree_members()
 }

@@ -1,13 +1,19 @@
-use Rattle.std.proofs.Common.{length}
-use Rattle.sfv.specs.parser.{Cursor.{version, rest}, Members.some_members_at, Trees.ordered_members}
-use Rattle.sfv.proofs.{trees.Loops.BuiltSoFar, visits.Loops.members_loop}
+use Rattle.std.specs.Prelude.{is_some}
+use Rattle.sfv_model.specs.Reader.{first}
+use Rattle.std.proofs.Common.{◌≡◌, true, length}
+use Rattle.sfv.specs.parser.Cursor.{version, rest}
+use Rattle.sfv.specs.parser.Members.{all_members_at}
+use Rattle.sfv.specs.parser.Trees.{ordered_members}
+use Rattle.sfv.proofs.visits.Loops.{members_loop}
+use Rattle.sfv.proofs.trees.Loops.{BuiltSoFar}
 use Rattle.sfv.proofs.parser.cursor.Cursor.tree_members.Given as goal
 
 abbrev pub invariant-loop-members : goal.invariant-loop-members
 invariant-loop-members g l = record {
   built : BuiltSoFar (members_loop g.M.Members.keyed) (ordered_members g.M.Members.keyed) l.fn.self
-      (some_members_at g.M.Members.keyed (version l.fn.self) (rest l.fn.self)) l.self (g.M.Members.tree l.members);
+      (all_members_at g.M.Members.keyed (version l.fn.self) (rest l.fn.self)) l.self (g.M.Members.tree l.members);
   seed : g.M.Members.has_seed l.fn.self.parser.seed l.members;
+  some : is_some (first (rest l.fn.self)) ≡ true;
 }
 
 abbrev pub decreases-loop-members : goal.decreases-loop-members
