@@ -18,7 +18,7 @@ use Rattle.base64.specs.declared.engine.general_purpose.GeneralPurpose.{GeneralP
 use Rattle.base64.proofs.Tables.{are_tables_inverse, are_tables_padding}
 use Rattle.sfv_spec.{specs.Base64.{IsBase64Text, symbol}, proofs.Marks.is_symbol}
 use Rattle.sfv_model.specs.Content.{symbol_value, bytes_from, most_padding}
-use Rattle.sfv_model.proofs.base64.{Contents.{counted, well_formed, gives_the_bytes}, Shape.are_symbols}
+use Rattle.sfv_model.proofs.base64.{Contents.{one_meaning, counted, well_formed}, Shape.are_symbols}
 use Rattle.sfv.proofs.reads.Coded.{all_parts, bytes_from-append}
 use Rattle.sfv_base64.specs.Agreement.{HasNoBytes, IsLenient, ParsedAsDecoded}
 use Rattle.sfv_base64.proofs.Accepted.{or_else_none, groups_symbols, last_symbols}
@@ -97,9 +97,8 @@ some_decoded dec s run padding q table text h some most one is =
     ∙ length-take-le (4 * q) run le in
     let whole : length (map symbol_value (take (4 * q) run)) % 4 ≡ 0 = omega (arith, size4) in
     let bytes : bytes_from (map symbol_value (take (4 * q) run)) ++ bytes_from (map symbol_value (drop (4 * q) run))
-    ≡ bytes_from (map symbol_value run) =
-    sym (bytes_from-append (map symbol_value (take (4 * q) run)) (map symbol_value (drop (4 * q) run)) whole)
-    ∙ ap bytes_from (sym (map-append symbol_value (take (4 * q) run) (drop (4 * q) run)))
+    ≡ bytes_from (map symbol_value run) = sym (bytes_from-append (map symbol_value (take (4 * q) run)) (map symbol_value
+    (drop (4 * q) run)) whole) ∙ ap bytes_from (sym (map-append symbol_value (take (4 * q) run) (drop (4 * q) run)))
     ∙ ap (λ (t : List ℕ). bytes_from (map symbol_value t)) (take-append-drop (4 * q) run) in
     rw (is, lone, begun.0, begun.1, full, back, end.0, end.1, front) (ap (λ (t : List ℕ). Ok t) bytes)
 
@@ -186,14 +185,8 @@ content_padded bytes t h =
     }
 
 padded_content : (t : List ℕ) (p : IsPadded t) → IsBase64Text (bytes_from (map symbol_value p.run)) t
-padded_content t p =
-    subst (λ (u : List ℕ). IsBase64Text (bytes_from (map symbol_value p.run)) u) (sym p.text)
-    (well_formed p.run p.padding p.each p.few p.not_alone)
-
-one_meaning : (x y t : List ℕ) → IsBase64Text x t → IsBase64Text y t → x ≡ y
-one_meaning x y t h k =
-    let e = sym ((gives_the_bytes t x).0 h) ∙ (gives_the_bytes t y).0 k in
-    cc e
+padded_content t p = subst (λ (u : List ℕ). IsBase64Text (bytes_from (map symbol_value p.run)) u)
+    (sym p.text) (well_formed p.run p.padding p.each p.few p.not_alone)
 
 table_decodes : (dec t bytes : List ℕ) → IsTable dec → IsBytes t → IsBase64Text bytes t ↔ (decoding dec t ≡ Ok bytes)
 table_decodes dec t bytes table are = (

@@ -83,8 +83,7 @@ pub one_scanned : (dec : List ℕ) (a at : ℕ) (t : List ℕ) → IsSymbol dec 
       last_symbol = a;
       last_symbol_value = symbol_value a;
     }) 1 t
-one_scanned dec a at t x =
-    scan-cons_ok dec 61 at no_leftover 0 a t _ (rw (x.other, x.found, x.value) refl)
+one_scanned dec a at t x = scan-cons_ok dec 61 at no_leftover 0 a t _ (rw (x.other, x.found, x.value) refl)
 
 pub two_scanned : (dec : List ℕ) (a b at : ℕ) (t : List ℕ) → IsSymbol dec a → IsSymbol dec b
     → scan dec 61 at no_leftover 0 (a ∷ b ∷ t) ≡ scan dec 61 at (record no_leftover {
@@ -94,8 +93,7 @@ pub two_scanned : (dec : List ℕ) (a b at : ℕ) (t : List ℕ) → IsSymbol de
       last_symbol_value = symbol_value b;
     }) 2 t
 two_scanned dec a b at t x y =
-    one_scanned dec a at (b ∷ t) x
-    ∙ scan-cons_ok dec 61 at _ 1 b t _ (rw (y.other, y.found, y.value) refl)
+    one_scanned dec a at (b ∷ t) x ∙ scan-cons_ok dec 61 at _ 1 b t _ (rw (y.other, y.found, y.value) refl)
 
 pub three_scanned : (dec : List ℕ) (a b c at : ℕ) (t : List ℕ) → IsSymbol dec a → IsSymbol dec b → IsSymbol dec c
     → scan dec 61 at no_leftover 0 (a ∷ b ∷ c ∷ t) ≡ scan dec 61 at (record no_leftover {
@@ -104,8 +102,7 @@ pub three_scanned : (dec : List ℕ) (a b c at : ℕ) (t : List ℕ) → IsSymbo
       last_symbol = c;
       last_symbol_value = symbol_value c;
     }) 3 t
-three_scanned dec a b c at t x y z =
-    two_scanned dec a b at (c ∷ t) x y
+three_scanned dec a b c at t x y z = two_scanned dec a b at (c ∷ t) x y
     ∙ scan-cons_ok dec 61 at _ 2 c t _ (rw (z.other, z.found, z.value) refl)
 
 four_scanned : (dec : List ℕ) (a b c d at : ℕ) (t : List ℕ) → IsSymbol dec a → IsSymbol dec b → IsSymbol dec c → IsSymbol dec d
@@ -115,8 +112,7 @@ four_scanned : (dec : List ℕ) (a b c d at : ℕ) (t : List ℕ) → IsSymbol d
       last_symbol = d;
       last_symbol_value = symbol_value d;
     }) 4 t
-four_scanned dec a b c d at t x y z w =
-    three_scanned dec a b c at (d ∷ t) x y z
+four_scanned dec a b c d at t x y z w = three_scanned dec a b c at (d ∷ t) x y z
     ∙ scan-cons_ok dec 61 at _ 3 d t _ (rw (w.other, w.found, w.value) refl)
 
 -- what is left is accepted, and has these bytes

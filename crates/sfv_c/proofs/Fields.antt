@@ -34,9 +34,8 @@ field_read kind rows before now h =
     let es = h.writes.es in
     let x = h.writes.piece in
     let read : Reads rows es [] = subst (λ (rest : List Row). Reads rows es rest) h.over h.writes.read in
-    let ends : added (beginning kind) es ≡ Some x =
-    ap (added (beginning kind)) (sym (append-nil es)) ∙ (h.writes.leads []
-    ∙ (ap (option_map (followed_by x)) (end_here h.place h.ends)
+    let ends : added (beginning kind) es ≡ Some x = ap (added (beginning kind)) (sym (append-nil es))
+    ∙ (h.writes.leads [] ∙ (ap (option_map (followed_by x)) (end_here h.place h.ends)
     ∙ ap Some (same_piece (append-nil x.text) (append-nil x.values)))) in
     let f = field_of_events kind es (x, ends) in
     let same = same_Some x (piece_of (canonical kind f.0) (bare_values kind f.0))

@@ -95,24 +95,21 @@ adds_member keyed p (inner_list l) es =
 
 list_piece : (m : RawMember) → whole_member false m ≡ piece_of (member_text m) (member_values m)
 list_piece (item i) = refl
-list_piece (inner_list l) = same_piece
-    (ap (λ (t : List ℕ). codes "(" ++ t ++ codes ")" ++ parameters_text l.parameters)
+list_piece (inner_list l) = same_piece (ap (λ (t : List ℕ). codes "(" ++ t ++ codes ")" ++ parameters_text l.parameters)
     (in_a_row_first (codes " ") (map item_text l.items))) refl
 
 keyed_piece : (m : List ℕ × RawMember) → followed_by (text_only m.0) (whole_member true m.1)
     ≡ piece_of (dictionary_member_text m) (member_values m.1)
 keyed_piece (key, item i) = same_piece (simp append_assoc) refl
-keyed_piece (key, inner_list l) = same_piece
-    (ap (λ (t : List ℕ). key ++ (codes "=(" ++ (t ++ codes ")" ++ parameters_text l.parameters)))
-    (in_a_row_first (codes " ") (map item_text l.items))
-    ∙ sym (append_assoc key (codes "=") (inner_list_text l))) refl
+keyed_piece (key, inner_list l) =
+    same_piece (ap (λ (t : List ℕ). key ++ (codes "=(" ++ (t ++ codes ")" ++ parameters_text l.parameters)))
+    (in_a_row_first (codes " ") (map item_text l.items)) ∙ sym (append_assoc key (codes "=") (inner_list_text l))) refl
 
 -- a member after its separator, and the others
 one_more : (front key : List ℕ) (x y z : Piece) → followed_by (text_only key) x ≡ y
     → followed_by (text_only (front ++ key)) (followed_by x z)
     ≡ piece_of (front ++ y.text ++ z.text) (y.values ++ z.values)
-one_more front key x y z e =
-    same_piece (simp append_assoc) refl
+one_more front key x y z e = same_piece (simp append_assoc) refl
     ∙ ap (λ (w : Piece). piece_of (front ++ w.text ++ z.text) (w.values ++ z.values)) e
 
 adds_list : (is_first : Bool) (ms : List RawMember) → added (list_members is_first) (flat_map entry_events ms)
@@ -122,9 +119,8 @@ adds_list is_first (m ∷ ms) =
     let front = separator_before is_first (codes ", ") in
     let rest = piece_of (with_separators false (codes ", ") (map member_text ms)) (flat_map member_values ms) in
     ap (option_map (followed_by (text_only front))) (adds_member false (list_members false) m (flat_map entry_events ms)
-    ∙ ap (option_map (followed_by (whole_member false m))) (adds_list false ms))
-    ∙ ap Some (ap (λ (t : List ℕ). followed_by (text_only t) (followed_by (whole_member false m) rest))
-    (sym (append-nil front))
+    ∙ ap (option_map (followed_by (whole_member false m))) (adds_list false ms)) ∙ ap Some
+    (ap (λ (t : List ℕ). followed_by (text_only t) (followed_by (whole_member false m) rest)) (sym (append-nil front))
     ∙ one_more front [] (whole_member false m) (piece_of (member_text m) (member_values m)) rest (list_piece m))
 
 adds_dictionary : (is_first : Bool) (ms : List (List ℕ × RawMember))
@@ -136,9 +132,8 @@ adds_dictionary is_first (m ∷ ms) =
     let front = separator_before is_first (codes ", ") in
     let rest = piece_of (with_separators false (codes ", ") (map dictionary_member_text ms))
     (flat_map (λ m. member_values m.1) ms) in
-    ap (option_map (followed_by (text_only (front ++ m.0))))
-    (adds_member true (dictionary_members false) m.1 (flat_map keyed_events ms)
-    ∙ ap (option_map (followed_by (whole_member true m.1))) (adds_dictionary false ms))
+    ap (option_map (followed_by (text_only (front ++ m.0)))) (adds_member true (dictionary_members false) m.1
+    (flat_map keyed_events ms) ∙ ap (option_map (followed_by (whole_member true m.1))) (adds_dictionary false ms))
     ∙ ap Some (one_more front m.0 (whole_member true m.1) (piece_of (dictionary_member_text m) (member_values m.1)) rest
     (keyed_piece m))
 

@@ -10,7 +10,6 @@ module _ {R : Type 0} (receives : R → Event → R → Type 0) where
 
   pub passed : (es : List Event) (s last : Passing R) → FoldsTo Takes s es last
       → (last.receiver.ghost_name ≡ s.receiver.ghost_name) × FoldsTo receives s.receiver.now es last.receiver.now
-  passed [] s last h =
-      (ap (λ (x : Passing R). x.receiver.ghost_name) (sym h), ap (λ (x : Passing R). x.receiver.now) h)
+  passed [] s last h = (ap (λ (x : Passing R). x.receiver.ghost_name) (sym h), ap (λ (x : Passing R). x.receiver.now) h)
   passed (e ∷ es) s last h =
       let i = passed es h.0 last h.2 in (i.0 ∙ h.1.1.0, (h.0.receiver.now, h.1.1.1, i.1))

@@ -101,11 +101,10 @@ pub record AreCounted (version : Version) (es : List TreeEvent) (input : List �
   pub count : last.count ≡ counted (length rows)
   pub written : length rows ≤ length old → last.rows.now ≡ rows ++ drop (length rows) old
 
-pub rows_read : (version : Version) (es : List TreeEvent) (input : List ℕ) (read : List Event)
-    (rows : MutBor (List Row)) (room : MutBor (List ℕ)) (last : Collector) → map event_of read ≡ es
-    → AreReadFrom version read input → length rows.now < most → length room.now < most
-    → FoldsTo TakesRow (collector_of rows room) read last
-    → AreCounted version es input rows.now (length room.now) last
+pub rows_read : (version : Version) (es : List TreeEvent) (input : List ℕ)
+    (read : List Event) (rows : MutBor (List Row)) (room : MutBor (List ℕ)) (last : Collector)
+    → map event_of read ≡ es → AreReadFrom version read input → length rows.now < most → length room.now < most
+    → FoldsTo TakesRow (collector_of rows room) read last → AreCounted version es input rows.now (length room.now) last
 rows_read version es input read rows room last e f n r h =
     let k = run (length room.now) read (collector_of rows room) last r (omega arith) (omega arith) h in
     let rows_are = k.2.0 in record {

@@ -27,9 +27,8 @@ appends_none o = record { version = refl; state = none o.error }
     none (Some d) = refl
 
 both : (version : Version) (x y : Piece) (a b c : std_string.String Global) (e f g : Option SerializeError)
-    → MatchOption e (IsAppended version x a b f) (λ d. f ≡ Some d)
-    → MatchOption f (IsAppended version y b c g) (λ d. g ≡ Some d)
-    → MatchOption e (IsAppended version (followed_by x y) a c g) (λ d. g ≡ Some d)
+    → MatchOption e (IsAppended version x a b f) (λ d. f ≡ Some d) → MatchOption f (IsAppended version y b c g)
+    (λ d. g ≡ Some d) → MatchOption e (IsAppended version (followed_by x y) a c g) (λ d. g ≡ Some d)
 both version x y a b c (Some d) f g h k =
     subst (λ (o : Option SerializeError). MatchOption o (IsAppended version y b c g) (λ d. g ≡ Some d)) h k
 both version x y a b c None None None h k = (
@@ -184,8 +183,7 @@ module _ (row : Row) where
   not_item is_first p h g inner_list_end b i = absurd (h i)
   not_item is_first p h g e b i = refl
 
-  pub not_member : (keyed : Bool) (p : ParseState) → (IsRowOf row begins_item → ⊥)
-      → (IsRowOf row begins_inner_list → ⊥)
+  pub not_member : (keyed : Bool) (p : ParseState) → (IsRowOf row begins_item → ⊥) → (IsRowOf row begins_inner_list → ⊥)
       → (e : TreeEvent) → IsValidEvent e → IsRowOf row e → after (member keyed p) e ≡ None
   not_member keyed p h g begins_item b i = absurd (h i)
   not_member keyed p h g begins_inner_list b i = absurd (g i)

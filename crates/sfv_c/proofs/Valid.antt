@@ -66,18 +66,16 @@ in_item i es v h = (v.0, in_parameters i.parameters es v.1 h)
 in_items : (is : List RawItem) (es : List TreeEvent) → AllByRecursion IsItem is → AreValid es
     → AreValid (flat_map inner_item_events is ++ es)
 in_items [] es v h = h
-in_items (i ∷ is) es v h =
-    subst AreValid (sym (append_assoc (inner_item_events i) (flat_map inner_item_events is) es))
+in_items (i ∷ is) es v h = subst AreValid (sym (append_assoc (inner_item_events i) (flat_map inner_item_events is) es))
     (tt, in_item i (flat_map inner_item_events is ++ es) v.0 (in_items is es v.1 h))
 
 in_member : (m : RawMember) (es : List TreeEvent) → IsMember m → AreValid es → AreValid (member_events m ++ es)
 in_member (item i) es v h = (tt, in_item i es v h)
 in_member (inner_list l) es v h = (
   tt,
-  subst AreValid
-      (sym (append_assoc (flat_map inner_item_events l.items) (inner_list_end ∷ parameters_events l.parameters) es))
-      (in_items l.items (inner_list_end ∷ (parameters_events l.parameters ++ es)) v.0
-      (tt, in_parameters l.parameters es v.1 h)),
+  subst AreValid (sym (append_assoc (flat_map inner_item_events l.items)
+      (inner_list_end ∷ parameters_events l.parameters) es)) (in_items l.items
+      (inner_list_end ∷ (parameters_events l.parameters ++ es)) v.0 (tt, in_parameters l.parameters es v.1 h)),
 )
 
 in_list : (ms : List RawMember) → AllByRecursion IsMember ms → AreValid (flat_map entry_events ms)

@@ -43,15 +43,13 @@ wrong_rows kind rows n before now s =
       wrong = λ l b.
           let v : AreValid b.es = valid_first b.es b.begins.more
           (subst AreValid b.begins.all (field_valid kind b.begins.raw b.begins.is_value)) in
-          let i = read_alike (take (length es + 1) rows) es (take 1 rest) b.es
-          (reads_taken rows es rest 1 (length es + 1) (omega arith) read) v
-          (subst (λ (m : ℕ). AreRowsOf (take (m + 1) rows) b.es) count b.in_rows) in
+          let i = read_alike (take (length es + 1) rows) es (take 1 rest) b.es (reads_taken rows es rest 1 (length es
+          + 1) (omega arith) read) v (subst (λ (m : ℕ). AreRowsOf (take (m + 1) rows) b.es) count b.in_rows) in
           never_goes_on s.place rest i.0 b.begins.more (omega (arith, l, count, reads_length rows es rest read))
           s.stuck i.2 i.3 (ends (i.0 ++ b.begins.more) (
             _,
-            ap (added (beginning kind)) (sym (append_assoc es i.0 b.begins.more)
-                ∙ (ap (λ (x : List TreeEvent). x ++ b.begins.more) (sym i.1) ∙ sym b.begins.all))
-                ∙ adds_field kind b.begins.raw,
+            ap (added (beginning kind)) (sym (append_assoc es i.0 b.begins.more) ∙ (ap (λ (x : List TreeEvent). x
+                ++ b.begins.more) (sym i.1) ∙ sym b.begins.all)) ∙ adds_field kind b.begins.raw,
           ));
       no_field = λ raw f.
           let i = read_alike rows es rest (events kind raw) read (field_valid kind raw f.value) f.in_rows in

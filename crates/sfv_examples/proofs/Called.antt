@@ -23,8 +23,7 @@ module _ {F T : Type 0} (post : F → ReadBareItem → Result T OutOfMemory → 
   FinishFails s error = ⊥
 
   -- after the call, an event changes nothing
-  idle : (s after : ItemVisitorWith F T) (read : Event) → s.f ≡ None → CallTakes post s read after
-      → after ≡ s
+  idle : (s after : ItemVisitorWith F T) (read : Event) → s.f ≡ None → CallTakes post s read after → after ≡ s
   idle s after (event.BareItem item) none h = subst (λ (o : Option F). MatchOption o (after ≡ s) (λ f. (out : T)
       × post f item (Ok out) × (after.kept ≡ Some out) × (after.f ≡ None))) none h
   idle s after event.Entry none h = h
@@ -35,16 +34,14 @@ module _ {F T : Type 0} (post : F → ReadBareItem → Result T OutOfMemory → 
   idle s after event.ParametersEnd none h = h
   idle s after event.InnerListEnd none h = h
 
-  stays : (es : List TreeEvent) (s last : ItemVisitorWith F T) → s.f ≡ None → FoldsTo Takes s es last
-      → last ≡ s
+  stays : (es : List TreeEvent) (s last : ItemVisitorWith F T) → s.f ≡ None → FoldsTo Takes s es last → last ≡ s
   stays [] s last none run = sym run
   stays (e ∷ es) s last none run =
       let same : run.0 ≡ s = idle s run.0 run.1.0 none run.1.2 in
       stays es run.0 last (ap (λ (s : ItemVisitorWith F T). s.f) same ∙ none) run.2 ∙ same
 
   -- and the visitor does not fail
-  never : (s : ItemVisitorWith F T) (read : Event) (error : OutOfMemory) → s.f ≡ None
-      → CallFails post s read error → ⊥
+  never : (s : ItemVisitorWith F T) (read : Event) (error : OutOfMemory) → s.f ≡ None → CallFails post s read error → ⊥
   never s (event.BareItem item) error none h = rw none at h
   never s event.Entry error none h = h
   never s (event.KeyedEntry key) error none h = h
@@ -61,8 +58,7 @@ module _ {F T : Type 0} (post : F → ReadBareItem → Result T OutOfMemory → 
         → (item : ReadBareItem) × (input_value item ≡ raw.bare) × (out : T) × post f item (Ok out)
         × (after.kept ≡ Some out) × (after.f ≡ None)
     calls (event.BareItem item) raw after is h =
-        let k : (out : T) × post f item (Ok out) × (after.kept ≡ Some out) × (after.f ≡ None) =
-        rw waits at h in
+        let k : (out : T) × post f item (Ok out) × (after.kept ≡ Some out) × (after.f ≡ None) = rw waits at h in
         (item, (cc), k.0, k.1, k.2, k.3)
     calls event.Entry raw after is h = absurd (cc)
     calls (event.KeyedEntry key) raw after is h = absurd (cc)

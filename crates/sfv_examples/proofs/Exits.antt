@@ -125,10 +125,9 @@ module _ {Z : Type 0} (old : String Z) (front key : List ℕ) (none : Bool) (ite
   ))
 
   whole_lacks : LacksRoom old (((opening ++ inside) ++ codes ")") ++ parameters_text params) → Lacks
-  whole_lacks h = subst (LacksRoom old)
-      (named_list_ended [] opening (opening ++ inside) ((opening ++ inside) ++ codes ")")
-      (((opening ++ inside) ++ codes ")") ++ parameters_text params) front key none items params refl refl begun refl
-      refl) h
+  whole_lacks h = subst (LacksRoom old) (named_list_ended [] opening (opening ++ inside)
+      ((opening ++ inside) ++ codes ")") (((opening ++ inside) ++ codes ")")
+      ++ parameters_text params) front key none items params refl refl begun refl refl) h
 
   module _ (mid : String Z) (opened : string_bytes mid ≡ string_bytes old ++ opening)
       (room : string_capacity old ≤ string_capacity mid) where

@@ -36,8 +36,7 @@ integer_or-other default (display_string s) h = refl
 pub param_read : (t : List ℕ) (value : List (List ℕ × RawMember)) (key param : List ℕ)
     → (h : IsParsedAs Rfc9651 dictionary_field t value)
     → param_in param (last_of key value) ≡ param_in param (last_of key h.raw)
-param_read t value key param h =
-    ap (param_in param) (member_read Rfc9651 t value key h) ∙ go (last_of key h.raw)
+param_read t value key param h = ap (param_in param) (member_read Rfc9651 t value key h) ∙ go (last_of key h.raw)
   where
     go : (m : Option RawMember) → param_in param (option_map ordered_member m) ≡ param_in param m
     go None = refl
@@ -59,8 +58,7 @@ keys_among es = length (filter_map key_in es)
 -- the events are counted by their keys
 counted : (es : List TreeEvent) (n limit : ℕ) → fold counts (n, limit) es ≡ (n + keys_among es, limit)
 counted [] n limit = ap (λ (m : ℕ). (m, limit)) (omega arith)
-counted (keyed_entry key ∷ es) n limit = counted es (n + 1) limit
-    ∙ ap (λ (m : ℕ). (m, limit)) (omega arith)
+counted (keyed_entry key ∷ es) n limit = counted es (n + 1) limit ∙ ap (λ (m : ℕ). (m, limit)) (omega arith)
 counted (entry ∷ es) n limit = counted es n limit
 counted (begins_item ∷ es) n limit = counted es n limit
 counted (begins_inner_list ∷ es) n limit = counted es n limit
@@ -71,8 +69,7 @@ counted (inner_list_end ∷ es) n limit = counted es n limit
 
 -- a dictionary has as many keys among its events as members
 all_counted : (raw : List (List ℕ × RawMember)) → keys_among (events dictionary_field raw) ≡ length raw
-all_counted raw = ap (length {A = List ℕ}) (keys_in_events raw)
-    ∙ length-map raw (λ (m : List ℕ × RawMember). m.0)
+all_counted raw = ap (length {A = List ℕ}) (keys_in_events raw) ∙ length-map raw (λ (m : List ℕ × RawMember). m.0)
 
 -- what the counter does with an event
 abbrev Takes : MemberCounter → TreeEvent → MemberCounter → Type 0
@@ -179,9 +176,8 @@ pub lent_string : {E : Type 0} (t : List ℕ) (r : Result StringFromInput E)
     → IfOk r (λ text. IsLentString text t)
 lent_string t (Ok text) h =
     let k : (stands : BeginsWithLongest Rfc9651 (input_value (bare_items.String text)) t)
-    × IsBorrowedIfPlain (bare_items.String text) stands.front =
-    subst (λ (read : ReadBareItem). (stands : BeginsWithLongest Rfc9651 (input_value read) t)
-    × IsBorrowedIfPlain read stands.front) h.1 (h.2, h.3) in
+    × IsBorrowedIfPlain (bare_items.String text) stands.front = subst (λ (read : ReadBareItem).
+    (stands : BeginsWithLongest Rfc9651 (input_value read) t) × IsBorrowedIfPlain read stands.front) h.1 (h.2, h.3) in
     (k.0, k.1)
 lent_string t (Err e) h = tt
 

@@ -36,11 +36,10 @@ module _ (member : Option Brand) (m : RawMember) (ms : List RawMember)
     pub pushed : (after : List Brand) → AreSoFar is_cut (map brand_value brands) (filter_map brand_of ms)
         → (brand : Brand) → member ≡ Some brand → after ≡ brands ++ brand ∷ []
         → AreSoFar is_cut (map brand_value after) (filter_map brand_of (ms ++ m ∷ []))
-    pushed after so_far brand is put =
-        subst (λ (xs : List BrandValue). AreSoFar is_cut xs (filter_map brand_of (ms ++ m ∷ [])))
-        (sym (ap (λ (xs : List Brand). map brand_value xs) put ∙ map-append brand_value brands (brand ∷ [])))
-        (subst (λ (xs : List BrandValue). AreSoFar is_cut (map brand_value brands ++ brand_value brand ∷ []) xs)
-        (sym (one_more brand is))
+    pushed after so_far brand is put = subst (λ (xs : List BrandValue). AreSoFar is_cut xs
+        (filter_map brand_of (ms ++ m ∷ []))) (sym (ap (λ (xs : List Brand). map brand_value xs) put
+        ∙ map-append brand_value brands (brand ∷ []))) (subst (λ (xs : List BrandValue). AreSoFar is_cut
+        (map brand_value brands ++ brand_value brand ∷ []) xs) (sym (one_more brand is))
         (grown is_cut (map brand_value brands) (filter_map brand_of ms) (brand_value brand) so_far))
 
     pub left_out : AreSoFar is_cut (map brand_value brands) (filter_map brand_of ms) → member ≡ None

@@ -20,8 +20,7 @@ bytes_in-ordered (Some (item i)) = refl
 bytes_in-ordered (Some (inner_list l)) = refl
 
 -- a text has under a key what its ordered members have
-last_bytes-ordered : (key : List ℕ) (raw : Members)
-    → last_bytes key raw ≡ last_bytes key (ordered dictionary_field raw)
+last_bytes-ordered : (key : List ℕ) (raw : Members) → last_bytes key raw ≡ last_bytes key (ordered dictionary_field raw)
 last_bytes-ordered key raw =
     sym (ap (option_map bytes_in) (last_of-ordered key raw) ∙ bytes_in-ordered (last_of key raw))
 

@@ -35,9 +35,8 @@ module _ {A : Type 0} (name : List ℕ) (f : A → List ℕ × List ℕ) (xs : L
 
   -- memory runs out only for a second line
   pub line_fails : true ≡ str_eq_ignore_ascii_case found name → text ≢ None → text_of_lines name (map f xs) ≢ []
-  line_fails named more = some (lines_of name (map f xs))
-      (two_lines (lines_of name (map f xs)) text (f (get_or xs i d)).1 (lines_of name (map f (drop (i + 1) xs)))
-      (rw (next_line named) at so_far) more)
+  line_fails named more = some (lines_of name (map f xs)) (two_lines (lines_of name (map f xs)) text
+      (f (get_or xs i d)).1 (lines_of name (map f (drop (i + 1) xs))) (rw (next_line named) at so_far) more)
     where
       never : (x : List ℕ) (c : ℕ) (s t : List ℕ) → x ++ (c ∷ s) ++ t ≡ [] → ⊥
       never [] c s t h = absurd (cc)

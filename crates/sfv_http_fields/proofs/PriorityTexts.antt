@@ -61,8 +61,7 @@ fits true false n = tt
 fits false true n = (refl, (refl, tt))
 fits false false n = (refl, tt)
 
-pub reads_back : (version : Version) (p : PriorityValue) → p.urgency ≤ 7
-    → IsPriorityOf version (priority_text p) p
+pub reads_back : (version : Version) (p : PriorityValue) → p.urgency ≤ 7 → IsPriorityOf version (priority_text p) p
 reads_back version p h = (
   members_of p,
   subst (λ (t : List ℕ). IsParsedAs version dictionary_field t (members_of p)) (written_text p h)

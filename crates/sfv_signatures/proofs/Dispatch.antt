@@ -15,8 +15,7 @@ use Rattle.sfv_signatures.specs.declared.base_error.BaseErrorKind.TheVariants as
 
 -- a field of one type
 pub of_kind : {T : Type 0} (kind k : FieldKind) (t : List ℕ) (old new : String Global) (r : Result T BaseErrorKind)
-    → kind ≡ k
-    → AppendsValue (ParsedGives k (λ value. Ok (canonical k value)) t) old new r
+    → kind ≡ k → AppendsValue (ParsedGives k (λ value. Ok (canonical k value)) t) old new r
     → AppendsValue (ParsedGives kind (λ value. Ok (canonical kind value)) t) old new r
 of_kind kind k t old new r h x =
     subst (λ (k : FieldKind). AppendsValue (ParsedGives k (λ value. Ok (canonical k value)) t) old new r) (sym h) x
@@ -28,10 +27,9 @@ module _ {T : Type 0} (old new : String Global) (r : Result T BaseErrorKind) whe
       (k t : List ℕ) → bs ≡ false → key ≡ Some k → t ≡ plain_text lines
       → AppendsValue (ParsedGives dictionary_field (member_of k) t) old new r
       → AppendsValue (FieldGives bs key sf type lines) old new r
-  with_key bs key sf type lines k t h some e x =
-      subst (λ b. AppendsValue (FieldGives b key sf type lines) old new r) (sym h)
-      (subst (λ (o : Option (List ℕ)). AppendsValue (FieldGives false o sf type lines) old new r) (sym some)
-      (subst (λ t. AppendsValue (ParsedGives dictionary_field (member_of k) t) old new r) e x))
+  with_key bs key sf type lines k t h some e x = subst (λ b. AppendsValue (FieldGives b key sf type lines) old new r)
+      (sym h) (subst (λ (o : Option (List ℕ)). AppendsValue (FieldGives false o sf type lines) old new r)
+      (sym some) (subst (λ t. AppendsValue (ParsedGives dictionary_field (member_of k) t) old new r) e x))
 
   pub with_sf : (bs : Bool) (key : Option (List ℕ)) (sf : Bool) (type : Option FieldKind) (lines : List (List ℕ))
       (kind : FieldKind) (t : List ℕ) → bs ≡ false → key ≡ None → sf ≡ true → type ≡ Some kind → t ≡ plain_text lines
@@ -81,9 +79,8 @@ module _ (ps : RawParameters) (type : Option FieldKind) (lines : List (List ℕ)
       new r → AppendsValue (LinesGive ps type lines) old new r
   lines_given old new r all line e some x =
       subst (λ (ls : List (List ℕ)). AppendsValue (LinesGive ps type ls) old new r) (sym e)
-      (subst (λ (first : Option (List ℕ)). AppendsValue (λ r. MatchOption first (r ≡ Err kinds.Absent)
-      (λ _. FieldGives (has (codes "bs") ps) (string_param (codes "key") ps) (has (codes "sf") ps) type all r)) old new r)
-      (sym some) x)
+      (subst (λ (first : Option (List ℕ)). AppendsValue (λ r. MatchOption first (r ≡ Err kinds.Absent) (λ _. FieldGives
+      (has (codes "bs") ps) (string_param (codes "key") ps) (has (codes "sf") ps) type all r)) old new r) (sym some) x)
 
 module _ (name : List ℕ) (fields : Bor (Entries FieldValue)) where
   pub upper_none : list_any is_ascii_uppercase name ≡ true → lines_from name (Some fields) ≡ []
@@ -117,16 +114,14 @@ module _ (m : HttpMessage) (name : List ℕ) (ps : RawParameters) where
   module _ {T : Type 0} (old new : String Global) (r : Result T BaseErrorKind) (sound : None ≡ fault_of name ps) where
     pub http_derived : is_derived name ≡ true → AppendsValue (ValueGives true m name ps) old new r
         → AppendsValue (HttpGives m name ps) old new r
-    http_derived h x =
-        subst (λ (fault : Option BaseErrorKind). AppendsValue (By fault (is_derived name)) old new r) sound
-        (subst (λ b. AppendsValue (By None b) old new r) (sym h) x)
+    http_derived h x = subst (λ (fault : Option BaseErrorKind). AppendsValue
+        (By fault (is_derived name)) old new r) sound (subst (λ b. AppendsValue (By None b) old new r) (sym h) x)
 
     pub http_field : (section : Option (Bor (Entries FieldValue))) → is_derived name ≡ false
         → section ≡ option_and_then (section_of ps) (part_of m ps)
         → AppendsValue (LinesGive ps (type_in m.types.now name) (lines_from name section)) old new r
         → AppendsValue (HttpGives m name ps) old new r
-    http_field section h e x =
-        subst (λ (fault : Option BaseErrorKind). AppendsValue (By fault (is_derived name)) old new r) sound
-        (subst (λ b. AppendsValue (By None b) old new r) (sym h)
-        (subst (λ (s : Option (Bor (Entries FieldValue))). AppendsValue (LinesGive ps (type_in m.types.now name)
-        (lines_from name s)) old new r) e x))
+    http_field section h e x = subst (λ (fault : Option BaseErrorKind). AppendsValue
+        (By fault (is_derived name)) old new r) sound (subst (λ b. AppendsValue (By None b) old new r)
+        (sym h) (subst (λ (s : Option (Bor (Entries FieldValue))). AppendsValue
+        (LinesGive ps (type_in m.types.now name) (lines_from name s)) old new r) e x))

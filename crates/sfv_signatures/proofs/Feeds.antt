@@ -51,7 +51,6 @@ same_lines f (x ∷ xs) [] t u h k p q e =
     let all : u ≡ f x ++ (codes "\n" ++ fed f xs t) = sym e ∙ regroup f x xs t in
     absurd (no_feed (f x) (fed f xs t) (rw (← all) q))
 same_lines f (x ∷ xs) (y ∷ ys) t u h k p q e =
-    let m = same_line (f x) (f y) (fed f xs t) (fed f ys u) h.0 k.0
-    (sym (regroup f x xs t) ∙ e ∙ regroup f y ys u) in
+    let m = same_line (f x) (f y) (fed f xs t) (fed f ys u) h.0 k.0 (sym (regroup f x xs t) ∙ e ∙ regroup f y ys u) in
     let r = same_lines f xs ys t u h.1 k.1 p q m.1 in
     (cc (m.0, r.0), r.1)

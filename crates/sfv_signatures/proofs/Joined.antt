@@ -11,9 +11,8 @@ use Rattle.sfv_signatures.specs.declared.base_error.BaseErrorKind.TheVariants as
 
 separated : (s x : List ℕ) (xs : List (List ℕ)) → joined s (x ∷ xs) ≡ x ++ with_separators false s xs
 separated s x [] = sym (append-nil x)
-separated s x (y ∷ xs) = ap (λ (t : List ℕ). (x ++ s) ++ t) (separated s y xs)
-    ∙ append_assoc x s (y ++ with_separators false s xs)
-    ∙ ap (λ (t : List ℕ). x ++ t) (sym (append_assoc s y (with_separators false s xs)))
+separated s x (y ∷ xs) = ap (λ (t : List ℕ). (x ++ s) ++ t) (separated s y xs) ∙ append_assoc x s (y
+    ++ with_separators false s xs) ∙ ap (λ (t : List ℕ). x ++ t) (sym (append_assoc s y (with_separators false s xs)))
 
 pub joined_parts : (s : List ℕ) (xs : List (List ℕ)) → joined s xs ≡ with_separators true s xs
 joined_parts s [] = refl

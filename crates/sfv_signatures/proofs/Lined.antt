@@ -24,8 +24,7 @@ zip_snoc : (is : List RawItem) (vs : List (List ℕ)) (i : RawItem) (v : List �
 zip_snoc [] [] i v h = simp append-nil refl
 zip_snoc [] (w ∷ vs) i v h = absurd (omega (arith, h))
 zip_snoc (j ∷ is) [] i v h = absurd (omega (arith, h))
-zip_snoc (j ∷ is) (w ∷ vs) i v h =
-    ap (λ t. fed_line (j, w) ++ t) (zip_snoc is vs i v (omega (arith, h)))
+zip_snoc (j ∷ is) (w ∷ vs) i v h = ap (λ t. fed_line (j, w) ++ t) (zip_snoc is vs i v (omega (arith, h)))
     ∙ sym (append_assoc (fed_line (j, w)) (flat_map fed_line (zip is vs)) (fed_line (i, v)))
 
 pub one_more : (message : Message) (is : List RawItem) (i : RawItem) (v t u : List ℕ) → HasLines message is t
@@ -82,13 +81,11 @@ module _ {A : Type 0} (f : A → RawItem) (message : Message) (xs zs : List A) (
 
   pub appended_at : (old new : List ℕ) → HasAppended message (map f (take n zs)) (f x) old new
       → (i : RawItem) × (slice_get (map f xs) n ≡ Some i) × HasAppended message (take n (map f xs)) i old new
-  appended_at old new a =
-      (f x, here, subst (λ (is : List RawItem). HasAppended message is (f x) old new) before a)
+  appended_at old new a = (f x, here, subst (λ (is : List RawItem). HasAppended message is (f x) old new) before a)
 
   pub broken_at : (kind : BaseErrorKind)
       → UnlessMemory (λ kind. Gives message (map f (take n zs)) (f x) (Err kind)) kind
       → UnlessMemory (λ kind. (i : RawItem) × (slice_get (map f xs) n ≡ Some i)
       × Gives message (take n (map f xs)) i (Err kind)) kind
   broken_at kind (inl memory) = inl memory
-  broken_at kind (inr b) =
-      inr (f x, here, subst (λ (is : List RawItem). Gives message is (f x) (Err kind)) before b)
+  broken_at kind (inr b) = inr (f x, here, subst (λ (is : List RawItem). Gives message is (f x) (Err kind)) before b)

@@ -11,8 +11,7 @@ use Rattle.sfv_signatures.specs.declared.base_error.BaseErrorKind.TheVariants as
 
 parsed_one : (kind : FieldKind) (write : RawField kind → Result (List ℕ) BaseErrorKind) (t : List ℕ)
     (r s : Result (List ℕ) BaseErrorKind) → ParsedGives kind write t r → ParsedGives kind write t s → r ≡ s
-parsed_one kind write t r s (inl h) (inl k) =
-    h.2 ∙ ap write (one_value Rfc9651 kind t h.0 k.0 h.1 k.1) ∙ sym k.2
+parsed_one kind write t r s (inl h) (inl k) = h.2 ∙ ap write (one_value Rfc9651 kind t h.0 k.0 h.1 k.1) ∙ sym k.2
 parsed_one kind write t r s (inl h) (inr k) = absurd (k.0 (h.1.raw, h.1.accepted))
 parsed_one kind write t r s (inr h) (inl k) = absurd (h.0 (k.1.raw, k.1.accepted))
 parsed_one kind write t r s (inr h) (inr k) = h.1 ∙ sym k.1

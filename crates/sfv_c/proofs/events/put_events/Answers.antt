@@ -17,11 +17,9 @@ returns-in-Ok c =
         fit = λ f.
             let n : last.count ≡ length k.rows = omega (arith, k.count, f.0) in
             let rows = k.written f.0 in
-            let a = c.answer_of.ensures.fit (omega (arith, n, f.0), f.1)
-            ∙ ap (λ (n : ℕ). answer 0 0 0 last.used n) n in
+            let a = c.answer_of.ensures.fit (omega (arith, n, f.0), f.1) ∙ ap (λ (n : ℕ). answer 0 0 0 last.used n) n in
             grind (arith, same, rows, a);
-        too_small = λ f.
-            c.answer_of.ensures.too_small (λ g. f (omega (arith, k.count, g.0), g.1))
+        too_small = λ f. c.answer_of.ensures.too_small (λ g. f (omega (arith, k.count, g.0), g.1))
             ∙ ap (λ (n : ℕ). answer 2 0 0 last.used n) k.count;
       };
     }

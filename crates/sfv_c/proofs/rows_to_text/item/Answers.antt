@@ -5,8 +5,7 @@ use Rattle.sfv_c.proofs.Stops.{writes_none, writes_row, answers_on, stops_at, st
 use Rattle.sfv_c.proofs.rows_to_text.item.Goals as goal
 
 pub returns-in_default : goal.returns-in_default
-returns-in_default c p =
-    stops_at (writes_none _ _ _ _) (stuck_end (value c.args.keyed p) c.in_default.ensures refl)
+returns-in_default c p = stops_at (writes_none _ _ _ _) (stuck_end (value c.args.keyed p) c.in_default.ensures refl)
 
 pub returns-in_default-value_in : goal.returns-in_default-value_in
 returns-in_default-value_in c p = stops_at (writes_none _ _ _ _) (stuck_at (value c.args.keyed p) c.in-Some.ensures.1

@@ -6,13 +6,11 @@ use Rattle.sfv_c.proofs.{Stops.not_member, rows_to_text.member.Goals.{then-keyed
 use Rattle.sfv_c.proofs.rows_to_text.member.Goals as goal
 
 pub returns-in_default : goal.returns-in_default
-returns-in_default c p =
-    stops_at (writes_none _ _ _ _) (stuck_end (member c.args.keyed p) c.in_default.ensures refl)
+returns-in_default c p = stops_at (writes_none _ _ _ _) (stuck_end (member c.args.keyed p) c.in_default.ensures refl)
 
 pub returns-then-is_plain : goal.returns-then-is_plain
-returns-then-is_plain c p = answers_on p c.item.new.output c.item.result
-    (writes_row begins_item c.in-Some.ensures.1 tt (c.if-is_plain.ensures.0 refl) refl (appends_none _))
-    (c.item.ensures p)
+returns-then-is_plain c p = answers_on p c.item.new.output c.item.result (writes_row begins_item c.in-Some.ensures.1 tt
+    (c.if-is_plain.ensures.0 refl) refl (appends_none _)) (c.item.ensures p)
 
 pub returns-then-not-is_plain : goal.returns-then-not-is_plain
 returns-then-not-is_plain c p = stops_at (writes_none _ _ _ _) (stuck_at (member c.args.keyed p) c.in-Some.ensures.1

@@ -13,8 +13,7 @@ returns-clause-read c = IfOk-weaker c.parse_dictionary.result _ _
 pub returns-clause-seed : goal.returns-clause-seed
 returns-clause-seed c = IfOk-weaker c.parse_dictionary.result _ _
     (λ value h. dictionary_seeded Rfc9651 c.args.input.now h.0 value library_seed
-    (no_entry_held h.0 library_seed h.1.0) h.1.1 h.2)
-    (made_visited _ (rw c.new.ensures at c.parse_dictionary.ensures))
+    (no_entry_held h.0 library_seed h.1.0) h.1.1 h.2) (made_visited _ (rw c.new.ensures at c.parse_dictionary.ensures))
 
 pub returns-clause-rejected : goal.returns-clause-rejected
 returns-clause-rejected c = read_failed _ _ _ dictionary_field c.args.input.now (λ e h. h.2.0) (λ f h. tt)

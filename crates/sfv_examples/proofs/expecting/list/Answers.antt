@@ -10,10 +10,9 @@ returns-clause-read c = IfOk-weaker c.parse_list.result _ _
     (made_visited _ (rw c.new.ensures at c.parse_list.ensures))
 
 pub returns-clause-seed : goal.returns-clause-seed
-returns-clause-seed c = IfOk-weaker c.parse_list.result _ _
-    (λ value h. list_seeded Rfc9651 c.args.input.now h.0 value library_seed
-    (no_list_held h.0 library_seed h.1.0) h.1.1 h.2)
-    (made_visited _ (rw c.new.ensures at c.parse_list.ensures))
+returns-clause-seed c =
+    IfOk-weaker c.parse_list.result _ _ (λ value h. list_seeded Rfc9651 c.args.input.now h.0 value library_seed
+    (no_list_held h.0 library_seed h.1.0) h.1.1 h.2) (made_visited _ (rw c.new.ensures at c.parse_list.ensures))
 
 pub returns-clause-rejected : goal.returns-clause-rejected
 returns-clause-rejected c = read_failed _ _ _ list_field c.args.input.now (λ e h. h.2.0) (λ f h. tt)

@@ -20,6 +20,5 @@ returns-clause-out_of_memory c =
     let written = read_back Rfc9651 list_field raw c.in_ok-run_list.ensures.value
     (all_fit_newer (bare_values list_field raw)) in
     let failed = rw (c.new.ensures, text) at c.parse.ensures.rejected in
-    IfErr-weaker c.parse.result _ _ (λ e h. accepted_error Rfc9651 list_field (canonical list_field raw) written.raw e
-    written.accepted h)
-    failed
+    IfErr-weaker c.parse.result _ _
+    (λ e h. accepted_error Rfc9651 list_field (canonical list_field raw) written.raw e written.accepted h) failed

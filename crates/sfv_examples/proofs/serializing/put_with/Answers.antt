@@ -7,10 +7,9 @@ use Rattle.sfv.specs.Types.serialize_errors as errors
 use Rattle.sfv_examples.proofs.serializing.put_with.Goals as goal
 
 pub returns-in_err-inner-clause-grows : goal.returns-in_err-inner-clause-grows
-returns-in_err-inner-clause-grows g c =
-    grown_rests g.X.Sink g.met.X.Sink.same_again c.args.inner.now (params_sink c.in_ok-params.params).now
-    c.parameter.follows.lender-at-none _ _ _ _ _ _ _ c.in_ok-params.ensures.text c.in_err-inner.was
-    c.parameter.follows.holds-at-none (search rules) (search rules)
+returns-in_err-inner-clause-grows g c = grown_rests g.X.Sink g.met.X.Sink.same_again c.args.inner.now
+    (params_sink c.in_ok-params.params).now c.parameter.follows.lender-at-none _ _ _ _ _ _ _
+    c.in_ok-params.ensures.text c.in_err-inner.was c.parameter.follows.holds-at-none (search rules) (search rules)
 
 pub returns-clause-text : goal.returns-clause-text
 returns-clause-text g c =

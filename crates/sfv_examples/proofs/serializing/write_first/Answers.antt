@@ -15,9 +15,8 @@ pub returns-in_err-write_named-clause-room : goal.returns-in_err-write_named-cla
 unfolding fmt.digits
 returns-in_err-write_named-clause-room g c =
     let e = c.in_err-write_named.field-0.0 in
-    let memory = only_memory (sequence_version c.args.dictionary.now)
-    (values.integer (integer_of c.integer.result) ∷ values.boolean true ∷ []) e (refl, (refl, tt))
-    c.in_err-write_named.ensures.unsupported in
+    let memory = only_memory (sequence_version c.args.dictionary.now) (values.integer (integer_of c.integer.result)
+    ∷ values.boolean true ∷ []) e (refl, (refl, tt)) c.in_err-write_named.ensures.unsupported in
     let lacks = rw (c.integer.ensures, c.key_ref.ensures, c.key_ref-2.ensures)
     at (c.in_err-write_named.ensures.room memory) in
     at_exit e c.from_residual.result c.from_residual.ensures.1 _

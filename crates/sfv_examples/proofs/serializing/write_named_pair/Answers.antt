@@ -44,13 +44,11 @@ pub returns-in-Err-clause-room : goal.returns-in-Err-clause-room
 returns-in-Err-clause-room g c =
     let a = c.args in
     let begun = c.in_ok-inner.ensures in
-    λ memory. items_lack (g.W.Sink.text a.dictionary.now.sink)
-    (separator_before (is_empty_so_far a.dictionary.now) (codes ", ")) (key_text a.name)
-    (is_empty_so_far c.in_ok-inner.inner)
+    λ memory. items_lack (g.W.Sink.text a.dictionary.now.sink) (separator_before
+    (is_empty_so_far a.dictionary.now) (codes ", ")) (key_text a.name) (is_empty_so_far c.in_ok-inner.inner)
     (pair_of (ref_value a.first) (key_text a.param.0) (ref_value a.param.1) (ref_value a.second))
-    ((key_text a.ending.0, ref_value a.ending.1) ∷ []) begun.begins.0
-    (g.W.Sink.text (sequence_sink c.in_ok-inner.inner).now.sink) begun.text.1 begun.text.5
-    (c.in-Err.ensures.room memory)
+    ((key_text a.ending.0, ref_value a.ending.1) ∷ []) begun.begins.0 (g.W.Sink.text
+    (sequence_sink c.in_ok-inner.inner).now.sink) begun.text.1 begun.text.5 (c.in-Err.ensures.room memory)
 
 pub returns-in_err-finish-clause-room : goal.returns-in_err-finish-clause-room
 returns-in_err-finish-clause-room g c =
@@ -60,11 +58,9 @@ returns-in_err-finish-clause-room g c =
     let inner = (sequence_sink c.write_pair.new.inner).now in
     of_memory c.from_residual-in_err-finish.result _ (ending_lacks (g.W.Sink.text a.dictionary.now.sink)
     (separator_before (is_empty_so_far a.dictionary.now) (codes ", ")) (key_text a.name)
-    (is_empty_so_far c.in_ok-inner.inner)
-    (pair_of (ref_value a.first) (key_text a.param.0) (ref_value a.param.1) (ref_value a.second))
-    ((key_text a.ending.0, ref_value a.ending.1) ∷ []) begun.begins.0
-    (g.W.Sink.text (sequence_sink c.in_ok-inner.inner).now.sink) begun.text.1 begun.text.5
-    (g.W.Sink.text inner.sink) pair.1 pair.5
+    (is_empty_so_far c.in_ok-inner.inner) (pair_of (ref_value a.first) (key_text a.param.0) (ref_value a.param.1)
+    (ref_value a.second)) ((key_text a.ending.0, ref_value a.ending.1) ∷ []) begun.begins.0 (g.W.Sink.text
+    (sequence_sink c.in_ok-inner.inner).now.sink) begun.text.1 begun.text.5 (g.W.Sink.text inner.sink) pair.1 pair.5
     (unseparated (g.W.Sink.text inner.sink) inner.is_first (codes ")") c.in_err-finish.ensures.room))
 
 pub returns-in_err-dictionary-clause-room : goal.returns-in_err-dictionary-clause-room
@@ -78,12 +74,10 @@ returns-in_err-dictionary-clause-room g c =
     let old = g.W.Sink.text a.dictionary.now.sink in
     let front : List ℕ = separator_before (is_empty_so_far a.dictionary.now) (codes ", ") in
     at_exit c.in_err-dictionary.field-0.0 c.from_residual-in_err-dictionary.result
-    c.from_residual-in_err-dictionary.ensures.1 _
-    (λ e. e ≡ errors.OutOfMemory → LacksRoom old (front ++ named_pair_text a.name a.first a.param a.second a.ending))
-    (λ memory. params_lack old front (key_text a.name) (is_empty_so_far c.in_ok-inner.inner)
-    (pair_of (ref_value a.first) (key_text a.param.0) (ref_value a.param.1) (ref_value a.second))
-    ((key_text a.ending.0, ref_value a.ending.1) ∷ []) begun.begins.0
+    c.from_residual-in_err-dictionary.ensures.1 _ (λ e. e ≡ errors.OutOfMemory → LacksRoom old
+    (front ++ named_pair_text a.name a.first a.param a.second a.ending)) (λ memory. params_lack old front
+    (key_text a.name) (is_empty_so_far c.in_ok-inner.inner) (pair_of (ref_value a.first) (key_text a.param.0)
+    (ref_value a.param.1) (ref_value a.second)) ((key_text a.ending.0, ref_value a.ending.1) ∷ []) begun.begins.0
     (g.W.Sink.text (sequence_sink c.in_ok-inner.inner).now.sink) begun.text.1 begun.text.5
-    (g.W.Sink.text inner.sink) pair.1 pair.5 last closed.1 closed.5
-    (room_before last (param_text (key_text a.ending.0) (ref_value a.ending.1)) []
-    (c.in_err-dictionary.ensures.room memory)))
+    (g.W.Sink.text inner.sink) pair.1 pair.5 last closed.1 closed.5 (room_before last
+    (param_text (key_text a.ending.0) (ref_value a.ending.1)) [] (c.in_err-dictionary.ensures.room memory)))

@@ -36,6 +36,5 @@ returns-in_err-write_named_pair-clause-room g c =
       c.key_ref-2.ensures,
       c.key_ref-3.ensures,
     ) at (c.in_err-write_named_pair.ensures.room memory) in
-    at_exit e c.from_residual.result c.from_residual.ensures.1 _
-    (λ _. LacksNext g.W.Sink (codes ", ") c.args.dictionary.now
-    (codes "member2=(abc;abc_param=?0 def);bar=\"val\"")) lacks
+    at_exit e c.from_residual.result c.from_residual.ensures.1 _ (λ _. LacksNext g.W.Sink
+    (codes ", ") c.args.dictionary.now (codes "member2=(abc;abc_param=?0 def);bar=\"val\"")) lacks

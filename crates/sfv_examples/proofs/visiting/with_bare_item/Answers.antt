@@ -10,17 +10,15 @@ returns-clause-accepted g c a = of_error_alone _ _ c.parse_item_with_visitor.res
     (rw c.new.ensures at c.parse_item_with_visitor.ensures.visited)
     (rw c.new.ensures at c.parse_item_with_visitor.ensures.syntax)
     (has_visitor_error _ _ item_field _ c.parse_item_with_visitor.result
-    (rw c.new.ensures at c.parse_item_with_visitor.ensures.visitor)) (IsMemoryError (λ _. ⊤)) refl
-    (λ error fails. tt))
+    (rw c.new.ensures at c.parse_item_with_visitor.ensures.visitor)) (IsMemoryError (λ _. ⊤)) refl (λ error fails. tt))
 
 pub returns-clause-read : goal.returns-clause-read
 returns-clause-read g c = IfOk-weaker c.parse_item_with_visitor.result _ _ (λ out h. (h.raw, h.accepted))
     (rw c.new.ensures at c.parse_item_with_visitor.ensures.visited)
 
 pub returns-clause-called : goal.returns-clause-called
-returns-clause-called g c = IfOk-weaker c.parse_item_with_visitor.result _ _
-    (λ out h. called {T = g.row.T.Denot} (goal.F-post g) c.args.f c.item_visitor_with.result
-    c.item_visitor_with.ensures.waiting c.args.input.now out h)
+returns-clause-called g c = IfOk-weaker c.parse_item_with_visitor.result _ _ (λ out h. called {T = g.row.T.Denot}
+    (goal.F-post g) c.args.f c.item_visitor_with.result c.item_visitor_with.ensures.waiting c.args.input.now out h)
     (rw c.new.ensures at c.parse_item_with_visitor.ensures.visited)
 
 pub returns-clause-failed : goal.returns-clause-failed

@@ -1,10 +1,5 @@
-use Rattle.std.proofs.Common.{Result, Ok, Err, OnErr}
+use Rattle.sfv_http_fields.proofs.Faults.{of_any}
 use Rattle.sfv_http_fields.proofs.content_digest.reread.Goals as goal
-
--- what always holds, holds for an error
-of_any : {T E P : Type 0} (r : Result T E) → P → OnErr r P
-of_any (Ok x) h = tt
-of_any (Err e) h = h
 
 -- there is a text, so there is a digest
 pub returns-in_err-again-clause-memory : goal.returns-in_err-again-clause-memory

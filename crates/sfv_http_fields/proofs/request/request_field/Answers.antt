@@ -17,6 +17,5 @@ returns-in_err-text-in-Complete-clause-failed c =
     let head = c.in-Complete.head in
     let text = text_of_lines name (map (header_bytes input) (take head.headers headers)) in
     lines_fault name (length c.args.headers.now) input text c.from_residual-in_err-text-in-Complete.result
-    c.from_residual-in_err-text-in-Complete.ensures.1
-    (request_text name input headers head text (rw c.in-Complete.is at c.in_ok-head.ensures.complete) refl)
-    c.in_err-text-in-Complete.ensures.memory
+    c.from_residual-in_err-text-in-Complete.ensures.1 (request_text name input headers head text
+    (rw c.in-Complete.is at c.in_ok-head.ensures.complete) refl) c.in_err-text-in-Complete.ensures.memory

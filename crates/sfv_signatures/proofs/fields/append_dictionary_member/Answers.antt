@@ -25,6 +25,5 @@ returns-in_default-find_entry c =
     let read : IsParsedAs Rfc9651 dictionary_field c.args.text.now (dictionary_tree c.in-Ok.dictionary.entries) =
     rw c.new.ensures at c.in-Ok.ensures.read in
     let members = dictionary_tree c.in-Ok.dictionary.entries in
-    inr (no_member (text_of c.args.key) c.args.text.now members read
-    (subst (λ k. last_of k members ≡ None) (c.in-Ok-from_str.ensures.0 ∙ c.as_str.ensures.text)
-    (sym c.in_default-find_entry.ensures.last)))
+    inr (no_member (text_of c.args.key) c.args.text.now members read (subst (λ k. last_of k members ≡ None)
+    (c.in-Ok-from_str.ensures.0 ∙ c.as_str.ensures.text) (sym c.in_default-find_entry.ensures.last)))

@@ -27,10 +27,8 @@ returns-in_default-get c = lines_absent (pairs_tree c.args.params.now.entries)
 
 pub returns : goal.returns
 returns c = lines_given (pairs_tree c.args.params.now.entries) (type_in c.args.types.now c.args.name.now)
-    (lines_from c.args.name.now c.args.section) c.args.base.now c.append_lines.new.base
-    c.append_lines.result (lines_in c.in-Some.fields.now (lowercase c.args.name.now)) c.in-Some-get.field-0.now.bytes
-    (ap (lines_from c.args.name.now) c.in-Some.is
-    ∙ lower_lines c.args.name.now c.in-Some.fields (sym c.has_upper_case.ensures ∙ c.if-has_upper_case.false))
-    (some_first (λ v. v.bytes) (get_all c.in-Some.fields.now (lowercase c.args.name.now)) c.in-Some-get.field-0.now
-    c.in-Some-get.ensures.value)
-    c.append_lines.ensures
+    (lines_from c.args.name.now c.args.section) c.args.base.now c.append_lines.new.base c.append_lines.result
+    (lines_in c.in-Some.fields.now (lowercase c.args.name.now)) c.in-Some-get.field-0.now.bytes
+    (ap (lines_from c.args.name.now) c.in-Some.is ∙ lower_lines c.args.name.now c.in-Some.fields
+    (sym c.has_upper_case.ensures ∙ c.if-has_upper_case.false)) (some_first (λ v. v.bytes) (get_all c.in-Some.fields.now
+    (lowercase c.args.name.now)) c.in-Some-get.field-0.now c.in-Some-get.ensures.value) c.append_lines.ensures

@@ -8,5 +8,4 @@ use Rattle.sfv_signatures.proofs.lines.append_byte_text.Goals as goal
 pub returns-clause-text : goal.returns-clause-text
 returns-clause-text c = end_joined (string_bytes c.loop-value.base) (string_bytes c.args.base.now)
     (map (λ line. bare_text (byte_sequence (without_end (without_start line))))
-    (lines_in c.args.fields.now (lowercase c.args.name.now)))
-    (rw c.in-None.ensures.steps.0 at c.loop-value.invariant.2)
+    (lines_in c.args.fields.now (lowercase c.args.name.now))) (rw c.in-None.ensures.steps.0 at c.loop-value.invariant.2)

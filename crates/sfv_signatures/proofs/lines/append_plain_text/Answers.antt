@@ -7,8 +7,7 @@ use Rattle.sfv_signatures.proofs.{Joined.{all_joined, plain_fault}, Named.on_err
 use Rattle.sfv_signatures.proofs.lines.append_plain_text.Goals as goal
 
 pub returns-in_err-append_line : goal.returns-in_err-append_line
-returns-in_err-append_line c =
-    on_error c.from_residual.result _ _ _ c.from_residual.ensures.1
+returns-in_err-append_line c = on_error c.from_residual.result _ _ _ c.from_residual.ensures.1
     (λ (e : BaseErrorKind) h. let same : c.in_err-append_line.field-0.0 ≡ e = cc (h) in
     plain_fault (string_bytes c.args.base.now) (string_bytes c.loop-value.base) c.loop-value.is_first
     (without_end (without_start c.in-Some.value.now.bytes))
