@@ -1,21 +1,16 @@
 -- What stands between two items of an inner list, and between two members, by what the code found out.
 use Rattle.std.proofs.Common.{◌≡◌, ℕ, Bool, true, false, not, List, [], ◌∷◌, Option, Some, None, Ok, Err, refl, sym, ap}
-use Rattle.std.proofs.Common.{◌∙◌}
-use Rattle.std.specs.Prelude.{is_some}
-use Rattle.std.proofs.lemmas.Bool.{true≢false}
-use Rattle.sfv_spec.proofs.Marks.{right_parenthesis, comma, is_space, is_space_or_tab}
-use Rattle.sfv_spec.specs.Values.{RawItem}
-use Rattle.sfv_spec.specs.declared.version.Version.{Version}
-use Rattle.sfv_spec.specs.Events.{TreeEvent, inner_item_events}
+use Rattle.std.proofs.Common.{◌∙◌, is_some, true≢false}
+use Rattle.sfv_spec.specs.Events.{inner_item_events}
 use Rattle.sfv_spec.specs.declared.error_kind.ErrorKind.TheVariants.{TrailingComma, TrailingCharactersAfterMember}
 use Rattle.sfv_spec.specs.declared.error_kind.ErrorKind.TheVariants.{ExpectedInnerListDelimiter, UnterminatedInnerList}
-use Rattle.sfv_model.specs.Reader.{Answer, Reader, first, byte, any, give, fail, back, ahead, branch, and_then, bind}
-use Rattle.sfv_model.specs.Reader.{span, led, many, one_and_more, ◌>>=◌}
-use Rattle.sfv_model.specs.Members.{inner_item_at, next_item_at, inner_items_at}
+use Rattle.sfv_spec.proofs.Marks.{right_parenthesis, comma, is_space, is_space_or_tab}
 use Rattle.sfv_model.specs.Fields.{comma_at, next_at, members_at}
-use Rattle.sfv_model.proofs.complete.Combinators.{bind_complete}
-use Rattle.sfv.specs.parser.Cursor.{located, TakesIf}
-use Rattle.sfv.specs.parser.Members.{item_delimiter_at, member_delimiter_at}
+use Rattle.sfv_model.specs.Members.{inner_item_at, next_item_at, inner_items_at}
+use Rattle.sfv_model.specs.Reader.{Answer, Reader, first, byte, any, give, fail, back, ahead, branch, and_then, bind}
+use Rattle.sfv_model.{specs.Reader.{span, led, many, one_and_more, ◌>>=◌}, proofs.complete.Combinators.bind_complete}
+use Rattle.sfv.specs.Field.{RawItem, Version, TreeEvent}
+use Rattle.sfv.specs.parser.{Cursor.{located, TakesIf}, Members.{item_delimiter_at, member_delimiter_at}}
 use Rattle.sfv.proofs.reads.Steps.{branch_true, branch_false}
 
 -- a run is read wherever it is wanted

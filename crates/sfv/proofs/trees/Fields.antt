@@ -1,42 +1,22 @@
 -- Whole lists and dictionaries that are built.
 use Rattle.std.proofs.Common.{◌≡◌, ℕ, Bool, true, false, List, [], ◌∷◌, ◌++◌, Ok, Err, refl, sym, ap, ◌∙◌, inl, inr}
-use Rattle.std.proofs.Common.{subst}
-use Rattle.std.specs.Prelude.{◌⊎◌, Result, OnOk, OnErr, IfOk, IfErr, is_some, cond, not}
+use Rattle.std.proofs.Common.{subst, ◌⊎◌, Result, OnOk, OnErr, IfOk, IfErr, is_some, cond, not}
 use Rattle.std.specs.declared.alloc.Global.{Global}
-use Rattle.std.proofs.lemmas.Bool.{cases_Bool}
-use Rattle.std.proofs.lemmas.List.{map-append}
-use Rattle.std.proofs.lemmas.List.Elements.{Contains-append_right}
-use Rattle.sfv_spec.specs.Values.{RawMember, RawField}
-use Rattle.sfv_spec.proofs.Marks.{is_space}
-use Rattle.sfv_spec.specs.declared.field_kind.FieldKind.TheVariants.{List as list_field, Dictionary as dictionary_field}
-use Rattle.sfv_spec.specs.declared.version.Version.{Version}
-use Rattle.sfv_spec.specs.Events.{entry, entry_events, keyed_events, events}
-use Rattle.sfv_spec.specs.Ordered.{collapse, ordered_member}
-use Rattle.sfv_spec.specs.Statements.{IsParsedAs}
-use Rattle.sfv_spec.proofs.Collapse.{collapse-push}
-use Rattle.sfv_base.specs.declared.error.Error.{Error}
-use Rattle.sfv_base.specs.Errors.{out_of_memory}
-use Rattle.sfv_model.specs.Reader.{Answer, and_then, first, give, span}
-use Rattle.sfv_model.specs.Members.{member_at, entry_at, keyed_at}
+use Rattle.std.proofs.lemmas.{Bool.cases_Bool, List.map-append, List.Elements.Contains-append_right}
+use Rattle.sfv_spec.{specs.Ordered.collapse, proofs.Collapse.collapse-push, proofs.Marks.is_space}
 use Rattle.sfv_model.specs.Fields.{members_at, whole_field_at, read_field}
-use Rattle.sfv.specs.declared.parser.Parser.{Parser}
-use Rattle.sfv.specs.declared.parser.cursor.Cursor.{Cursor}
+use Rattle.sfv_model.specs.{Members.{member_at, entry_at, keyed_at}, Reader.{Answer, and_then, first, give, span}}
+use Rattle.sfv_tree.proofs.Entered.{insert_entry-entered}
+use Rattle.sfv.specs.Field.{RawMember, RawField, list_field, dictionary_field, Version, entry, entry_events}
+use Rattle.sfv.specs.Field.{keyed_events, events, ordered_member, IsParsedAs, out_of_memory, NeedsMemory, IsParseError}
+use Rattle.sfv.specs.{Types.Error, declared.parser.Parser.Parser, declared.parser.cursor.Cursor.Cursor}
 use Rattle.sfv.specs.parser.Cursor.{kept, kept_input, kept_version, version, rest, located, MayNeedMemory, IsFaultOf}
 use Rattle.sfv.specs.parser.Members.{MemberValue, member_parts, one_member_at, all_members_at, field_of}
 use Rattle.sfv.specs.parser.Trees.{Builds, FailsAs, ordered_pairs, ordered_members, with_member}
-use Rattle.sfv.proofs.trees.Errors.{Any, Never, FailsWith, field_fails}
-use Rattle.sfv.proofs.visits.Loops.{IsFirst, members_loop}
-use Rattle.sfv.specs.Memory.{NeedsMemory}
-use Rattle.sfv.specs.Parsers.{IsParseError}
-use Rattle.sfv.proofs.Memory.{first_in}
-use Rattle.sfv.proofs.Parsed.{parsed}
-use Rattle.sfv_tree.proofs.Entered.{insert_entry-entered}
-use Rattle.sfv.proofs.built.Dictionaries.{collapse-over}
-use Rattle.sfv.proofs.trees.Parts.{led_builds}
-use Rattle.sfv.proofs.reads.Delimiters.{after_some, members_after, first_of}
-use Rattle.sfv.proofs.reads.Errors.{fault_bind, kept_reads}
-use Rattle.sfv.proofs.visits.Fields.{whole_read}
-use Rattle.sfv.proofs.visits.Whole.{ending_located}
+use Rattle.sfv.proofs.{Memory.first_in, Parsed.parsed, built.Dictionaries.collapse-over}
+use Rattle.sfv.proofs.reads.{Delimiters.{after_some, members_after, first_of}, Errors.{fault_bind, kept_reads}}
+use Rattle.sfv.proofs.trees.{Errors.{Any, Never, FailsWith, field_fails}, Parts.led_builds}
+use Rattle.sfv.proofs.visits.{Fields.whole_read, Loops.{IsFirst, members_loop}, Whole.ending_located}
 
 -- ---- one more member
 

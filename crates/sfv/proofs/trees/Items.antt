@@ -1,25 +1,15 @@
 -- Whole items that are built.
-use Rattle.std.proofs.Common.{◌≡◌, ℕ, true, false, List, Some, Ok, subst, inr}
-use Rattle.std.specs.Prelude.{◌⊎◌, is_some}
+use Rattle.std.proofs.Common.{◌≡◌, ℕ, true, false, List, Some, Ok, subst, inr, ◌⊎◌, is_some}
 use Rattle.std.specs.declared.alloc.Global.{Global}
+use Rattle.sfv_spec.specs.{Ordered.ordered_item, Statements.IsParsedAs}
+use Rattle.sfv_spec.specs.{Values.RawItem, declared.error_kind.ErrorKind.TheVariants.TrailingCharactersAfterParsedValue}
 use Rattle.sfv_spec.proofs.Marks.{is_space}
-use Rattle.sfv_spec.specs.Values.{RawItem}
-use Rattle.sfv_spec.specs.Ordered.{ordered_item}
-use Rattle.sfv_spec.specs.Statements.{IsParsedAs}
-use Rattle.sfv_spec.specs.declared.field_kind.FieldKind.TheVariants.{Item as item_field}
-use Rattle.sfv_spec.specs.declared.error_kind.ErrorKind.TheVariants.{TrailingCharactersAfterParsedValue}
-use Rattle.sfv_base.specs.declared.error.Error.{Error}
+use Rattle.sfv_model.specs.{Bare.bare_at, Items.item_at, Reader.{first, span}}
 use Rattle.sfv_base.specs.Errors.{error_of, out_of_memory}
-use Rattle.sfv_model.specs.Reader.{first, span}
-use Rattle.sfv_model.specs.Bare.{bare_at}
-use Rattle.sfv_model.specs.Items.{item_at}
-use Rattle.sfv.specs.declared.parser.Parser.{Parser}
-use Rattle.sfv.specs.declared.parser.cursor.Cursor.{Cursor}
+use Rattle.sfv.specs.{Parsers.IsParseError, Types.{item_field, Error}}
+use Rattle.sfv.specs.declared.parser.{Parser.Parser, cursor.Cursor.Cursor}
 use Rattle.sfv.specs.parser.Cursor.{kept, kept_input, kept_version, input, version, rest, IsFaultOf}
-use Rattle.sfv.specs.Parsers.{IsParseError}
-use Rattle.sfv.proofs.Parsed.{parsed, parse_error}
-use Rattle.sfv.proofs.trees.Errors.{fault_with, field_fails}
-use Rattle.sfv.proofs.trees.Parts.{bare_fails}
+use Rattle.sfv.proofs.{Parsed.{parsed, parse_error}, trees.Errors.{fault_with, field_fails}, trees.Parts.bare_fails}
 use Rattle.sfv.proofs.visits.Whole.{field_faulty, field_trailing_error, field_done}
 
 -- after the leading spaces

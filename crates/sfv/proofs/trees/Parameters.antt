@@ -4,10 +4,8 @@ use Rattle.indexmap.specs.IndexMap.{insert_entry}
 use Rattle.sfv_spec.{specs.Ordered.collapse, specs.Values.{BareValue, RawParameters}, proofs.Collapse.collapse-push}
 use Rattle.sfv_model.specs.Items.{parameter_event, parameter_at, parameters_at}
 use Rattle.sfv_model.proofs.{Types.{Version, ErrorKind}, sound.Items.Consumes-parameter, sound.Many.is_faulty}
-use Rattle.sfv_tree.specs.Trees.{OwnedBareItem, pairs_tree}
-use Rattle.sfv.specs.parser.Cursor.{located}
-use Rattle.sfv_tree.proofs.Entered.{insert_entry-entered}
-use Rattle.sfv.proofs.trees.Errors.{Any, FailsWith, fault_of}
+use Rattle.sfv_tree.{specs.Trees.{OwnedBareItem, pairs_tree}, proofs.Entered.insert_entry-entered}
+use Rattle.sfv.{specs.parser.Cursor.located, proofs.trees.Errors.{Any, FailsWith, fault_of}}
 use Rattle.sfv.proofs.visits.Parameters.{VisitedParameters, visited_none, visited_more}
 
 -- these parameters were read between start and now, and the map has each key once

@@ -1,7 +1,6 @@
 use Rattle.std.proofs.Common.{◌∙◌, sym}
 use Rattle.sfv_tree.specs.Trees.{item_tree}
-use Rattle.sfv.proofs.reads.Errors.{left_with}
-use Rattle.sfv.proofs.trees.Items.{item_rejected, item_trailing, item_read}
+use Rattle.sfv.proofs.{reads.Errors.left_with, trees.Items.{item_rejected, item_trailing, item_read}}
 use Rattle.sfv.proofs.parser.tree.item_from.Goals as goal
 
 pub returns-in_err-bare_item-clause-rejected : goal.returns-in_err-bare_item-clause-rejected

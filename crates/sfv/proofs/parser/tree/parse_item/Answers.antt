@@ -1,10 +1,8 @@
 use Rattle.std.proofs.Common.{◌≡◌, ◌∙◌, Ok}
 use Rattle.sfv_spec.proofs.Marks.{is_space}
 use Rattle.sfv_model.specs.Reader.{span}
-use Rattle.sfv.specs.Parsers.{input_of}
-use Rattle.sfv.specs.parser.Cursor.{rest}
-use Rattle.sfv.proofs.reads.Errors.{left_with}
-use Rattle.sfv.proofs.trees.Items.{start_rejected}
+use Rattle.sfv.specs.{Parsers.input_of, parser.Cursor.rest}
+use Rattle.sfv.proofs.{reads.Errors.left_with, trees.Items.start_rejected}
 use Rattle.sfv.proofs.parser.tree.parse_item.Goals as goal
 
 pub returns-in_err-expect_bare_item_start-clause-rejected : goal.returns-in_err-expect_bare_item_start-clause-rejected

@@ -1,6 +1,5 @@
 use Rattle.std.proofs.Common.{◌∙◌, inr}
-use Rattle.sfv.proofs.reads.Errors.{left_with}
-use Rattle.sfv.proofs.trees.Fields.{all_rejected, members_read, members_fault, members_memory}
+use Rattle.sfv.proofs.{reads.Errors.left_with, trees.Fields.{all_rejected, members_read, members_fault, members_memory}}
 use Rattle.sfv.proofs.parser.tree.parse_members.Goals as goal
 
 pub returns-in_err-expect_start-clause-rejected : goal.returns-in_err-expect_start-clause-rejected

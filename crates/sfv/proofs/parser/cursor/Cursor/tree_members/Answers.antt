@@ -1,16 +1,11 @@
-use Rattle.std.specs.Prelude.{is_some}
-use Rattle.std.proofs.Common.{◌≡◌, ◌∙◌, true, ap, not, [], refl}
+use Rattle.std.proofs.Common.{◌≡◌, ◌∙◌, true, ap, not, [], refl, is_some}
 use Rattle.sfv_model.specs.Reader.{first}
-use Rattle.sfv.specs.parser.Cursor.{version, rest}
-use Rattle.sfv.specs.parser.Members.{member_parts, one_member_at, all_members_at}
+use Rattle.sfv.specs.parser.{Cursor.{version, rest}, Members.{member_parts, one_member_at, all_members_at}}
 use Rattle.sfv.specs.parser.Trees.{ordered_members, with_member}
-use Rattle.sfv.proofs.trees.Errors.{Any, Never}
-use Rattle.sfv.proofs.reads.Delimiters.{after_none, ends_there, at_end}
-use Rattle.sfv.proofs.reads.Errors.{left_with}
-use Rattle.sfv.proofs.visits.Loops.{shorter, members_loop}
-use Rattle.sfv.proofs.trees.Loops.{as_one, built_first, built_more, built_all, keeps_seed, first_fails}
-use Rattle.sfv.proofs.trees.Loops.{delimiter_fails, one_fails}
-use Rattle.sfv.proofs.trees.Fields.{first_member, member_added}
+use Rattle.sfv.proofs.reads.{Delimiters.{after_none, ends_there, at_end}, Errors.left_with}
+use Rattle.sfv.proofs.trees.{Errors.{Any, Never}, Fields.{first_member, member_added}}
+use Rattle.sfv.proofs.trees.Loops.{as_one, built_first, built_more, built_all, keeps_seed, first_fails, delimiter_fails}
+use Rattle.sfv.proofs.{trees.Loops.one_fails, visits.Loops.{shorter, members_loop}}
 use Rattle.sfv.proofs.parser.cursor.Cursor.tree_members.Goals as goal
 
 pub returns-then-is_none-clause-tree : goal.returns-then-is_none-clause-tree

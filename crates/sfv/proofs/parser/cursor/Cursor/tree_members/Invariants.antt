@@ -1,11 +1,7 @@
-use Rattle.std.specs.Prelude.{is_some}
+use Rattle.std.proofs.Common.{◌≡◌, true, length, is_some}
 use Rattle.sfv_model.specs.Reader.{first}
-use Rattle.std.proofs.Common.{◌≡◌, true, length}
-use Rattle.sfv.specs.parser.Cursor.{version, rest}
-use Rattle.sfv.specs.parser.Members.{all_members_at}
-use Rattle.sfv.specs.parser.Trees.{ordered_members}
-use Rattle.sfv.proofs.visits.Loops.{members_loop}
-use Rattle.sfv.proofs.trees.Loops.{BuiltSoFar}
+use Rattle.sfv.specs.parser.{Cursor.{version, rest}, Members.all_members_at, Trees.ordered_members}
+use Rattle.sfv.proofs.{trees.Loops.BuiltSoFar, visits.Loops.members_loop}
 use Rattle.sfv.proofs.parser.cursor.Cursor.tree_members.Given as goal
 
 abbrev pub invariant-loop-members : goal.invariant-loop-members

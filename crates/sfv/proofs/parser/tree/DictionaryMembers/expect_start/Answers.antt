@@ -1,11 +1,7 @@
-use Rattle.std.proofs.Common.{◌≡◌, ◌∙◌, true, refl, ap, not}
-use Rattle.std.specs.Prelude.{is_some}
+use Rattle.std.proofs.Common.{◌≡◌, ◌∙◌, true, refl, ap, not, is_some}
 use Rattle.sfv_model.specs.Reader.{first}
 use Rattle.sfv.specs.parser.Cursor.{kept, version, rest}
-use Rattle.sfv.proofs.reads.Errors.{FaultOf-here}
-use Rattle.sfv.proofs.reads.Steps.{key_none}
-use Rattle.sfv.proofs.trees.Fields.{begin_fails}
-use Rattle.sfv.proofs.trees.Parts.{key_fails}
+use Rattle.sfv.proofs.{reads.Errors.FaultOf-here, reads.Steps.key_none, trees.Fields.begin_fails, trees.Parts.key_fails}
 use Rattle.sfv.proofs.parser.tree.DictionaryMembers.expect_start.Goals as goal
 
 pub returns : goal.returns

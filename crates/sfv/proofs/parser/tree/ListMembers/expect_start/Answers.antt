@@ -1,11 +1,7 @@
-use Rattle.std.proofs.Common.{◌≡◌, ◌∙◌, true, false, ap, not}
-use Rattle.std.specs.Prelude.{is_some}
-use Rattle.std.proofs.lemmas.Result.{IfErr-weaker}
+use Rattle.std.proofs.{Common.{◌≡◌, ◌∙◌, true, false, ap, not, is_some}, lemmas.Result.IfErr-weaker}
 use Rattle.sfv_model.specs.Reader.{first}
 use Rattle.sfv.specs.parser.Cursor.{input, version, rest}
-use Rattle.sfv.proofs.trees.Errors.{fault_with}
-use Rattle.sfv.proofs.trees.Fields.{begin_fails}
-use Rattle.sfv.proofs.trees.Parts.{entry_fails}
+use Rattle.sfv.proofs.trees.{Errors.fault_with, Fields.begin_fails, Parts.entry_fails}
 use Rattle.sfv.proofs.parser.tree.ListMembers.expect_start.Goals as goal
 
 pub returns : goal.returns
