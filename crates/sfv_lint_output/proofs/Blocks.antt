@@ -6,28 +6,15 @@ use Rattle.sfv_lint_head.specs.declared.paint.Colors.{Colors}
 use Rattle.sfv_lint_report.specs.{Prints.{field_text, summary_text}, Reports.has_error}
 use Rattle.sfv_lint_report.specs.declared.report.{Field.Field, Report.Report}
 use Rattle.sfv_lint_notes.specs.declared.notes.Note.{Note}
-use Rattle.sfv_lint_output.specs.Lines.{IsBlock, AppendsBlock, AppendsBlocks, AppendsNotes, AppendsTree, IsPrinted}
-use Rattle.sfv_lint_output.specs.Lines.{note_line, named_others}
+use Rattle.sfv_lint_output.specs.Lines.{IsBlock, AppendsBlock, AppendsBlocks, AppendsNotes, IsPrinted}
+use Rattle.sfv_lint_output.specs.Lines.{note_line, tree_lines, named_others}
 
-zip_push : {A B : Type 0} (R : A → B → Type 0) (xs : List A) (ys : List B) (x : A) (y : B) → AllZip R xs ys → R x y
+pub zip_push : {A B : Type 0} (R : A → B → Type 0) (xs : List A) (ys : List B) (x : A) (y : B) → AllZip R xs ys → R x y
     → AllZip R (xs ++ x ∷ []) (ys ++ y ∷ [])
 zip_push R [] [] x y h is = (is, tt)
 zip_push R [] (z ∷ ys) x y h is = absurd h
 zip_push R (w ∷ xs) [] x y h is = absurd h
 zip_push R (w ∷ xs) (z ∷ ys) x y h is = (h.0, zip_push R xs ys x y h.1 is)
-
-module _ (tree : Bool) (field : Field) (old : List ℕ) where
-  pub no_tree_lines : AppendsTree tree field old old
-  no_tree_lines = record { lines = []; no_tree = λ e. refl; rejected = λ e. refl; is = sym (append-nil old) }
-
-  pub tree_lines : (lines new : List ℕ) → tree ≡ true → has_error field ≡ false → new ≡ old ++ lines
-      → AppendsTree tree field old new
-  tree_lines lines new with_tree accepted is = record {
-    lines = lines;
-    no_tree = λ e. absurd (cc);
-    rejected = λ e. absurd (cc);
-    is = is;
-  }
 
 module _ (colors : Colors) (tree : Bool) where
   -- the notes are appended
@@ -37,19 +24,14 @@ module _ (colors : Colors) (tree : Bool) where
 
   -- a field is printed: its report, its tree and its notes
   pub block : (field : Field) (old first second new : List ℕ) → first ≡ old ++ field_text colors field
-      → AppendsTree tree field first second → AppendsNotes colors field second new → AppendsBlock colors tree field old new
-  block field old first second new is tree notes = record {
-    text = field_text colors field ++ tree.lines ++ flat_map (note_line colors) notes.notes;
-    block = record {
-      tree_lines = tree.lines;
-      notes = notes.notes;
-      is = refl;
-      no_tree = tree.no_tree;
-      rejected = λ bad. (tree.rejected bad, notes.rejected bad);
-    };
-    is = rw (notes.is, tree.is, is) (ap (λ t. t ++ flat_map (note_line colors) notes.notes)
-        (append_assoc old (field_text colors field) tree.lines)
-        ∙ append_assoc old (field_text colors field ++ tree.lines) (flat_map (note_line colors) notes.notes));
+      → second ≡ first ++ tree_lines tree field → AppendsNotes colors field second new
+      → AppendsBlock colors tree field old new
+  block field old first second new is lines notes = record {
+    text = field_text colors field ++ tree_lines tree field ++ flat_map (note_line colors) notes.notes;
+    block = record { notes = notes.notes; is = refl; rejected = notes.rejected };
+    is = rw (notes.is, lines, is) (ap (λ t. t ++ flat_map (note_line colors) notes.notes)
+        (append_assoc old (field_text colors field) (tree_lines tree field))
+        ∙ append_assoc old (field_text colors field ++ tree_lines tree field) (flat_map (note_line colors) notes.notes));
   }
 
   pub no_blocks : (old : List ℕ) → AppendsBlocks colors tree [] old old

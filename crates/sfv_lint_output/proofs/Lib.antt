@@ -1,3 +1,4 @@
 pub mod Blocks
+pub mod Documents
 pub mod Failing
 pub mod Outputs

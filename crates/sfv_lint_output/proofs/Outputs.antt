@@ -1,12 +1,16 @@
 -- The output of a run, from its parts.
-use Rattle.std.proofs.Common.{◌≡◌, ℕ, List, [], ◌∷◌, ◌++◌, Bool, true, false, refl, sym, append-nil, string_bytes}
+use Rattle.std.proofs.Common.{◌≡◌, ℕ, List, [], ◌∷◌, ◌++◌, Bool, true, false, refl, sym, append-nil}
+use Rattle.std.specs.Prelude.{Some, string_bytes}
 use Rattle.sfv.specs.Types.{FieldKind}
-use Rattle.sfv_lint_head.specs.declared.paint.Colors.{Colors}
+use Rattle.sfv_http_fields.specs.Registry.{registered_type}
 use Rattle.sfv_lint_args.specs.declared.options.Options.{Options}
+use Rattle.sfv_lint_head.specs.declared.paint.Colors.{Colors}
+use Rattle.sfv_lint_report.specs.declared.report.Field.{Field}
+use Rattle.sfv_lint_report.specs.declared.report.Report.{Report}
 use Rattle.sfv_lint_report.specs.Reports.{has_error, IsReport, IsValueReport}
-use Rattle.sfv_lint_report.specs.declared.report.{Field.Field, Report.Report}
-use Rattle.sfv_lint_output.specs.Lines.{AppendsBlock, IsPrinted}
-use Rattle.sfv_lint_output.specs.Runs.{AppendsAdvice, IsPrintedValue, IsHeadOutput, IsValueOutput, IsFailed}
+use Rattle.sfv_lint_output.specs.Documents.{IsDocumentText}
+use Rattle.sfv_lint_output.specs.Lines.{IsBlock, AppendsBlock, IsPrinted}
+use Rattle.sfv_lint_output.specs.Runs.{AppendsAdvice, IsPrintedValue, IsHeadOutput, IsValueOutput, IsFieldOutput, IsFailed}
 use Rattle.sfv_lint_output.specs.declared.run.Output.{Output}
 
 module _ (field : Field) (old : List ℕ) where
@@ -29,10 +33,25 @@ value_printed colors tree field old first new none block advice = record {
 module _ (options : Options) (colors : Colors) (input : List ℕ) (output : Output) where
   pub head_output : (report : Report) → IsReport options.version input report
       → (options.json ≡ false → IsPrinted colors options.tree options.all report (string_bytes output.text))
+      → (options.json ≡ true → IsDocumentText report.fields.items report.others.items (string_bytes output.text))
       → IsFailed options.strict report.fields.items output.failed → IsHeadOutput options colors input output
-  head_output report is lines failed = record { report = report; is = is; lines = lines; failed = failed }
+  head_output report is lines document failed = record {
+    report = report;
+    is = is;
+    lines = lines;
+    document = document;
+    failed = failed;
+  }
 
-  pub value_output : (name : List ℕ) (kind : FieldKind) (field : Field) → IsValueReport options.version name kind input field
+  pub value_output : (name : List ℕ) (kind : FieldKind) (field : Field)
+      → IsValueReport options.version name kind input field
       → (options.json ≡ false → IsPrintedValue colors options.tree field (string_bytes output.text))
+      → (options.json ≡ true → IsDocumentText (field ∷ []) [] (string_bytes output.text))
       → IsFailed options.strict (field ∷ []) output.failed → IsValueOutput options colors name kind input output
-  value_output name kind field is lines failed = record { field = field; is = is; lines = lines; failed = failed }
+  value_output name kind field is lines document failed = record {
+    field = field;
+    is = is;
+    lines = lines;
+    document = document;
+    failed = failed;
+  }

@@ -10,6 +10,7 @@ use Rattle.sfv_lint_head.specs.declared.paint.Colors.{Colors}
 use Rattle.sfv_lint_report.specs.declared.report.Field.{Field}
 use Rattle.sfv_lint_report.specs.declared.report.Report.{Report}
 use Rattle.sfv_lint_report.specs.Reports.{has_error, IsReport, IsValueReport}
+use Rattle.sfv_lint_output.specs.Documents.{IsDocumentText}
 use Rattle.sfv_lint_output.specs.Lines.{IsBlock, IsPrinted}
 use Rattle.sfv_lint_output.specs.declared.run.Output.{Output}
 use Rattle.sfv_lint_output.specs.declared.run.Failure.{Failure}
@@ -23,11 +24,12 @@ pub record IsFailed (strict : Bool) (fields : List Field) (failed : Bool) : Type
   pub with_error : list_any has_error fields ≡ true → failed ≡ true
   pub only : strict ≡ false → failed ≡ list_any has_error fields
 
--- the output for a head: lines on its report, unless there is `--json`
+-- the output for a head: lines on its report, or with `--json` its document
 pub record IsHeadOutput (options : Options) (colors : Colors) (input : List ℕ) (output : Output) : Type 0 where
   pub report : Report
   pub is : IsReport options.version input report
   pub lines : options.json ≡ false → IsPrinted colors options.tree options.all report (string_bytes output.text)
+  pub document : options.json ≡ true → IsDocumentText report.fields.items report.others.items (string_bytes output.text)
   pub failed : IsFailed options.strict report.fields.items output.failed
 
 -- the lines on a value: its report, and advice if it has an error
@@ -48,12 +50,13 @@ pub record AppendsAdvice (field : Field) (old new : List ℕ) : Type 0 where
   pub accepted : has_error field ≡ false → advice ≡ []
   pub is : new ≡ old ++ advice
 
--- the output for a value of this type: lines on its report, unless there is `--json`
+-- the output for a value of this type: lines on its report, or with `--json` its document
 pub record IsValueOutput (options : Options) (colors : Colors) (name : List ℕ) (kind : FieldKind) (input : List ℕ)
     (output : Output) : Type 0 where
   pub field : Field
   pub is : IsValueReport options.version name kind input field
   pub lines : options.json ≡ false → IsPrintedValue colors options.tree field (string_bytes output.text)
+  pub document : options.json ≡ true → IsDocumentText (field ∷ []) [] (string_bytes output.text)
   pub failed : IsFailed options.strict (field ∷ []) output.failed
 
 -- with `--type`, the output for a value of that type

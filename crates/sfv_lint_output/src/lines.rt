@@ -1,8 +1,8 @@
 //! A report as lines for reading.
 
 ghost use Rattle.std.specs.Prelude.{◌≡◌, ◌++◌, OnOk, IfOk, string_bytes, flat_map};
-ghost use Rattle.sfv_lint_output.specs.Lines.{note_line, named_others, AppendsNotes, AppendsTree, AppendsBlock};
-ghost use Rattle.sfv_lint_output.specs.Lines.{AppendsBlocks, IsPrinted};
+ghost use Rattle.sfv_lint_output.specs.Lines.{note_line, value_lines, tree_lines, named_others, AppendsNotes};
+ghost use Rattle.sfv_lint_output.specs.Lines.{AppendsBlock, AppendsBlocks, IsPrinted};
 
 use sfv::OutOfMemory;
 use sfv_lint_head::paint::{Colors, Tone, append_painted};
@@ -50,7 +50,9 @@ fn append_notes(
 }
 
 /// Returns a value as a tree.
-fn tree_of(alloc: Global, value: &FieldValue) -> Result<String, OutOfMemory> {
+fn tree_of(alloc: Global, value: &FieldValue) -> Result<String, OutOfMemory>
+    ensures { IfOk result (λ text. string_bytes text ≡ value_lines value.now) }
+{
     let mut text = String::new(alloc);
     match value {
         FieldValue::Item(value) => append_item(&mut text, value)?,
@@ -60,15 +62,14 @@ fn tree_of(alloc: Global, value: &FieldValue) -> Result<String, OutOfMemory> {
     Ok(text)
 }
 
-/// Appends the tree of a field if `tree` is true and the field has no error.
-#[tactic(auto, using(crate::proofs::Blocks::no_tree_lines, crate::proofs::Blocks::tree_lines))]
+/// Appends the tree of a field, if it has no error and `tree` says so.
 fn append_tree(
     alloc: Global,
     out: &mut String,
     field: &Field,
     tree: bool,
 ) -> Result<(), OutOfMemory>
-    ensures { OnOk result (AppendsTree tree field.now (string_bytes out.old) (string_bytes out.new)) }
+    ensures { OnOk result (string_bytes out.new ≡ string_bytes out.old ++ tree_lines tree field.now) }
 {
     if !tree {
         return Ok(());
@@ -119,7 +120,7 @@ fn append_blocks(
     Ok(())
 }
 
-/// Appends the names of the other field lines if `all` is true.
+/// Appends the names of the other field lines, if `all` says so.
 fn append_named(out: &mut String, report: &Report, all: bool) -> Result<(), AllocError>
     ensures { OnOk result (string_bytes out.new ≡ string_bytes out.old ++ named_others all report.now) }
 {

@@ -1,9 +1,12 @@
 //! A run of the program `sfv_lint`.
 
-ghost use Rattle.std.specs.Prelude.{◌≡◌, ◌++◌, [], ◌∷◌, IfOk, IfErr, OnOk, Some, None, false, string_bytes, codes, ℕ, List};
+ghost use Rattle.std.specs.Prelude.{◌≡◌, ◌++◌, [], ◌∷◌, IfOk, IfErr, OnOk, Some, None, true, false, string_bytes};
+ghost use Rattle.std.specs.Prelude.{codes, ℕ, List};
 ghost use Rattle.sfv_http_fields.specs.Registry.{registered_type};
 ghost use Rattle.sfv_lint_head.specs.Heads.{HasNoHead};
 ghost use Rattle.sfv_lint_head.specs.declared.head.HeadFault.TheVariants as head_faults;
+ghost use Rattle.sfv_lint_report.specs.Reports.{IsValueReport};
+ghost use Rattle.sfv_lint_output.specs.Documents.{IsDocumentText};
 ghost use Rattle.sfv_lint_output.specs.Lines.{IsPrinted};
 ghost use Rattle.sfv_lint_output.specs.Runs.{IsFailed, IsHeadOutput, IsValueOutput, IsPrintedValue};
 ghost use Rattle.sfv_lint_output.specs.Runs.{HasValueOutput, HasFieldOutput, IsOfHead, AppendsAdvice, hint_text};
@@ -11,7 +14,7 @@ ghost use Rattle.sfv_lint_output.specs.declared.run.Failure.TheVariants as failu
 
 use crate::document::document;
 use crate::lines::{append_field_lines, report_lines};
-use sfv::{FieldKind, HashSeed, OutOfMemory};
+use sfv::{FieldKind, HashSeed, OutOfMemory, Version};
 use sfv_http_fields::registry::type_of;
 use sfv_lint_args::explain::{Explanation, explain};
 use sfv_lint_args::options::Options;
@@ -157,7 +160,10 @@ fn append_advice(out: &mut String, field: &Field) -> Result<(), AllocError>
 }
 
 /// Returns the output for the fields and the names of the other field lines, as JSON.
-fn json_output(alloc: Global, fields: &[Field], others: &[Vec<u8>]) -> Result<String, AllocError> {
+#[tactic(auto, using(crate::proofs::Documents::document_text))]
+fn json_output(alloc: Global, fields: &[Field], others: &[Vec<u8>]) -> Result<String, AllocError>
+    ensures { IfOk result (λ text. IsDocumentText fields.now others.now (string_bytes text)) }
+{
     let mut text = document(alloc, fields, others)?.to_string(alloc)?;
     text.push('\n')?;
     Ok(text)
@@ -177,8 +183,10 @@ fn head_text(
     colors: Colors,
     report: &Report,
 ) -> Result<String, OutOfMemory>
-    ensures { IfOk result (λ text. options.now.json ≡ false
+    ensures lines { IfOk result (λ text. options.now.json ≡ false
         → IsPrinted colors options.now.tree options.now.all report.now (string_bytes text)) }
+    ensures document { IfOk result (λ text. options.now.json ≡ true
+        → IsDocumentText report.now.fields.items report.now.others.items (string_bytes text)) }
 {
     if options.json {
         let text = json_output(alloc, report.fields.as_slice(), report.others.as_slice())?;
@@ -228,14 +236,30 @@ fn value_text(
     colors: Colors,
     field: &Field,
 ) -> Result<String, OutOfMemory>
-    ensures { IfOk result (λ text. options.now.json ≡ false
+    ensures lines { IfOk result (λ text. options.now.json ≡ false
         → IsPrintedValue colors options.now.tree field.now (string_bytes text)) }
+    ensures document { IfOk result (λ text. options.now.json ≡ true
+        → IsDocumentText (field.now ∷ []) [] (string_bytes text)) }
 {
     if options.json {
         let text = json_output(alloc, std::slice::from_ref(field), &[])?;
         return Ok(text);
     }
     value_lines(alloc, colors, field, options.tree)
+}
+
+/// Checks a value of this type, with a name for the report.
+fn named_report(
+    alloc: Global,
+    seed: HashSeed,
+    version: Version,
+    name: &str,
+    kind: FieldKind,
+    input: &[u8],
+) -> Result<Field, AllocError>
+    ensures { IfOk result (IsValueReport version name.now kind input.now) }
+{
+    report_value(alloc, seed, version, name.as_bytes(), kind, input)
 }
 
 /// Returns the output for one value of this type.
@@ -252,7 +276,7 @@ fn run_value(
     ensures output { IfOk result (IsValueOutput options.now colors name.now kind input.now) }
     ensures failed { IfErr result (λ failure. failure ≡ failures.OutOfMemory) }
 {
-    let field = report_value(alloc, seed, options.version, name.as_bytes(), kind, input)?;
+    let field = named_report(alloc, seed, options.version, name, kind, input)?;
     let failed = is_failed(alloc, &field, options.strict)?;
     let text = value_text(alloc, options, colors, &field)?;
     Ok(Output { text, failed })
