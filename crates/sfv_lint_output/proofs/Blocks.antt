@@ -1,13 +1,13 @@
 -- The lines on fields, one field more at a time.
-use Rattle.std.proofs.Common.{◌≡◌, ℕ, ◌+◌, ◌<◌, ◌≤◌, List, [], ◌∷◌, ◌++◌, Bool, true, false, length, take, get_or, refl}
-use Rattle.std.{proofs.Common.{sym, ap, ◌∙◌, append_assoc, append-nil, flat_map, take_all}, specs.List.{AllZip, concat}}
+use Rattle.std.proofs.Common.{◌≡◌, ℕ, ◌+◌, ◌<◌, ◌≤◌, List, [], ◌∷◌, ◌++◌, Bool, true, length, take, get_or, refl, sym}
+use Rattle.std.{proofs.Common.{ap, ◌∙◌, append_assoc, append-nil, flat_map, take_all}, specs.List.{AllZip, concat}}
 use Rattle.std.proofs.lemmas.List.{take_more, Folds.concat-append}
 use Rattle.sfv_lint_head.specs.declared.paint.Colors.{Colors}
 use Rattle.sfv_lint_report.specs.{Prints.{field_text, summary_text}, Reports.has_error}
 use Rattle.sfv_lint_report.specs.declared.report.{Field.Field, Report.Report}
 use Rattle.sfv_lint_notes.specs.declared.notes.Note.{Note}
-use Rattle.sfv_lint_output.specs.Lines.{IsBlock, AppendsBlock, AppendsBlocks, AppendsNotes, IsPrinted}
-use Rattle.sfv_lint_output.specs.Lines.{note_line, tree_lines, named_others}
+use Rattle.sfv_lint_output.specs.Lines.{IsBlock, AppendsBlock, AppendsBlocks, AppendsNotes, IsPrinted, note_line}
+use Rattle.sfv_lint_output.specs.Lines.{tree_lines, named_others}
 
 pub zip_push : {A B : Type 0} (R : A → B → Type 0) (xs : List A) (ys : List B) (x : A) (y : B) → AllZip R xs ys → R x y
     → AllZip R (xs ++ x ∷ []) (ys ++ y ∷ [])

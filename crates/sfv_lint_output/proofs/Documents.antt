@@ -1,24 +1,16 @@
 -- The document of a report, one field at a time.
-use Rattle.std.proofs.Common.{◌≡◌, ℕ, ◌+◌, ◌<◌, ◌≤◌, List, [], ◌∷◌, ◌++◌, length, take, get_or, refl, ap, ◌∙◌, false}
-use Rattle.std.specs.Prelude.{map, codes, Ok, Err, Some}
-use Rattle.std.specs.List.{AllZip}
-use Rattle.std.specs.declared.alloc.Global.{Global}
-use Rattle.std.specs.declared.vec.Vec.{Vec}
-use Rattle.std.proofs.lemmas.List.{take_more, take_all, map-append}
-use Rattle.serde_json.specs.Data.{Data, depth}
-use Rattle.serde_json.specs.Data as json
-use Rattle.serde_json.specs.View.{view}
-use Rattle.serde_json.specs.declared.value.Value.{Value}
+use Rattle.std.proofs.Common.{◌≡◌, ℕ, ◌+◌, ◌<◌, ◌≤◌, List, [], ◌∷◌, ◌++◌, length, take, get_or, false, map, codes, Ok}
+use Rattle.std.{proofs.Common.{Err, Some, take_all}, specs.List.AllZip, specs.declared.alloc.Global.Global}
+use Rattle.std.{specs.declared.vec.Vec.Vec, proofs.lemmas.List.{take_more, map-append}}
+use Rattle.serde_json.specs.{Data.{Data, depth}, Read.{read, max_depth}}
+use Rattle.serde_json.specs.{View.view, Written.{compact_text, has_float}, declared.value.Value.Value}
 use Rattle.sfv.specs.Types.{Error}
 use Rattle.sfv_lint_json.specs.Json.{array_json}
+use Rattle.sfv_lint_report.specs.declared.{check.Accepted.Accepted, report.Field.Field}
 use Rattle.sfv_lint_notes.specs.declared.notes.Note.{Note}
-use Rattle.sfv_lint_report.specs.declared.check.Accepted.{Accepted}
-use Rattle.sfv_lint_report.specs.declared.report.Field.{Field}
-use Rattle.sfv_lint_output.specs.Documents.{accepted_json, rejected_json, names_json, IsFieldJson}
-use Rattle.sfv_lint_output.specs.Documents.{IsDocument, IsDocumentText}
-use Rattle.serde_json.specs.Read.{read, max_depth}
-use Rattle.serde_json.specs.Written.{compact_text, has_float}
-use Rattle.sfv_lint_output.proofs.Blocks.{zip_push}
+use Rattle.sfv_lint_output.specs.Documents.{accepted_json, rejected_json, names_json, IsFieldJson, IsDocument}
+use Rattle.sfv_lint_output.{specs.Documents.IsDocumentText, proofs.Blocks.zip_push}
+use Rattle.serde_json.specs.Data as json
 
 pub accepted_field : (field : Field) (accepted : Accepted) (notes : List Note) (value : Data)
     → field.outcome ≡ Ok accepted → value ≡ accepted_json field accepted notes → IsFieldJson field value

@@ -1,16 +1,12 @@
 -- The output of a run, from its parts.
-use Rattle.std.proofs.Common.{◌≡◌, ℕ, List, [], ◌∷◌, ◌++◌, Bool, true, false, refl, sym, append-nil}
-use Rattle.std.specs.Prelude.{Some, string_bytes}
+use Rattle.std.proofs.Common.{◌≡◌, ℕ, List, [], ◌∷◌, ◌++◌, Bool, true, false, refl, sym, append-nil, string_bytes}
 use Rattle.sfv.specs.Types.{FieldKind}
-use Rattle.sfv_http_fields.specs.Registry.{registered_type}
-use Rattle.sfv_lint_args.specs.declared.options.Options.{Options}
 use Rattle.sfv_lint_head.specs.declared.paint.Colors.{Colors}
-use Rattle.sfv_lint_report.specs.declared.report.Field.{Field}
-use Rattle.sfv_lint_report.specs.declared.report.Report.{Report}
+use Rattle.sfv_lint_args.specs.declared.options.Options.{Options}
 use Rattle.sfv_lint_report.specs.Reports.{has_error, IsReport, IsValueReport}
-use Rattle.sfv_lint_output.specs.Documents.{IsDocumentText}
-use Rattle.sfv_lint_output.specs.Lines.{IsBlock, AppendsBlock, IsPrinted}
-use Rattle.sfv_lint_output.specs.Runs.{AppendsAdvice, IsPrintedValue, IsHeadOutput, IsValueOutput, IsFieldOutput, IsFailed}
+use Rattle.sfv_lint_report.specs.declared.report.{Field.Field, Report.Report}
+use Rattle.sfv_lint_output.specs.{Documents.IsDocumentText, Lines.{AppendsBlock, IsPrinted}}
+use Rattle.sfv_lint_output.specs.Runs.{AppendsAdvice, IsPrintedValue, IsHeadOutput, IsValueOutput, IsFailed}
 use Rattle.sfv_lint_output.specs.declared.run.Output.{Output}
 
 module _ (field : Field) (old : List ℕ) where

@@ -1,4 +1,4 @@
--- A report as lines for reading.
+-- A report as lines.
 use Rattle.std.specs.Prelude.{◌≡◌, ℕ, List, [], ◌++◌, Bool, true, codes, flat_map, if◌then◌else◌, Result, Ok, Err}
 use Rattle.std.specs.List.{AllZip, concat}
 use Rattle.sfv_lint_head.specs.declared.paint.Colors.{Colors}
@@ -37,7 +37,7 @@ outcome_lines (Err error) = []
 abbrev pub tree_lines : Bool → Field → List ℕ
 tree_lines tree field = if tree then outcome_lines field.outcome else []
 
--- what is printed on a field: its report, its tree with `--tree`, and its notes; the report alone if it has an error
+-- the lines on a field: its report, its tree with `--tree`, and its notes; the report alone if it has an error
 pub record IsBlock (colors : Colors) (tree : Bool) (field : Field) (text : List ℕ) : Type 0 where
   pub notes : List Note
   pub is : text ≡ field_text colors field ++ tree_lines tree field ++ flat_map (note_line colors) notes
@@ -49,13 +49,13 @@ pub record AppendsNotes (colors : Colors) (field : Field) (old new : List ℕ) :
   pub rejected : has_error field ≡ true → notes ≡ []
   pub is : new ≡ old ++ flat_map (note_line colors) notes
 
--- what is printed on a field is appended
+-- the lines on a field are appended
 pub record AppendsBlock (colors : Colors) (tree : Bool) (field : Field) (old new : List ℕ) : Type 0 where
   pub text : List ℕ
   pub block : IsBlock colors tree field text
   pub is : new ≡ old ++ text
 
--- what is printed on the fields is appended, one after another
+-- the lines on the fields are appended, one field after another
 pub record AppendsBlocks (colors : Colors) (tree : Bool) (fields : List Field) (old new : List ℕ) : Type 0 where
   pub blocks : List (List ℕ)
   pub are : AllZip (IsBlock colors tree) fields blocks
@@ -65,7 +65,7 @@ pub record AppendsBlocks (colors : Colors) (tree : Bool) (fields : List Field) (
 abbrev pub named_others : Bool → Report → List ℕ
 named_others all report = if all then others_text report.others.items else []
 
--- what is printed on a head: its fields, with `--all` the names of the other field lines, and the counts
+-- the lines on a head: its fields, with `--all` the names of the other field lines, and the counts
 pub record IsPrinted (colors : Colors) (tree all : Bool) (report : Report) (text : List ℕ) : Type 0 where
   pub blocks : List (List ℕ)
   pub are : AllZip (IsBlock colors tree) report.fields.items blocks

@@ -62,7 +62,7 @@ fn tree_of(alloc: Global, value: &FieldValue) -> Result<String, OutOfMemory>
     Ok(text)
 }
 
-/// Appends the tree of a field, if it has no error and `tree` says so.
+/// Appends the tree of a field if `tree` is true and the field has no error.
 fn append_tree(
     alloc: Global,
     out: &mut String,
@@ -120,7 +120,7 @@ fn append_blocks(
     Ok(())
 }
 
-/// Appends the names of the other field lines, if `all` says so.
+/// Appends the names of the other field lines if `all` is true.
 fn append_named(out: &mut String, report: &Report, all: bool) -> Result<(), AllocError>
     ensures { OnOk result (string_bytes out.new ≡ string_bytes out.old ++ named_others all report.now) }
 {

@@ -1,6 +1,4 @@
-use Rattle.std.proofs.Common.{take}
-use Rattle.std.specs.Prelude.{map}
-use Rattle.std.specs.List.{AllZip}
+use Rattle.std.{proofs.Common.{take, map}, specs.List.AllZip}
 use Rattle.serde_json.specs.View.{view}
 use Rattle.sfv_lint_output.specs.Documents.{IsFieldJson}
 use Rattle.sfv_lint_output.proofs.document.fields.Given as goal

@@ -1,5 +1,4 @@
-use Rattle.std.proofs.Common.{◌≡◌, take}
-use Rattle.std.specs.Prelude.{map}
+use Rattle.std.proofs.Common.{◌≡◌, take, map}
 use Rattle.serde_json.specs.View.{view}
 use Rattle.sfv_lint_output.specs.Documents.{bytes_json}
 use Rattle.sfv_lint_output.proofs.document.names.Given as goal
