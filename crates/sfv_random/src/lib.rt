@@ -1,8 +1,10 @@
-//! Numbers, fields and texts that a seed determines (the generator SplitMix64), and keys that collide under a hash seed.
+//! Numbers, fields and texts that a seed determines (the generator SplitMix64), keys that collide under a hash seed, and rows
+//! of tests that name themselves.
 #![tactic(auto)]
 
 pub mod fields;
 pub mod keys;
+pub mod rows;
 pub mod texts;
 
 /// A source of numbers.
