@@ -78,40 +78,39 @@ fn a_text_requests_eight_bytes_for_each_of_a_thousand_parts(rt: HostRuntime) -> 
     Ok(())
 }
 
-/// The place of `tail` in `LENGTHS` for pieces that are appended one by one.
-const EACH: usize = usize::MAX;
-
-/// Fields of repeated pieces: the type, the first capacity, a text before the pieces, a piece, a text after them, and
-/// `tail`: how many bytes are appended after the pieces.
-const LENGTHS: &[(&str, usize, &str, &str, &str, usize)] = &[
-    ("item", 32, "", "b", "", 0),
-    ("item", 32, "\"", "a", "\"", 1),
-    ("item", 32, "\"", "\\\\", "\"", EACH),
-    ("item", 32, ":", "aGkh", ":", 0),
-    ("item", 32, ":", "aGkh", "aA==:", 0),
-    ("item", 32, ":", "aGkh", "aGk=:", 0),
-    ("item", 32, "%\"", "a", "\"", 1),
-    ("item", 32, "%\"", "%c3%bc", "\"", EACH),
-    ("item", 40, "1;", "k", "", 0),
-    ("item", 48, "1;a;b=", "c", "", 0),
-    ("list", 72, "", "b", "", 0),
-    ("list", 80, "", "b", ", a", 3),
-    ("list", 80, "a, :", "aGkh", ":", 0),
-    ("list", 88, "a, b, ", "c", "", 0),
-    ("dict", 72, "", "k", "=b", 2),
-    ("dict", 72, "a=", "b", "", 0),
+/// Fields of repeated pieces: the type, the first capacity, a text before the pieces, a piece, a text after them, `tail`: how
+/// many bytes are appended after the pieces, and `extra`: how many bytes of an escape the value lacks.
+const LENGTHS: &[(&str, usize, &str, &str, &str, usize, usize)] = &[
+    ("item", 32, "", "b", "", 0, 0),
+    ("item", 32, "\"", "a", "\"", 0, 0),
+    ("item", 32, "\"", "\\\\", "\"", 0, 1),
+    ("item", 32, ":", "aGkh", ":", 0, 0),
+    ("item", 32, ":", "aGkh", "aA==:", 0, 0),
+    ("item", 32, ":", "aGkh", "aGk=:", 0, 0),
+    ("item", 32, "%\"", "a", "\"", 0, 0),
+    ("item", 32, "%\"", "%c3%bc", "\"", 0, 4),
+    ("item", 40, "1;", "k", "", 0, 0),
+    ("item", 48, "1;a;b=", "c", "", 0, 0),
+    ("list", 72, "", "b", "", 0, 0),
+    ("list", 80, "", "b", ", a", 3, 0),
+    ("list", 80, "a, :", "aGkh", ":", 0, 0),
+    ("list", 88, "a, b, ", "c", "", 0, 0),
+    ("dict", 72, "", "k", "=b", 2, 0),
+    ("dict", 72, "a=", "b", "", 0, 0),
 ];
 
-// A text that is full doubles its capacity, or takes what it lacks if that is more.
+// A text that is full doubles its capacity, or takes what it lacks if that is more. A string requests room for its value
+// and its quotes at once.
 #[test]
 fn a_text_keeps_at_most_twice_its_length(rt: HostRuntime) -> Result<(), Fail> {
     let alloc = rt.alloc();
-    for &(field, first, begin, piece, end, tail) in LENGTHS {
+    for &(field, first, begin, piece, end, tail, extra) in LENGTHS {
         let bytes = piece.len().max(1);
         for &times in numbers(alloc, NEAR / bytes, FAR / bytes)?.iter() {
             if times > 0 {
                 let text = repeated(alloc, begin, piece, times, end)?;
-                let rest = text.len().saturating_sub(tail);
+                let late = tail.saturating_add(extra.saturating_mul(times));
+                let rest = text.len().saturating_sub(late);
                 let once = if rest <= first {
                     first
                 } else {
