@@ -17,8 +17,7 @@ same_name fields.ReprDigest = refl
 pub named_text : (field : DigestField) (headers : Entries FieldValue) (name : List ℕ) (found : Option (CowSlice ℕ Global))
     (text : CowSlice ℕ Global) → name ≡ name_of field → option_map cow_slice_items found ≡ text_in headers (lowercase name)
     → found ≡ Some text → text_in headers (name_of field) ≡ Some (cow_slice_items text)
-named_text field headers name found text is has some =
-    ap (λ (n : List ℕ). text_in headers n) (sym (same_name field))
+named_text field headers name found text is has some = ap (λ (n : List ℕ). text_in headers n) (sym (same_name field))
     ∙ ap (λ (n : List ℕ). text_in headers (lowercase n)) (sym is) ∙ sym has
     ∙ ap (λ (o : Option (CowSlice ℕ Global)). option_map cow_slice_items o) some
 
@@ -34,5 +33,4 @@ verified_in content headers name text (Err e) some h = tt
 -- two lines of a field whose name is in lower case
 pub named_lines : (field : DigestField) (headers : Entries FieldValue) (name : List ℕ) → name ≡ name_of field
     → 1 < length (lines_in headers (lowercase name)) → 1 < length (lines_in headers (name_of field))
-named_lines field headers name is h =
-    subst (λ n. 1 < length (lines_in headers n)) (ap lowercase is ∙ same_name field) h
+named_lines field headers name is h = subst (λ n. 1 < length (lines_in headers n)) (ap lowercase is ∙ same_name field) h

@@ -50,5 +50,4 @@ one_more_line f version lines xs i d old new h with_line so_far = (
 -- each line of the head is covered
 pub all_lines : {A : Type 0} (f : A → List ℕ × List ℕ) (report : Report) (xs : List A) (n : ℕ) → length xs ≤ n
     → All (λ x. IsCovered report (f x).0) (take n xs) → All (λ line. IsCovered report line.0) (map f xs)
-all_lines f report xs n long h =
-    All-map (λ line. IsCovered report line.0) f xs (rw (take_all n xs long) at h)
+all_lines f report xs n long h = All-map (λ line. IsCovered report line.0) f xs (rw (take_all n xs long) at h)

@@ -1,10 +1,11 @@
-//! Numbers, fields and texts that a seed determines (the generator SplitMix64), keys that collide under a hash seed, and
-//! whether a call loses memory.
+//! Numbers, fields and texts that a seed determines (the generator SplitMix64), keys that collide under a hash seed,
+//! whether a call loses memory, and rows of tests that name themselves.
 #![tactic(auto)]
 
 pub mod fields;
 pub mod keys;
 pub mod leaks;
+pub mod rows;
 pub mod texts;
 
 /// A source of numbers.

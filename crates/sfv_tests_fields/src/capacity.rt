@@ -1,9 +1,11 @@
 //! The capacity of parsed and built lists, inner lists, dictionaries and parameters.
 
 use crate::common::{
-    NEAR, counted, doubled, field_of, map_capacity, numbers, repeated, version_of,
+    NEAR, counted, dictionary_of, doubled, field_of, item_of, list_of, map_capacity, numbers,
+    repeated, version_of,
 };
 use sfv::{Dictionary, Item, List, ListEntry, Parameters, Parser, Version};
+use sfv_random::rows::row;
 use sfv_random::texts::filled;
 use std::alloc::Global;
 use std::fmt::Write;
@@ -59,14 +61,14 @@ fn is_dictionary_fit(dictionary: &Dictionary, count: usize, before: usize) -> bo
 /// Returns `true` if `parse` and `parse_item` make an item with this many parameters, with the right capacity.
 fn is_item_fit(alloc: Global, parser: Parser<'_>, count: usize) -> Option<bool> {
     let built = parser.parse_item::<Item>(alloc).ok()?;
-    let parsed = parser.parse::<Item>(alloc).ok()?;
+    let parsed = item_of(alloc, parser)?;
     Some(is_fit(&built.params, 0) && is_fit(&parsed.params, 0) && parsed.params.len() == count)
 }
 
 /// Returns `true` if `parse` and `parse_list` make a list of this many members, with the right capacities.
 fn are_lists_fit(alloc: Global, parser: Parser<'_>, count: usize) -> Option<bool> {
     let built = parser.parse_list::<List>(alloc).ok()?;
-    let parsed = parser.parse::<List>(alloc).ok()?;
+    let parsed = list_of(alloc, parser)?;
     Some(is_list_fit(&built, count) && is_list_fit(&parsed, count))
 }
 
@@ -78,25 +80,25 @@ fn are_dictionaries_fit(
     before: usize,
 ) -> Option<bool> {
     let built = parser.parse_dictionary::<Dictionary>(alloc).ok()?;
-    let parsed = parser.parse::<Dictionary>(alloc).ok()?;
+    let parsed = dictionary_of(alloc, parser)?;
     Some(is_dictionary_fit(&built, count, before) && is_dictionary_fit(&parsed, count, before))
 }
 
-/// Returns `true` if each call makes a field of this many members or parameters, with the right capacities.
+/// Fails unless each call makes a field of this many members or parameters, with the right capacities.
 pub fn fits(
     alloc: Global,
     field: &str,
     version: Version,
     input: &str,
     (count, before): (usize, usize),
-) -> bool {
+) -> Result<(), Fail> {
     let parser = Parser::new(input.as_bytes()).with_version(version);
     let answer = match field {
         "item" => is_item_fit(alloc, parser, count),
         "list" => are_lists_fit(alloc, parser, count),
         _ => are_dictionaries_fit(alloc, parser, count, before),
     };
-    answer == Some(true)
+    row(field, version, input, count, answer == Some(true))
 }
 
 /// Fields of numbered parts: the type, the arguments `dense` and `most` of `numbers`, and the arguments of `field_of`.
@@ -126,14 +128,14 @@ const FIELDS: &[(&str, usize, usize, (&str, &str, &str, &str))] = &[
     ("dict", 0, 50_000, ("", "k#=(a;b~);b~", ", ", "")),
 ];
 
-/// Returns `true` if a field of so many parts has the right capacities under this version.
+/// Fails unless a field of so many parts has the right capacities under this version.
 fn parts_fit(
     alloc: Global,
     field: &str,
     is_newer: bool,
     parts: (&str, &str, &str, &str),
     count: usize,
-) -> Result<bool, Fail> {
+) -> Result<(), Fail> {
     let (version, values) = version_of(is_newer);
     let text = field_of(alloc, parts, values, count)?;
     let wanted = if parts.0.ends_with("(") {
@@ -141,40 +143,36 @@ fn parts_fit(
     } else {
         count
     };
-    Ok(fits(alloc, field, version, text.as_str(), (wanted, 0)))
+    fits(alloc, field, version, text.as_str(), (wanted, 0))
 }
 
-/// Returns `true` if fields of this type have the right capacities. The versions take turns, so both have each number of
+/// Fails unless fields of this type have the right capacities. The versions take turns, so both have each number of
 /// parts up to 600.
-fn all_fit(alloc: Global, field: &str) -> Result<bool, Fail> {
-    let mut holds = true;
+fn all_fit(alloc: Global, field: &str) -> Result<(), Fail> {
     for (row, &(kind, dense, most, parts)) in FIELDS.iter().enumerate() {
         for (place, &count) in numbers(alloc, dense, most)?.iter().enumerate() {
             if kind == field {
                 let is_newer = row % 2 == place % 2;
-                holds &= parts_fit(alloc, field, is_newer, parts, count)?;
+                parts_fit(alloc, field, is_newer, parts, count)?;
             }
         }
     }
-    Ok(holds)
+    Ok(())
 }
 
 #[test]
 fn lists_have_little_unused_memory(rt: HostRuntime) -> Result<(), Fail> {
-    assert!(rt; all_fit(rt.alloc(), "list")?);
-    Ok(())
+    all_fit(rt.alloc(), "list")
 }
 
 #[test]
 fn dictionaries_have_little_unused_memory(rt: HostRuntime) -> Result<(), Fail> {
-    assert!(rt; all_fit(rt.alloc(), "dict")?);
-    Ok(())
+    all_fit(rt.alloc(), "dict")
 }
 
 #[test]
 fn items_have_little_unused_memory(rt: HostRuntime) -> Result<(), Fail> {
-    assert!(rt; all_fit(rt.alloc(), "item")?);
-    Ok(())
+    all_fit(rt.alloc(), "item")
 }
 
 /// Fields with numbered parts in the place of each `$`: the type, the field, a part, the separator, the most parts, and
@@ -189,7 +187,6 @@ const TWICE: &[(&str, &str, &str, &str, usize, usize)] = &[
 #[test]
 fn repeated_keys_need_no_memory(rt: HostRuntime) -> Result<(), Fail> {
     let alloc = rt.alloc();
-    let mut holds = true;
     for &(field, place, part, separator, most, members) in TWICE {
         for (turn, &count) in numbers(alloc, 0, most)?.iter().enumerate() {
             if count > 0 {
@@ -197,11 +194,10 @@ fn repeated_keys_need_no_memory(rt: HostRuntime) -> Result<(), Fail> {
                 let parts = field_of(alloc, ("", part, separator, ""), values, count)?;
                 let text = filled(alloc, place, parts.as_str())?;
                 let wanted = if members > 0 { members } else { count };
-                holds &= fits(alloc, field, version, text.as_str(), (wanted, count));
+                fits(alloc, field, version, text.as_str(), (wanted, count))?;
             }
         }
     }
-    assert!(rt; holds);
     Ok(())
 }
 
@@ -238,27 +234,24 @@ fn with_params(
 #[test]
 fn parameters_have_little_unused_memory(rt: HostRuntime) -> Result<(), Fail> {
     let alloc = rt.alloc();
-    let mut holds = true;
     for &before in &[1, 4_000] {
         for &is_newer in &[true, false] {
             let (version, values) = version_of(is_newer);
             let text = with_params(alloc, "list", values, before - 1)?;
-            holds &= fits(alloc, "list", version, text.as_str(), (before + 3 * 301, 0));
+            fits(alloc, "list", version, text.as_str(), (before + 3 * 301, 0))?;
             let text = with_params(alloc, "inner", values, before - 1)?;
-            holds &= fits(alloc, "list", version, text.as_str(), (1, 0));
+            fits(alloc, "list", version, text.as_str(), (1, 0))?;
             let text = with_params(alloc, "dict", values, before)?;
-            holds &= fits(alloc, "dict", version, text.as_str(), (before + 2 * 301, 0));
+            fits(alloc, "dict", version, text.as_str(), (before + 2 * 301, 0))?;
         }
     }
-    assert!(rt; holds);
     Ok(())
 }
 
 #[test]
-fn empty_fields_have_no_memory(rt: HostRuntime) {
-    let alloc = rt.alloc();
-    assert!(rt; fits(alloc, "list", Version::Rfc9651, " ", (0, 0)));
-    assert!(rt; fits(alloc, "dict", Version::Rfc9651, " ", (0, 0)));
+fn empty_fields_have_no_memory(rt: HostRuntime) -> Result<(), Fail> {
+    fits(rt.alloc(), "list", Version::Rfc9651, " ", (0, 0))?;
+    fits(rt.alloc(), "dict", Version::Rfc9651, " ", (0, 0))
 }
 
 /// Returns a field with so many members, and then members and items with many parameters.
@@ -278,22 +271,15 @@ fn with_many(alloc: Global, field: &str, before: usize, number: usize) -> Result
 #[test]
 fn many_parameters_have_little_unused_memory(rt: HostRuntime) -> Result<(), Fail> {
     let alloc = rt.alloc();
-    let mut holds = true;
     for &before in &[1, 100, 4_000, 7_000] {
         for &number in numbers(alloc, 0, NEAR)?.iter() {
             let list = with_many(alloc, "list", before, number)?;
-            holds &= fits(
-                alloc,
-                "list",
-                Version::Rfc8941,
-                list.as_str(),
-                (before.saturating_add(2), 0),
-            );
+            let wanted = (before.saturating_add(2), 0);
+            fits(alloc, "list", Version::Rfc8941, list.as_str(), wanted)?;
             let dictionary = with_many(alloc, "dict", before, number)?;
             let wanted = (before.saturating_add(3), 0);
-            holds &= fits(alloc, "dict", Version::Rfc8941, dictionary.as_str(), wanted);
+            fits(alloc, "dict", Version::Rfc8941, dictionary.as_str(), wanted)?;
         }
     }
-    assert!(rt; holds);
     Ok(())
 }

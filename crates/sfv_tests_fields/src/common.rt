@@ -20,6 +20,21 @@ pub fn has_text(text: Option<String>, wanted: &str) -> bool {
     }
 }
 
+/// Returns the item, if the input is one.
+pub fn item_of(alloc: Global, parser: Parser<'_>) -> Option<Item> {
+    parser.parse::<Item>(alloc).ok()
+}
+
+/// Returns the list, if the input is one.
+pub fn list_of(alloc: Global, parser: Parser<'_>) -> Option<List> {
+    parser.parse::<List>(alloc).ok()
+}
+
+/// Returns the dictionary, if the input is one.
+pub fn dictionary_of(alloc: Global, parser: Parser<'_>) -> Option<Dictionary> {
+    parser.parse::<Dictionary>(alloc).ok()
+}
+
 /// Returns the canonical text of the field that the input parses to.
 fn written<T: FieldType>(alloc: Global, input: &str) -> Option<String> {
     let field = Parser::new(input.as_bytes()).parse::<T>(alloc).ok()?;

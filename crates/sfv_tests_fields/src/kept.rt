@@ -1,15 +1,17 @@
 //! The capacity of written texts. The module `owned` has the texts of bare items and keys, and the module `capacity` has
 //! lists, dictionaries and parameters.
 
-use crate::common::{NEAR, counted, doubled, is_grown, numbers, repeated};
-use crate::sizes::{FAR, TEXTS, item_calls, member_calls};
-use sfv::script::{
-    ItemCalls, MemberCalls, run_dict, run_dict_for, run_item, run_item_for, run_list, run_list_for,
+use crate::common::{
+    NEAR, counted, dictionary_of, doubled, is_grown, item_of, list_of, numbers, repeated,
 };
-use sfv::{
-    DictSerializer, Dictionary, FieldType, InnerListSerializer, Item, ItemSerializer, KeyRef, List,
-    ListEntry, ListSerializer, Parser, Sink, Version,
+use crate::sizes::{FAR, TEXTS};
+use crate::ways::{
+    EntryCalls, ONCE, SCRIPT, SINGLE, TWICE, WHOLE, dictionary_calls, item_calls, list_calls,
+    put_at_once, put_entry, put_member, write_dictionary, write_item, write_list,
 };
+use sfv::script::{ItemCalls, MemberCalls, run_dict_for, run_list_for};
+use sfv::{DictSerializer, Dictionary, FieldType, Item, List, ListSerializer, Parser, Version};
+use sfv_random::rows::row;
 use sfv_random::texts::filled;
 use sfv_writer::output::{serialize_separator, truncate_to};
 use std::alloc::{AllocError, Global};
@@ -38,18 +40,17 @@ fn capacity_of<T: FieldType>(alloc: Global, version: Version, input: &str) -> Op
     }
 }
 
-/// Returns `true` if the text of the item, list or dictionary of the input has this capacity.
-fn has_capacity(alloc: Global, field: &str, input: &str, wanted: usize) -> bool {
-    let mut holds = true;
+/// Fails unless the text of the item, list or dictionary of the input has this capacity.
+fn has_capacity(alloc: Global, field: &str, input: &str, wanted: usize) -> Result<(), Fail> {
     for &version in versions_of(input) {
         let capacity = match field {
             "item" => capacity_of::<Item>(alloc, version, input),
             "list" => capacity_of::<List>(alloc, version, input),
             _ => capacity_of::<Dictionary>(alloc, version, input),
         };
-        holds &= capacity == Some(wanted);
+        row(field, version, input, wanted, capacity == Some(wanted))?;
     }
-    holds
+    Ok(())
 }
 
 /// Fields of numbered parts of few bytes: the type, a text before the parts, a text before each number, the separator,
@@ -64,65 +65,61 @@ const PARTS: &[(&str, &str, &str, &str, usize)] = &[
 #[test]
 fn a_text_requests_eight_bytes_for_each_of_a_thousand_parts(rt: HostRuntime) -> Result<(), Fail> {
     let alloc = rt.alloc();
-    let mut holds = has_capacity(alloc, "item", "1", 32);
+    has_capacity(alloc, "item", "1", 32)?;
     for &(field, begin, front, separator, least) in PARTS {
         for &count in numbers(alloc, 601, 100_000)?.iter() {
             if count > 0 {
                 let text = counted(alloc, begin, front, separator, "", count)?;
                 let first = least.saturating_add(8 * count.min(1_000));
-                holds &= has_capacity(alloc, field, text.as_str(), doubled(first, text.len()));
+                has_capacity(alloc, field, text.as_str(), doubled(first, text.len()))?;
             }
         }
     }
-    assert!(rt; holds);
     Ok(())
 }
 
-/// The place of `tail` in `LENGTHS` for pieces that are appended one by one.
-const EACH: usize = usize::MAX;
-
-/// Fields of repeated pieces: the type, the first capacity, a text before the pieces, a piece, a text after them, and
-/// `tail`: how many bytes are appended after the pieces.
-const LENGTHS: &[(&str, usize, &str, &str, &str, usize)] = &[
-    ("item", 32, "", "b", "", 0),
-    ("item", 32, "\"", "a", "\"", 1),
-    ("item", 32, "\"", "\\\\", "\"", EACH),
-    ("item", 32, ":", "aGkh", ":", 0),
-    ("item", 32, ":", "aGkh", "aA==:", 0),
-    ("item", 32, ":", "aGkh", "aGk=:", 0),
-    ("item", 32, "%\"", "a", "\"", 1),
-    ("item", 32, "%\"", "%c3%bc", "\"", EACH),
-    ("item", 40, "1;", "k", "", 0),
-    ("item", 48, "1;a;b=", "c", "", 0),
-    ("list", 72, "", "b", "", 0),
-    ("list", 80, "", "b", ", a", 3),
-    ("list", 80, "a, :", "aGkh", ":", 0),
-    ("list", 88, "a, b, ", "c", "", 0),
-    ("dict", 72, "", "k", "=b", 2),
-    ("dict", 72, "a=", "b", "", 0),
+/// Fields of repeated pieces: the type, the first capacity, a text before the pieces, a piece, a text after them, `tail`: how
+/// many bytes are appended after the pieces, and `extra`: how many bytes of an escape the value lacks.
+const LENGTHS: &[(&str, usize, &str, &str, &str, usize, usize)] = &[
+    ("item", 32, "", "b", "", 0, 0),
+    ("item", 32, "\"", "a", "\"", 0, 0),
+    ("item", 32, "\"", "\\\\", "\"", 0, 1),
+    ("item", 32, ":", "aGkh", ":", 0, 0),
+    ("item", 32, ":", "aGkh", "aA==:", 0, 0),
+    ("item", 32, ":", "aGkh", "aGk=:", 0, 0),
+    ("item", 32, "%\"", "a", "\"", 0, 0),
+    ("item", 32, "%\"", "%c3%bc", "\"", 0, 4),
+    ("item", 40, "1;", "k", "", 0, 0),
+    ("item", 48, "1;a;b=", "c", "", 0, 0),
+    ("list", 72, "", "b", "", 0, 0),
+    ("list", 80, "", "b", ", a", 3, 0),
+    ("list", 80, "a, :", "aGkh", ":", 0, 0),
+    ("list", 88, "a, b, ", "c", "", 0, 0),
+    ("dict", 72, "", "k", "=b", 2, 0),
+    ("dict", 72, "a=", "b", "", 0, 0),
 ];
 
-// A text that is full doubles its capacity, or takes what it lacks if that is more.
+// A text that is full doubles its capacity, or takes what it lacks if that is more. A string requests room for its value
+// and its quotes at once.
 #[test]
 fn a_text_keeps_at_most_twice_its_length(rt: HostRuntime) -> Result<(), Fail> {
     let alloc = rt.alloc();
-    let mut holds = true;
-    for &(field, first, begin, piece, end, tail) in LENGTHS {
+    for &(field, first, begin, piece, end, tail, extra) in LENGTHS {
         let bytes = piece.len().max(1);
         for &times in numbers(alloc, NEAR / bytes, FAR / bytes)?.iter() {
             if times > 0 {
                 let text = repeated(alloc, begin, piece, times, end)?;
-                let rest = text.len().saturating_sub(tail);
+                let late = tail.saturating_add(extra.saturating_mul(times));
+                let rest = text.len().saturating_sub(late);
                 let once = if rest <= first {
                     first
                 } else {
                     rest.max(2 * first)
                 };
-                holds &= has_capacity(alloc, field, text.as_str(), doubled(once, text.len()));
+                has_capacity(alloc, field, text.as_str(), doubled(once, text.len()))?;
             }
         }
     }
-    assert!(rt; holds);
     Ok(())
 }
 
@@ -142,8 +139,8 @@ fn appends_nothing<T: FieldType>(alloc: Global, version: Version) -> bool {
 fn an_empty_field_requests_no_memory(rt: HostRuntime) {
     let alloc = rt.alloc();
     for &version in versions_of("") {
-        assert!(rt; appends_nothing::<List>(alloc, version));
-        assert!(rt; appends_nothing::<Dictionary>(alloc, version));
+        assert!(rt; appends_nothing::<List>(alloc, version), "{version}");
+        assert!(rt; appends_nothing::<Dictionary>(alloc, version), "{version}");
     }
 }
 
@@ -178,216 +175,91 @@ fn is_at_end(text: &String, wanted: &str, (full, room): (usize, usize), first: u
         && is_grown(text.capacity(), full_or_first, len)
 }
 
-/// Writes an item: its first parameter by a single call, and then the others at once.
-fn put_item(serializer: ItemSerializer<'_>, item: &Item) -> Option<()> {
-    let mut serializer = serializer.bare_item(item.bare_item.as_ref_item()).ok()?;
-    let mut params = item.params.iter();
-    if let Some((key, value)) = params.next() {
-        serializer = serializer
-            .parameter(key.as_key_ref(), value.as_ref_item())
-            .ok()?;
-    }
-    serializer.parameters(params).ok()?.finish();
-    Some(())
-}
+/// The numbers of bytes of a text and of the rooms in it.
+type Rooms<'a> = (usize, &'a [usize]);
 
-/// Writes items in the same way.
-fn put_items<X: Sink>(inner: &mut InnerListSerializer<X>, items: &Vec<Item>) -> Option<()> {
-    let mut items = items.iter();
-    if let Some(item) = items.next() {
-        let params = inner.bare_item(item.bare_item.as_ref_item()).ok()?;
-        params.parameters(item.params.iter()).ok()?.finish();
-    }
-    inner.items(items).ok()
-}
-
-/// Writes an item in one of three ways.
-fn write_item(
+/// Returns `true` if the item is written in each way into the text, with each room.
+fn is_item_put(
     version: Version,
-    way: usize,
-    item: &Item,
-    calls: &ItemCalls<'_>,
-    text: &mut String,
-) -> Option<()> {
-    match way {
-        0 => {
-            item.append_to(version, text).ok()?;
-        }
-        1 if version == Version::Rfc9651 => run_item(text, calls).ok()?,
-        1 => run_item_for(version, text, calls).ok()?,
-        _ => put_item(ItemSerializer::with_buffer_for(text, version), item)?,
-    }
-    Some(())
-}
-
-/// Writes a list member by single calls.
-fn put_member<W: Sink>(list: &mut ListSerializer<W>, member: &ListEntry) -> Option<()> {
-    match member {
-        ListEntry::Item(item) => {
-            let mut params = list.bare_item(item.bare_item.as_ref_item()).ok()?;
-            let mut rest = item.params.iter();
-            if let Some((key, value)) = rest.next() {
-                params = params
-                    .parameter(key.as_key_ref(), value.as_ref_item())
-                    .ok()?;
-            }
-            params.parameters(rest).ok()?.finish();
-        }
-        ListEntry::InnerList(inner_list) => {
-            let mut inner = list.inner_list().ok()?;
-            if put_items(&mut inner, &inner_list.items).is_none() {
-                inner.abandon();
-                return None;
-            }
-            let params = inner.finish().ok()?;
-            params.parameters(inner_list.params.iter()).ok()?.finish();
-        }
-    }
-    Some(())
-}
-
-/// Writes a list in one of four ways. The last one writes it twice.
-fn write_list(
-    version: Version,
-    way: usize,
-    list: &List,
-    calls: &[MemberCalls<'_>],
-    text: &mut String,
-) -> Option<()> {
-    match way {
-        0 => {
-            list.append_to(version, text).ok()?;
-        }
-        1 if version == Version::Rfc9651 => {
-            run_list(text, calls).ok()?;
-        }
-        1 => {
-            run_list_for(version, text, calls).ok()?;
-        }
-        2 => {
-            let mut serializer = ListSerializer::with_buffer_for(text, version);
-            for member in list.iter() {
-                put_member(&mut serializer, member)?;
-            }
-            let _ = serializer.finish();
-        }
-        _ => {
-            let mut serializer = ListSerializer::with_buffer_for(text, version);
-            serializer.members(list.iter()).ok()?;
-            serializer.members(list.iter()).ok()?;
-            let _ = serializer.finish();
-        }
-    }
-    Some(())
-}
-
-/// Writes a dictionary member by single calls.
-fn put_entry<W: Sink>(
-    dictionary: &mut DictSerializer<W>,
-    key: KeyRef<'_>,
-    member: &ListEntry,
-) -> Option<()> {
-    match member {
-        ListEntry::Item(item) => {
-            let params = dictionary
-                .bare_item(key, item.bare_item.as_ref_item())
-                .ok()?;
-            params.parameters(item.params.iter()).ok()?.finish();
-        }
-        ListEntry::InnerList(inner_list) => {
-            let mut inner = dictionary.inner_list(key).ok()?;
-            if put_items(&mut inner, &inner_list.items).is_none() {
-                inner.abandon();
-                return None;
-            }
-            let params = inner.finish().ok()?;
-            params.parameters(inner_list.params.iter()).ok()?.finish();
-        }
-    }
-    Some(())
-}
-
-/// Writes a dictionary in one of four ways. The last one writes it twice.
-fn write_dictionary(
-    version: Version,
-    way: usize,
-    dictionary: &Dictionary,
-    calls: &[(KeyRef<'_>, MemberCalls<'_>)],
-    text: &mut String,
-) -> Option<()> {
-    match way {
-        0 => {
-            dictionary.append_to(version, text).ok()?;
-        }
-        1 if version == Version::Rfc9651 => {
-            run_dict(text, calls).ok()?;
-        }
-        1 => {
-            run_dict_for(version, text, calls).ok()?;
-        }
-        2 => {
-            let mut serializer = DictSerializer::with_buffer_for(text, version);
-            for (key, member) in dictionary.iter() {
-                put_entry(&mut serializer, key.as_key_ref(), member)?;
-            }
-            let _ = serializer.finish();
-        }
-        _ => {
-            let mut serializer = DictSerializer::with_buffer_for(text, version);
-            serializer.members(dictionary.iter()).ok()?;
-            serializer.members(dictionary.iter()).ok()?;
-            let _ = serializer.finish();
-        }
-    }
-    Some(())
-}
-
-/// Returns `true` if the item is written in each way into texts of this capacity with room for so many bytes.
-fn item_grows(
-    alloc: Global,
-    version: Version,
-    (full, rooms): (usize, &[usize]),
+    (full, rooms): Rooms<'_>,
     input: &str,
+    (item, calls): (&Item, &ItemCalls<'_>),
+    text: &mut String,
 ) -> Option<bool> {
-    let parser = Parser::new(input.as_bytes()).with_version(version);
-    let item = parser.parse::<Item>(alloc).ok()?;
-    let calls = item_calls(alloc, &item)?;
-    let mut text = long_text(alloc, full).ok()?;
     let mut holds = true;
     for &room in rooms {
-        for way in 0..3usize {
-            cut(&mut text, full, room)?;
-            write_item(version, way, &item, &calls, &mut text)?;
+        for &way in &[WHOLE, SCRIPT, SINGLE] {
+            cut(text, full, room)?;
+            write_item(version, way, item, calls, text)?;
             // `append_to` does not request memory first for an item.
-            let first = if way == 0 { 0 } else { 128 };
-            holds &= is_at_end(&text, input, (full, room), first);
+            let first = if way == WHOLE { 0 } else { 128 };
+            holds &= is_at_end(text, input, (full, room), first);
         }
     }
     Some(holds)
 }
 
-/// The same for a list.
+/// Returns `true` if the item is written in each way into texts of this capacity with room for so many bytes.
+fn item_grows(alloc: Global, version: Version, rooms: Rooms<'_>, input: &str) -> Option<bool> {
+    let parser = Parser::new(input.as_bytes()).with_version(version);
+    let item = item_of(alloc, parser)?;
+    let calls = item_calls(alloc, &item)?;
+    let mut text = long_text(alloc, rooms.0).ok()?;
+    is_item_put(version, rooms, input, (&item, &calls), &mut text)
+}
+
+/// The ways to write a list or a dictionary.
+const WAYS: &[usize] = &[WHOLE, SCRIPT, SINGLE, TWICE];
+
+/// Returns `true` if the list is written in each way into the text, with each room.
+fn is_list_put(
+    version: Version,
+    (full, rooms): Rooms<'_>,
+    (input, twice): (&str, &str),
+    (list, calls): (&List, &[MemberCalls<'_>]),
+    text: &mut String,
+) -> Option<bool> {
+    let mut holds = true;
+    for &room in rooms {
+        for &way in WAYS {
+            cut(text, full, room)?;
+            write_list(version, way, list, calls, text)?;
+            let wanted = if way == TWICE { twice } else { input };
+            holds &= is_at_end(text, wanted, (full, room), 128);
+        }
+    }
+    Some(holds)
+}
+
+/// The same for a list, whose text is also written twice.
 fn list_grows(
     alloc: Global,
     version: Version,
-    (full, rooms): (usize, &[usize]),
-    input: &str,
+    rooms: Rooms<'_>,
+    texts: (&str, &str),
 ) -> Option<bool> {
-    let parser = Parser::new(input.as_bytes()).with_version(version);
-    let list = parser.parse::<List>(alloc).ok()?;
-    let mut calls = Vec::new(alloc);
-    for member in list.iter() {
-        calls.push(member_calls(alloc, member)?).ok()?;
-    }
-    let twice = format!(in alloc; "{input}, {input}").ok()?;
-    let mut text = long_text(alloc, full).ok()?;
+    let parser = Parser::new(texts.0.as_bytes()).with_version(version);
+    let list = list_of(alloc, parser)?;
+    let calls = list_calls(alloc, &list)?;
+    let mut text = long_text(alloc, rooms.0).ok()?;
+    is_list_put(version, rooms, texts, (&list, &calls[..]), &mut text)
+}
+
+/// Returns `true` if the dictionary is written in each way into the text, with each room.
+fn is_dictionary_put(
+    version: Version,
+    (full, rooms): Rooms<'_>,
+    (input, twice): (&str, &str),
+    (dictionary, calls): (&Dictionary, &[EntryCalls<'_>]),
+    text: &mut String,
+) -> Option<bool> {
     let mut holds = true;
     for &room in rooms {
-        for way in 0..4usize {
-            cut(&mut text, full, room)?;
-            write_list(version, way, &list, &calls[..], &mut text)?;
-            let wanted = if way < 3 { input } else { twice.as_str() };
-            holds &= is_at_end(&text, wanted, (full, room), 128);
+        for &way in WAYS {
+            cut(text, full, room)?;
+            write_dictionary(version, way, dictionary, calls, text)?;
+            let wanted = if way == TWICE { twice } else { input };
+            holds &= is_at_end(text, wanted, (full, room), 128);
         }
     }
     Some(holds)
@@ -397,29 +269,14 @@ fn list_grows(
 fn dictionary_grows(
     alloc: Global,
     version: Version,
-    (full, rooms): (usize, &[usize]),
-    input: &str,
+    rooms: Rooms<'_>,
+    texts: (&str, &str),
 ) -> Option<bool> {
-    let parser = Parser::new(input.as_bytes()).with_version(version);
-    let dictionary = parser.parse::<Dictionary>(alloc).ok()?;
-    let mut calls: Vec<(KeyRef<'_>, MemberCalls<'_>)> = Vec::new(alloc);
-    for (key, member) in dictionary.iter() {
-        calls
-            .push((key.as_key_ref(), member_calls(alloc, member)?))
-            .ok()?;
-    }
-    let twice = format!(in alloc; "{input}, {input}").ok()?;
-    let mut text = long_text(alloc, full).ok()?;
-    let mut holds = true;
-    for &room in rooms {
-        for way in 0..4usize {
-            cut(&mut text, full, room)?;
-            write_dictionary(version, way, &dictionary, &calls[..], &mut text)?;
-            let wanted = if way < 3 { input } else { twice.as_str() };
-            holds &= is_at_end(&text, wanted, (full, room), 128);
-        }
-    }
-    Some(holds)
+    let parser = Parser::new(texts.0.as_bytes()).with_version(version);
+    let dictionary = dictionary_of(alloc, parser)?;
+    let calls = dictionary_calls(alloc, &dictionary)?;
+    let mut text = long_text(alloc, rooms.0).ok()?;
+    is_dictionary_put(version, rooms, texts, (&dictionary, &calls[..]), &mut text)
 }
 
 /// Returns `true` if this room is tried for a text of this length: each one, or a few for a long text.
@@ -427,20 +284,21 @@ fn is_room(room: usize, len: usize) -> bool {
     len <= 150 || room <= 2 || room.abs_diff(len / 2) <= 1 || room.saturating_add(2) >= len
 }
 
-/// Returns `true` if the field of the input is written into texts of this capacity with room for so many bytes.
+/// Fails unless the field of the input is written into texts of this capacity with room for so many bytes.
 pub fn grows_with(
     alloc: Global,
     field: &str,
     version: Version,
     (full, rooms): (usize, &[usize]),
     input: &str,
-) -> bool {
+) -> Result<(), Fail> {
+    let twice = format!(in alloc; "{input}, {input}")?;
     let answer = match field {
         "item" => item_grows(alloc, version, (full, rooms), input),
-        "list" => list_grows(alloc, version, (full, rooms), input),
-        _ => dictionary_grows(alloc, version, (full, rooms), input),
+        "list" => list_grows(alloc, version, (full, rooms), (input, twice.as_str())),
+        _ => dictionary_grows(alloc, version, (full, rooms), (input, twice.as_str())),
     };
-    answer == Some(true)
+    row(field, version, input, full, answer == Some(true))
 }
 
 /// Returns each room that is tried for a field of this length, or for two.
@@ -464,17 +322,14 @@ fn rooms_for(
     Ok(rooms)
 }
 
-/// Returns `true` if the field of the input is written into texts of so many bytes that are full, or have room for each
+/// Fails unless the field of the input is written into texts of so many bytes that are full, or have room for each
 /// number of its bytes.
-pub fn grows(alloc: Global, field: &str, full: usize, input: &str) -> bool {
-    let Ok(rooms) = rooms_for(alloc, field, full, input.len()) else {
-        return false;
-    };
-    let mut holds = true;
+pub fn grows(alloc: Global, field: &str, full: usize, input: &str) -> Result<(), Fail> {
+    let rooms = rooms_for(alloc, field, full, input.len())?;
     for &version in versions_of(input) {
-        holds &= grows_with(alloc, field, version, (full, rooms.as_slice()), input);
+        grows_with(alloc, field, version, (full, rooms.as_slice()), input)?;
     }
-    holds
+    Ok(())
 }
 
 /// Values of each kind and of each number of digits.
@@ -545,89 +400,109 @@ const MIXED: &[(&str, &str)] = &[
 #[test]
 fn a_text_grows_at_each_byte(rt: HostRuntime) -> Result<(), Fail> {
     let alloc = rt.alloc();
-    let mut holds = true;
     for &full in &[0, 64, 500, 2_048, 5_000] {
         for &(field, place) in PLACES {
             for &value in VALUES {
                 let text = filled(alloc, place, value)?;
-                holds &= grows(alloc, field, full, text.as_str());
+                grows(alloc, field, full, text.as_str())?;
             }
         }
     }
-    assert!(rt; holds);
     Ok(())
 }
 
 #[test]
 fn a_text_grows_at_each_number(rt: HostRuntime) -> Result<(), Fail> {
     let alloc = rt.alloc();
-    let mut holds = true;
     for &number in numbers(alloc, 1_101, 999_999_999_999_999)?.iter() {
         if number > 0 {
             let less = number.min(999_999_999_999);
             let text = format!(in alloc; "{number}, -{number}, {less}.5, -{less}.125")?;
-            holds &= grows(alloc, "list", 200, text.as_str());
+            grows(alloc, "list", 200, text.as_str())?;
             let text = format!(in alloc; "k=@{number}, l=@-{number};m={number}")?;
-            holds &= grows(alloc, "dict", 200, text.as_str());
+            grows(alloc, "dict", 200, text.as_str())?;
         }
     }
-    assert!(rt; holds);
     Ok(())
 }
 
 #[test]
 fn a_text_grows_at_each_length_of_its_parts(rt: HostRuntime) -> Result<(), Fail> {
     let alloc = rt.alloc();
-    let mut holds = true;
     for &(front, piece, end, _) in TEXTS {
         for &times in numbers(alloc, 601, NEAR)?.iter() {
             if times > 0 {
                 let text = repeated(alloc, front, piece, times, end)?;
                 let list = filled(alloc, "($), $", text.as_str())?;
-                holds &= grows(alloc, "item", 0, text.as_str());
-                holds &= grows(alloc, "item", text.len(), text.as_str());
-                holds &= grows(alloc, "list", list.len(), list.as_str());
+                grows(alloc, "item", 0, text.as_str())?;
+                grows(alloc, "item", text.len(), text.as_str())?;
+                grows(alloc, "list", list.len(), list.as_str())?;
             }
         }
     }
     for &len in numbers(alloc, 601, NEAR)?.iter() {
         let key = repeated(alloc, "k", "a", len, "")?;
         let text = filled(alloc, "$=(b);$, l$;$", key.as_str())?;
-        holds &= grows(alloc, "dict", text.len(), text.as_str());
+        grows(alloc, "dict", text.len(), text.as_str())?;
     }
-    assert!(rt; holds);
     Ok(())
 }
 
 #[test]
 fn a_text_of_each_length_grows(rt: HostRuntime) -> Result<(), Fail> {
     let alloc = rt.alloc();
-    let mut holds = true;
     for &(field, text) in MIXED {
         for &full in numbers(alloc, 0, 33_554_432)?.iter() {
-            holds &= grows(alloc, field, full, text);
+            grows(alloc, field, full, text)?;
         }
     }
-    assert!(rt; holds);
     Ok(())
 }
 
 #[test]
 fn a_text_grows_at_each_separator(rt: HostRuntime) -> Result<(), Fail> {
     let alloc = rt.alloc();
-    let mut holds = true;
     for &full in numbers(alloc, 0, FAR)?.iter() {
         for &separator in &[", ", " ", ",", ";", "; ", "\r\n"] {
             let mut text = long_text(alloc, full)?;
             for room in 0..=2usize.min(full) {
-                holds &= cut(&mut text, full, room).is_some();
-                holds &= serialize_separator(false, separator, &mut text).is_ok();
-                holds &= is_at_end(&text, separator, (full, room), 0);
+                let holds = cut(&mut text, full, room).is_some()
+                    && serialize_separator(false, separator, &mut text).is_ok()
+                    && is_at_end(&text, separator, (full, room), 0);
+                row("text", Version::Rfc9651, separator, full, holds)?;
             }
         }
     }
-    assert!(rt; holds);
     Ok(())
+}
+
+/// Returns `true` if no serializer without a member says that there is one.
+fn finish_without(
+    version: Version,
+    list: &List,
+    dictionary: &Dictionary,
+    text: &mut String,
+) -> Option<bool> {
+    let mut serializer = ListSerializer::with_buffer_for(text, version);
+    serializer.members(list.iter()).ok()?;
+    let is_list_none = serializer.finish().is_none();
+    let mut serializer = DictSerializer::with_buffer_for(text, version);
+    serializer.members(dictionary.iter()).ok()?;
+    Some(is_list_none && serializer.finish().is_none())
+}
+
+/// Returns `true` if no call that appends no member says that there is one.
+fn append_without(
+    version: Version,
+    list: &List,
+    dictionary: &Dictionary,
+    text: &mut String,
+) -> Option<bool> {
+    let has_list = run_list_for(version, text, &[]).ok()?;
+    let has_entry = run_dict_for(version, text, &[]).ok()?;
+    let is_list_appended = list.append_to(version, text).ok()?;
+    let is_appended = dictionary.append_to(version, text).ok()?;
+    Some(!has_list && !has_entry && !is_list_appended && !is_appended)
 }
 
 /// Returns `true` if serializers without a member leave the text and its capacity.
@@ -635,72 +510,97 @@ fn finish_keeps(alloc: Global, version: Version, full: usize, room: usize) -> Op
     let mut text = long_text(alloc, full).ok()?;
     cut(&mut text, full, room)?;
     let (list, dictionary) = (List::new(alloc), sfv::dictionary(alloc));
-    let mut serializer = ListSerializer::with_buffer_for(&mut text, version);
-    serializer.members(list.iter()).ok()?;
-    let is_list_none = serializer.finish().is_none();
-    let mut serializer = DictSerializer::with_buffer_for(&mut text, version);
-    serializer.members(dictionary.iter()).ok()?;
-    let is_none = is_list_none && serializer.finish().is_none();
-    let has_list = run_list_for(version, &mut text, &[]).ok()?;
-    let has_member = has_list || run_dict_for(version, &mut text, &[]).ok()?;
-    let is_appended = list.append_to(version, &mut text).ok()?
-        || dictionary.append_to(version, &mut text).ok()?;
+    let is_none = finish_without(version, &list, &dictionary, &mut text) == Some(true);
+    let is_nothing = append_without(version, &list, &dictionary, &mut text) == Some(true);
     let is_kept = text.len() == full.saturating_sub(room) && text.capacity() == full;
-    Some(is_none && !has_member && !is_appended && is_kept)
+    Some(is_none && is_nothing && is_kept)
 }
 
 #[test]
 fn finish_without_a_member_keeps_the_text(rt: HostRuntime) -> Result<(), Fail> {
     let alloc = rt.alloc();
-    let mut holds = true;
     for &full in numbers(alloc, 2_001, 33_554_432)?.iter() {
         for &version in versions_of("") {
-            holds &= finish_keeps(alloc, version, full, 0) == Some(true);
-            holds &= finish_keeps(alloc, version, full, full.min(100)) == Some(true);
-            holds &= finish_keeps(alloc, version, full, full) == Some(true);
+            for &room in &[0, full.min(100), full] {
+                let holds = finish_keeps(alloc, version, full, room) == Some(true);
+                row("no member", version, "", full, holds)?;
+            }
         }
     }
-    assert!(rt; holds);
     Ok(())
+}
+
+/// The ways that request memory before they write.
+const AT_ONCE: &[usize] = &[ONCE, SCRIPT, WHOLE];
+
+/// Returns `true` if no call writes the list into this text, which is full, and none requests memory.
+fn is_list_refused(list: &List, calls: &[MemberCalls<'_>], full: usize, text: &mut String) -> bool {
+    let mut holds = true;
+    for &way in AT_ONCE {
+        let is_none = write_list(Version::Rfc8941, way, list, calls, text).is_none();
+        holds &= is_none && text.len() == full && text.capacity() == full;
+    }
+    holds
 }
 
 /// Returns `true` if RFC 8941 lacks a value of the list, and no call requests memory for a text of so many bytes.
 fn requests_none_for_list(alloc: Global, input: &str, full: usize) -> Option<bool> {
-    let list = Parser::new(input.as_bytes()).parse::<List>(alloc).ok()?;
-    let mut calls = Vec::new(alloc);
-    for member in list.iter() {
-        calls.push(member_calls(alloc, member)?).ok()?;
-    }
     let mut text = long_text(alloc, full).ok()?;
     cut(&mut text, full, 0)?;
-    let mut serializer = ListSerializer::with_buffer_for(&mut text, Version::Rfc8941);
-    let is_written = serializer.members(list.iter()).is_ok();
-    let _ = serializer.finish();
-    let is_called = run_list_for(Version::Rfc8941, &mut text, &calls[..]).is_ok();
-    let is_appended = list.append_to(Version::Rfc8941, &mut text).is_ok();
-    let is_kept = text.len() == full && text.capacity() == full;
-    Some(is_kept && !is_written && !is_called && !is_appended)
+    let list = list_of(alloc, Parser::new(input.as_bytes()))?;
+    let calls = list_calls(alloc, &list)?;
+    Some(is_list_refused(&list, &calls[..], full, &mut text))
+}
+
+/// The same for a dictionary.
+fn is_dictionary_refused(
+    dictionary: &Dictionary,
+    calls: &[EntryCalls<'_>],
+    full: usize,
+    text: &mut String,
+) -> bool {
+    let mut holds = true;
+    for &way in AT_ONCE {
+        let is_none = write_dictionary(Version::Rfc8941, way, dictionary, calls, text).is_none();
+        holds &= is_none && text.len() == full && text.capacity() == full;
+    }
+    holds
 }
 
 /// The same for a dictionary.
 fn requests_none_for_dictionary(alloc: Global, input: &str, full: usize) -> Option<bool> {
-    let parser = Parser::new(input.as_bytes());
-    let dictionary = parser.parse::<Dictionary>(alloc).ok()?;
-    let mut calls: Vec<(KeyRef<'_>, MemberCalls<'_>)> = Vec::new(alloc);
-    for (key, member) in dictionary.iter() {
-        calls
-            .push((key.as_key_ref(), member_calls(alloc, member)?))
-            .ok()?;
-    }
     let mut text = long_text(alloc, full).ok()?;
     cut(&mut text, full, 0)?;
-    let mut serializer = DictSerializer::with_buffer_for(&mut text, Version::Rfc8941);
-    let is_written = serializer.members(dictionary.iter()).is_ok();
+    let dictionary = dictionary_of(alloc, Parser::new(input.as_bytes()))?;
+    let calls = dictionary_calls(alloc, &dictionary)?;
+    Some(is_dictionary_refused(&dictionary, &calls[..], full, &mut text))
+}
+
+/// Writes the first member of a list.
+fn put_first(list: &List, text: &mut String) -> Option<()> {
+    let mut serializer = ListSerializer::with_buffer_for(text, Version::Rfc8941);
+    let put = put_member(&mut serializer, list.first()?);
     let _ = serializer.finish();
-    let is_called = run_dict_for(Version::Rfc8941, &mut text, &calls[..]).is_ok();
-    let is_appended = dictionary.append_to(Version::Rfc8941, &mut text).is_ok();
-    let is_kept = text.len() == full && text.capacity() == full;
-    Some(is_kept && !is_written && !is_called && !is_appended)
+    put
+}
+
+/// Writes the first member of a dictionary.
+fn put_first_entry(dictionary: &Dictionary, text: &mut String) -> Option<()> {
+    let mut serializer = DictSerializer::with_buffer_for(text, Version::Rfc8941);
+    let (key, member) = dictionary.iter().next()?;
+    let put = put_entry(&mut serializer, key.as_key_ref(), member);
+    let _ = serializer.finish();
+    put
+}
+
+/// Returns whether the calls write the first member of the field. Returns `None` if the input is no field.
+fn is_first_put(alloc: Global, field: &str, input: &str, text: &mut String) -> Option<bool> {
+    let parser = Parser::new(input.as_bytes());
+    Some(match field {
+        "item" => put_at_once(Version::Rfc8941, &item_of(alloc, parser)?, text).is_some(),
+        "list" => put_first(&list_of(alloc, parser)?, text).is_some(),
+        _ => put_first_entry(&dictionary_of(alloc, parser)?, text).is_some(),
+    })
 }
 
 /// Returns `true` if RFC 8941 lacks a value of the first member, and the calls that write it request no memory for a text
@@ -712,33 +612,9 @@ fn stops_within_room(
     full: usize,
     (room, kept): (usize, usize),
 ) -> Option<bool> {
-    let version = Version::Rfc8941;
     let mut text = long_text(alloc, full).ok()?;
     cut(&mut text, full, room)?;
-    let parser = Parser::new(input.as_bytes());
-    let is_put = match field {
-        "item" => {
-            let item = parser.parse::<Item>(alloc).ok()?;
-            let serializer = ItemSerializer::with_buffer_for(&mut text, version);
-            let params = serializer.bare_item(item.bare_item.as_ref_item()).ok()?;
-            params.parameters(item.params.iter()).is_ok()
-        }
-        "list" => {
-            let list = parser.parse::<List>(alloc).ok()?;
-            let mut serializer = ListSerializer::with_buffer_for(&mut text, version);
-            let is_put = put_member(&mut serializer, list.first()?).is_some();
-            let _ = serializer.finish();
-            is_put
-        }
-        _ => {
-            let dictionary = parser.parse::<Dictionary>(alloc).ok()?;
-            let mut serializer = DictSerializer::with_buffer_for(&mut text, version);
-            let (key, member) = dictionary.iter().next()?;
-            let is_put = put_entry(&mut serializer, key.as_key_ref(), member).is_some();
-            let _ = serializer.finish();
-            is_put
-        }
-    };
+    let is_put = is_first_put(alloc, field, input, &mut text) != Some(false);
     let len = full.saturating_sub(room).saturating_add(kept);
     Some(text.len() == len && text.capacity() == full && !is_put)
 }
@@ -762,19 +638,20 @@ const STOPS: &[(&str, &str, usize, usize)] = &[
 #[test]
 fn a_value_that_the_version_lacks_requests_no_memory(rt: HostRuntime) -> Result<(), Fail> {
     let alloc = rt.alloc();
-    let mut holds = true;
     for &full in numbers(alloc, 0, FAR)?.iter() {
         for &member in &["@1", "%\"a\"", "1;a=@1", "(1 @1)", "();a=@1"] {
-            holds &= requests_none_for_list(alloc, member, full) == Some(true);
+            let holds = requests_none_for_list(alloc, member, full) == Some(true);
+            row("list", Version::Rfc8941, member, full, holds)?;
         }
         for &member in &["a=@1", "a=%\"a\", b", "a;b=@1", "a=(1 @1)", "a=();b=@1"] {
-            holds &= requests_none_for_dictionary(alloc, member, full) == Some(true);
+            let holds = requests_none_for_dictionary(alloc, member, full) == Some(true);
+            row("dict", Version::Rfc8941, member, full, holds)?;
         }
         for &(field, input, room, kept) in STOPS {
-            holds &= full < room
+            let holds = full < room
                 || stops_within_room(alloc, field, input, full, (room, kept)) == Some(true);
+            row(field, Version::Rfc8941, input, full, holds)?;
         }
     }
-    assert!(rt; holds);
     Ok(())
 }

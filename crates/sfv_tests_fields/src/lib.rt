@@ -32,3 +32,5 @@ mod texts;
 mod versions;
 #[cfg(test)]
 mod visitors;
+#[cfg(test)]
+mod ways;

@@ -1,13 +1,16 @@
 //! The capacity of the texts and bytes of bare items, and of keys.
 
-use crate::common::{doubled, field_of, numbers, repeated, version_of};
+use crate::common::{
+    dictionary_of, doubled, field_of, item_of, list_of, numbers, repeated, version_of,
+};
 use crate::kept::versions_of;
 use crate::sizes::FAR;
 use sfv::visitor::{DictionaryBuilder, ItemBuilder};
 use sfv::{
     BareItem, BareItemFromInput, Dictionary, GenericBareItem, InnerList, Item, Key, List,
-    ListEntry, Parameters, Parser, StringFromInput,
+    ListEntry, Parameters, Parser, StringFromInput, Version,
 };
+use sfv_random::rows::row;
 use sfv_random::texts::filled;
 use std::alloc::Global;
 use std::test::Fail;
@@ -51,20 +54,54 @@ fn holds_text(alloc: Global, parser: Parser<'_>, wanted: usize) -> bool {
     }
 }
 
-/// Returns `true` if the bare item that the input parses to has this capacity by each call that parses it, and if its
-/// copies have no unused memory.
-fn holds_bytes(alloc: Global, parser: Parser<'_>, wanted: usize) -> Option<bool> {
+/// Returns `true` if there is a bare item, and it has this capacity.
+fn has_kept(value: Option<BareItem>, wanted: usize) -> bool {
+    match value {
+        Some(value) => keeps(value, wanted),
+        None => false,
+    }
+}
+
+/// Returns `true` if there is a bare item without unused memory.
+fn has_exact(value: Option<BareItem>) -> bool {
+    match value {
+        Some(value) => is_exact(value),
+        None => false,
+    }
+}
+
+/// Returns the bare item that `ItemBuilder` builds.
+fn built_value(alloc: Global, parser: Parser<'_>) -> Option<BareItem> {
     let builder = ItemBuilder::new(alloc, parser.hash_seed());
     let built = parser.parse_item_with_visitor(alloc, builder).ok()?;
-    let mut holds = keeps(built.bare_item, wanted) && holds_text(alloc, parser, wanted);
-    holds &= keeps(parser.parse_item::<BareItem>(alloc).ok()?, wanted);
+    Some(built.bare_item)
+}
+
+/// Returns the owned form of the bare item that the input parses to.
+fn read_value(alloc: Global, parser: Parser<'_>) -> Option<BareItem> {
     let read = parser.parse_item::<BareItemFromInput<'_>>(alloc).ok()?;
-    holds &= keeps(read.try_into_owned(alloc).ok()?, wanted);
-    let item = parser.parse::<Item>(alloc).ok()?;
-    holds &= is_exact(item.bare_item.as_ref_item().try_to_owned(alloc).ok()?);
-    holds &= is_exact(item.bare_item.clone().ok()?);
-    holds &= keeps(item.bare_item, wanted);
-    Some(holds)
+    read.try_into_owned(alloc).ok()
+}
+
+/// Returns `true` if copies of the bare item have no unused memory.
+fn are_copies_exact(alloc: Global, value: &BareItem) -> bool {
+    has_exact(value.as_ref_item().try_to_owned(alloc).ok()) & has_exact(value.clone().ok())
+}
+
+/// Returns `true` if the bare item that the input parses to has this capacity by each call that parses it, and if its
+/// copies have no unused memory.
+fn holds_bytes(alloc: Global, parser: Parser<'_>, wanted: usize) -> bool {
+    let are_kept = has_kept(built_value(alloc, parser), wanted)
+        & holds_text(alloc, parser, wanted)
+        & has_kept(parser.parse_item::<BareItem>(alloc).ok(), wanted)
+        & has_kept(read_value(alloc, parser), wanted);
+    match item_of(alloc, parser) {
+        Some(item) => {
+            let are_exact = are_copies_exact(alloc, &item.bare_item);
+            are_kept & are_exact & keeps(item.bare_item, wanted)
+        }
+        None => false,
+    }
 }
 
 /// Bare items of repeated pieces: a text before the pieces, a piece, a text after them; how many bytes each piece has and
@@ -98,7 +135,6 @@ fn owned_capacity(front: &str, pieces: usize, after: usize, is_escaped: bool) ->
 #[test]
 fn owned_texts_have_little_unused_memory(rt: HostRuntime) -> Result<(), Fail> {
     let alloc = rt.alloc();
-    let mut holds = true;
     for &(front, piece, end, bytes, after, is_escaped) in OWNED {
         for &times in numbers(alloc, 1_101, FAR / piece.len().max(1))?.iter() {
             let text = repeated(alloc, front, piece, times, end)?;
@@ -106,11 +142,11 @@ fn owned_texts_have_little_unused_memory(rt: HostRuntime) -> Result<(), Fail> {
             for &version in versions_of(front) {
                 let parser = Parser::new(text.as_bytes()).with_version(version);
                 // There is no empty token.
-                holds &= text.is_empty() || holds_bytes(alloc, parser, wanted) == Some(true);
+                let holds = text.is_empty() || holds_bytes(alloc, parser, wanted);
+                row("item", version, text.as_str(), wanted, holds)?;
             }
         }
     }
-    assert!(rt; holds);
     Ok(())
 }
 
@@ -126,43 +162,65 @@ fn is_exact_key(alloc: Global, key: Key) -> Option<bool> {
     )
 }
 
-/// Returns `true` if the last key of the dictionary, and the last one of the parameters of its last member, have no
-/// unused memory.
-fn are_keys_exact(alloc: Global, mut dictionary: Dictionary) -> Option<bool> {
-    let (key, member) = dictionary.pop()?;
-    let mut params = match member {
+/// Returns `true` if the last key of the parameters has no unused memory.
+fn is_last_key_exact(alloc: Global, mut params: Parameters) -> bool {
+    match params.pop() {
+        Some((key, _)) => is_exact_key(alloc, key) == Some(true),
+        None => false,
+    }
+}
+
+/// Returns the parameters of a member.
+fn params_of(member: ListEntry) -> Parameters {
+    match member {
         ListEntry::Item(item) => item.params,
         ListEntry::InnerList(list) => list.params,
-    };
-    let (param, _) = params.pop()?;
-    let is_exact = is_exact_key(alloc, key)?;
-    let is_param_exact = is_exact_key(alloc, param)?;
-    Some(is_exact && is_param_exact)
+    }
+}
+
+/// Returns `true` if the last key of the dictionary, and the last one of the parameters of its last member, have no
+/// unused memory.
+fn are_keys_exact(alloc: Global, mut dictionary: Dictionary) -> bool {
+    match dictionary.pop() {
+        Some((key, member)) => {
+            let is_exact = is_exact_key(alloc, key) == Some(true);
+            is_exact & is_last_key_exact(alloc, params_of(member))
+        }
+        None => false,
+    }
+}
+
+/// Returns the dictionary that a builder makes of the input.
+fn built_dictionary(alloc: Global, parser: Parser<'_>) -> Option<Dictionary> {
+    let builder = DictionaryBuilder::new(sfv::dictionary(alloc));
+    parser.parse_dictionary_with_visitor(alloc, builder).ok()
 }
 
 /// The same for the dictionaries that `parse` and a builder make of the input.
 fn have_exact_keys(alloc: Global, input: &str) -> Option<bool> {
     let parser = Parser::new(input.as_bytes());
-    let parsed = parser.parse::<Dictionary>(alloc).ok()?;
-    let builder = DictionaryBuilder::new(sfv::dictionary(alloc));
-    let built = parser.parse_dictionary_with_visitor(alloc, builder).ok()?;
-    let is_parsed_exact = are_keys_exact(alloc, parsed)?;
-    let is_built_exact = are_keys_exact(alloc, built)?;
+    let is_parsed_exact = are_keys_exact(alloc, dictionary_of(alloc, parser)?);
+    let is_built_exact = are_keys_exact(alloc, built_dictionary(alloc, parser)?);
     Some(is_parsed_exact && is_built_exact)
 }
 
 #[test]
 fn keys_have_no_unused_memory(rt: HostRuntime) -> Result<(), Fail> {
     let alloc = rt.alloc();
-    let mut holds = true;
     for &times in numbers(alloc, 601, FAR)?.iter() {
         let key = repeated(alloc, "a", "b", times, "")?;
         for &place in &["$;$", "$=1;$=2", "$=(a;b);$"] {
             let input = filled(alloc, place, key.as_str())?;
-            holds &= have_exact_keys(alloc, input.as_str()) == Some(true);
+            let holds = have_exact_keys(alloc, input.as_str()) == Some(true);
+            row(
+                "dict",
+                Version::Rfc9651,
+                input.as_str(),
+                "exact keys",
+                holds,
+            )?;
         }
     }
-    assert!(rt; holds);
     Ok(())
 }
 
@@ -247,15 +305,15 @@ pub fn is_field_held(
 ) -> Option<bool> {
     Some(match field {
         "item" => {
-            is_item_held(parser.parse::<Item>(alloc).ok()?, is_known)
+            is_item_held(item_of(alloc, parser)?, is_known)
                 & is_item_held(parser.parse_item::<Item>(alloc).ok()?, is_known)
         }
         "list" => {
-            is_list_held(parser.parse::<List>(alloc).ok()?, is_known)
+            is_list_held(list_of(alloc, parser)?, is_known)
                 & is_list_held(parser.parse_list::<List>(alloc).ok()?, is_known)
         }
         _ => {
-            is_dictionary_held(parser.parse::<Dictionary>(alloc).ok()?, is_known)
+            is_dictionary_held(dictionary_of(alloc, parser)?, is_known)
                 & is_dictionary_held(parser.parse_dictionary::<Dictionary>(alloc).ok()?, is_known)
         }
     })
@@ -276,15 +334,14 @@ const PARTS: &[(&str, (&str, &str, &str, &str))] = &[
 #[test]
 fn texts_of_members_have_little_unused_memory(rt: HostRuntime) -> Result<(), Fail> {
     let alloc = rt.alloc();
-    let mut holds = true;
     for &(field, parts) in PARTS {
         for &count in numbers(alloc, 0, 2_000)?.iter() {
             let (version, values) = version_of(count % 3 > 0);
             let text = field_of(alloc, parts, values, count)?;
             let parser = Parser::new(text.as_bytes()).with_version(version);
-            holds &= is_field_held(alloc, field, parser, true) == Some(true);
+            let holds = is_field_held(alloc, field, parser, true) == Some(true);
+            row(field, version, text.as_str(), count, holds)?;
         }
     }
-    assert!(rt; holds);
     Ok(())
 }

@@ -8,6 +8,7 @@ use crate::sizes::holds_for;
 use crate::visitors::stops_at_each_event;
 use sfv::{Dictionary, Error, FieldType, Item, List, Parser, Version};
 use sfv_random::Random;
+use sfv_random::rows::row;
 use std::alloc::Global;
 use std::test::Fail;
 
@@ -29,40 +30,35 @@ fn text_of(
     Ok(text)
 }
 
-/// Returns `true` if random fields of this type are read, copied and written by each call.
-fn fields_hold(alloc: Global, field: &str) -> Result<bool, Fail> {
-    let mut holds = true;
+/// Fails unless random fields of this type are read, copied and written by each call.
+fn fields_hold(alloc: Global, field: &str) -> Result<(), Fail> {
     for &version in VERSIONS {
         for seed in 0..FIELDS {
             let text = text_of(alloc, field, version, &mut Random::new(seed))?;
-            holds &= holds_for(alloc, field, version, text.as_str());
+            holds_for(alloc, field, version, text.as_str())?;
         }
     }
-    Ok(holds)
+    Ok(())
 }
 
 #[test]
 fn random_items_are_read_and_written(rt: HostRuntime) -> Result<(), Fail> {
-    assert!(rt; fields_hold(rt.alloc(), "item")?);
-    Ok(())
+    fields_hold(rt.alloc(), "item")
 }
 
 #[test]
 fn random_lists_are_read_and_written(rt: HostRuntime) -> Result<(), Fail> {
-    assert!(rt; fields_hold(rt.alloc(), "list")?);
-    Ok(())
+    fields_hold(rt.alloc(), "list")
 }
 
 #[test]
 fn random_dictionaries_are_read_and_written(rt: HostRuntime) -> Result<(), Fail> {
-    assert!(rt; fields_hold(rt.alloc(), "dict")?);
-    Ok(())
+    fields_hold(rt.alloc(), "dict")
 }
 
 #[test]
 fn random_fields_of_many_members_are_read_and_written(rt: HostRuntime) -> Result<(), Fail> {
     let alloc = rt.alloc();
-    let mut holds = true;
     for &field in &["list", "dict"] {
         for &version in VERSIONS {
             for &count in &[70, 300, 1_100, 5_000] {
@@ -70,28 +66,27 @@ fn random_fields_of_many_members_are_read_and_written(rt: HostRuntime) -> Result
                     let (mut random, mut text) = (Random::new(seed), String::new(alloc));
                     let is_older = version == Version::Rfc8941;
                     random.push_members(&mut text, field, is_older, count)?;
-                    holds &= holds_for(alloc, field, version, text.as_str());
+                    holds_for(alloc, field, version, text.as_str())?;
                 }
             }
         }
     }
-    assert!(rt; holds);
     Ok(())
 }
 
 #[test]
 fn random_fields_grow_their_texts(rt: HostRuntime) -> Result<(), Fail> {
     let alloc = rt.alloc();
-    let mut holds = true;
     for &field in &["item", "list", "dict"] {
         for seed in 0..FIELDS / 2 {
             let mut random = Random::new(seed);
             let text = text_of(alloc, field, Version::Rfc9651, &mut random)?;
             let full = random.length(9);
-            holds &= text.is_empty() || grows(alloc, field, full, text.as_str());
+            if !text.is_empty() {
+                grows(alloc, field, full, text.as_str())?;
+            }
         }
     }
-    assert!(rt; holds);
     Ok(())
 }
 
@@ -107,21 +102,18 @@ fn count_of(alloc: Global, parser: Parser<'_>, field: &str) -> Result<usize, Err
 #[test]
 fn random_fields_have_little_unused_memory(rt: HostRuntime) -> Result<(), Fail> {
     let alloc = rt.alloc();
-    let mut holds = true;
     for &field in &["item", "list", "dict"] {
         for &version in VERSIONS {
             for seed in 0..FIELDS {
                 let text = text_of(alloc, field, version, &mut Random::new(seed))?;
                 let parser = Parser::new(text.as_str().as_bytes()).with_version(version);
-                holds &= match count_of(alloc, parser, field) {
-                    Ok(count) => fits(alloc, field, version, text.as_str(), (count, 0)),
-                    Err(_) => false,
-                };
-                holds &= is_field_held(alloc, field, parser, false) == Some(true);
+                let count = count_of(alloc, parser, field).unwrap_or(usize::MAX);
+                fits(alloc, field, version, text.as_str(), (count, 0))?;
+                let is_held = is_field_held(alloc, field, parser, false) == Some(true);
+                row(field, version, text.as_str(), count, is_held)?;
             }
         }
     }
-    assert!(rt; holds);
     Ok(())
 }
 
@@ -133,26 +125,28 @@ fn agree(alloc: Global, parser: Parser<'_>, field: &str) -> bool {
     }
 }
 
+/// Returns the text of these bytes for a message.
+fn shown(bytes: &[u8]) -> &str {
+    str::from_utf8(bytes).unwrap_or("(bytes that are no text)")
+}
+
 #[test]
 fn a_visitor_may_fail_at_each_event_of_a_random_field(rt: HostRuntime) -> Result<(), Fail> {
     let alloc = rt.alloc();
-    let mut holds = true;
     for &field in &["item", "list", "dict"] {
         for &version in VERSIONS {
             for seed in 0..FIELDS / 8 {
                 let text = text_of(alloc, field, version, &mut Random::new(seed))?;
-                holds &= stops_at_each_event(alloc, field, version, text.as_str())?;
+                stops_at_each_event(alloc, field, version, text.as_str())?;
             }
         }
     }
-    assert!(rt; holds);
     Ok(())
 }
 
 #[test]
 fn random_bytes_have_one_error_in_each_call(rt: HostRuntime) -> Result<(), Fail> {
     let alloc = rt.alloc();
-    let mut holds = true;
     for &field in &["item", "list", "dict"] {
         for seed in 0..FIELDS {
             let mut random = Random::new(seed);
@@ -164,11 +158,11 @@ fn random_bytes_have_one_error_in_each_call(rt: HostRuntime) -> Result<(), Fail>
                     *byte = random.byte();
                 }
                 for &version in VERSIONS {
-                    holds &= agree(alloc, Parser::new(&bytes[..]).with_version(version), field);
+                    let holds = agree(alloc, Parser::new(&bytes[..]).with_version(version), field);
+                    row(field, version, shown(&bytes[..]), "one error", holds)?;
                 }
             }
         }
     }
-    assert!(rt; holds);
     Ok(())
 }

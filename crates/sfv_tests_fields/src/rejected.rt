@@ -4,6 +4,8 @@ use crate::common::{NEAR, OLDER, counted, field_of, numbers, repeated};
 use crate::sizes::FAR;
 use sfv::visitor::Ignored;
 use sfv::{Dictionary, Error, ErrorKind, Item, List, ParseError, Parser, Version};
+use sfv_random::rows::row;
+use sfv_random::texts::filled;
 use std::alloc::Global;
 use std::test::Fail;
 
@@ -36,27 +38,28 @@ pub fn rejects(alloc: Global, parser: Parser<'_>, field: &str, error: Error) -> 
     }
 }
 
-/// Returns `true` if the input is rejected with this kind, `back` bytes before its end: up to `NEAR` bytes under both
+/// Fails unless the input is rejected with this kind, `back` bytes before its end: up to `NEAR` bytes under both
 /// versions, and otherwise under one, by turns. RFC 8941 has no display strings.
-fn is_rejected(
+fn reject(
     alloc: Global,
     field: &str,
     input: &str,
     (kind, back, is_newer): (ErrorKind, usize, bool),
     turn: usize,
-) -> bool {
+) -> Result<(), Fail> {
     let error = Error::with_kind(kind, input.len().checked_sub(back));
     let parser = Parser::new(input.as_bytes());
     let is_both = input.len() <= NEAR;
-    let mut holds = true;
     if is_newer || is_both || turn % 2 == 0 {
-        holds &= rejects(alloc, parser, field, error);
+        let holds = rejects(alloc, parser, field, error);
+        row(field, Version::Rfc9651, input, error, holds)?;
     }
     if !is_newer && (is_both || turn % 2 == 1) {
         let older = parser.with_version(Version::Rfc8941);
-        holds &= rejects(alloc, older, field, error);
+        let holds = rejects(alloc, older, field, error);
+        row(field, Version::Rfc8941, input, error, holds)?;
     }
-    holds
+    Ok(())
 }
 
 /// Fields of numbered parts: the type, the text before the parts, the text before each number, the separator, and the
@@ -221,17 +224,15 @@ const PARTS: &[(&str, &str, &str, &str, &str, ErrorKind, usize)] = &[
 #[test]
 fn fields_of_each_number_of_parts_are_rejected(rt: HostRuntime) -> Result<(), Fail> {
     let alloc = rt.alloc();
-    let mut holds = true;
     for &(field, begin, front, separator, end, kind, back) in PARTS {
         let fault = (kind, back, end.contains("%\""));
         for (turn, &count) in numbers(alloc, 601, 147_456)?.iter().enumerate() {
             if count > 0 {
                 let text = counted(alloc, begin, front, separator, end, count)?;
-                holds &= is_rejected(alloc, field, text.as_str(), fault, turn);
+                reject(alloc, field, text.as_str(), fault, turn)?;
             }
         }
     }
-    assert!(rt; holds);
     Ok(())
 }
 
@@ -321,7 +322,6 @@ const PIECES: &[(&str, &str, &str, ErrorKind, usize)] = &[
 #[test]
 fn items_of_each_length_are_rejected(rt: HostRuntime) -> Result<(), Fail> {
     let alloc = rt.alloc();
-    let mut holds = true;
     for &(front, piece, end, kind, back) in PIECES {
         let fault = (kind, back, front == "%\"");
         for (turn, &count) in numbers(alloc, 1_101, FAR / piece.len().max(1))?
@@ -330,11 +330,10 @@ fn items_of_each_length_are_rejected(rt: HostRuntime) -> Result<(), Fail> {
         {
             if count > 0 {
                 let text = repeated(alloc, front, piece, count, end)?;
-                holds &= is_rejected(alloc, "item", text.as_str(), fault, turn);
+                reject(alloc, "item", text.as_str(), fault, turn)?;
             }
         }
     }
-    assert!(rt; holds);
     Ok(())
 }
 
@@ -353,10 +352,20 @@ fn error_after(byte: u8, len: usize, is_key: bool) -> Option<Error> {
     }
 }
 
+/// Returns `true` if the item has this error, or none, as a tree and with a visitor.
+fn has_fault(alloc: Global, parser: Parser<'_>, wanted: Option<Error>) -> bool {
+    match wanted {
+        Some(error) => rejects(alloc, parser, "item", error),
+        None => {
+            parser.parse::<Item>(alloc).is_ok()
+                && parser.parse_item_with_visitor(alloc, Ignored).is_ok()
+        }
+    }
+}
+
 #[test]
 fn each_byte_after_an_item_has_its_error(rt: HostRuntime) -> Result<(), Fail> {
     let alloc = rt.alloc();
-    let mut holds = true;
     for &(item, is_key) in &[
         (":aGk=:", false),
         ("\"\\\\\"", false),
@@ -370,15 +379,11 @@ fn each_byte_after_an_item_has_its_error(rt: HostRuntime) -> Result<(), Fail> {
             let wanted = error_after(byte, item.len(), is_key);
             for &version in &[Version::Rfc8941, Version::Rfc9651] {
                 let parser = Parser::new(&input[..]).with_version(version);
-                holds &= parser.parse::<Item>(alloc).err() == wanted;
-                holds &= match wanted {
-                    Some(error) => is_syntax(parser.parse_item_with_visitor(alloc, Ignored), error),
-                    None => parser.parse_item_with_visitor(alloc, Ignored).is_ok(),
-                };
+                let holds = has_fault(alloc, parser, wanted);
+                row("item, then a byte", version, item, byte, holds)?;
             }
         }
     }
-    assert!(rt; holds);
     Ok(())
 }
 
@@ -446,26 +451,37 @@ fn named(alloc: Global, field: &str, members: &str, number: usize) -> Result<Str
     Ok(text)
 }
 
+/// Returns these members so many times, with different keys.
+fn front_of(alloc: Global, field: &str, members: &str, times: usize) -> Result<String, Fail> {
+    let mut front = String::new(alloc);
+    for number in 0..times {
+        front.push_str(named(alloc, field, members, number)?.as_str())?;
+    }
+    Ok(front)
+}
+
+/// Rejects the field of these members with each end.
+fn reject_ends(alloc: Global, field: &str, front: &str) -> Result<(), Fail> {
+    let place = if field == "dict" { "*=$" } else { "$" };
+    for &(end, kind, back) in ENDS {
+        let last = filled(alloc, place, end)?;
+        let text = repeated(alloc, front, last.as_str(), 1, "")?;
+        reject(alloc, field, text.as_str(), (kind, back, false), 0)?;
+    }
+    Ok(())
+}
+
 #[test]
 fn errors_after_members_of_each_kind_have_their_index(rt: HostRuntime) -> Result<(), Fail> {
     let alloc = rt.alloc();
-    let mut holds = true;
     for &field in &["list", "dict"] {
         for &before in BEFORE {
             for &times in &[1, 2, 30] {
-                let mut front = String::new(alloc);
-                for number in 0..times {
-                    front.push_str(named(alloc, field, before, number)?.as_str())?;
-                }
-                for &(end, kind, back) in ENDS {
-                    let last = if field == "dict" { "*=" } else { "" };
-                    let text = format!(in alloc; "{front}{last}{end}")?;
-                    holds &= is_rejected(alloc, field, text.as_str(), (kind, back, false), 0);
-                }
+                let front = front_of(alloc, field, before, times)?;
+                reject_ends(alloc, field, front.as_str())?;
             }
         }
     }
-    assert!(rt; holds);
     Ok(())
 }
 
@@ -473,19 +489,14 @@ fn errors_after_members_of_each_kind_have_their_index(rt: HostRuntime) -> Result
 #[test]
 fn errors_of_keys_have_their_index(rt: HostRuntime) -> Result<(), Fail> {
     let alloc = rt.alloc();
-    let mut holds = true;
     for &before in BEFORE {
         for &times in &[1, 2, 30] {
-            let mut front = String::new(alloc);
-            for number in 0..times {
-                front.push_str(named(alloc, "dict", before, number)?.as_str())?;
-            }
-            let text = format!(in alloc; "{front}B")?;
+            let mut text = front_of(alloc, "dict", before, times)?;
+            text.push('B')?;
             let fault = (ErrorKind::ExpectedStartOfKey, 1, false);
-            holds &= is_rejected(alloc, "dict", text.as_str(), fault, 0);
+            reject(alloc, "dict", text.as_str(), fault, 0)?;
         }
     }
-    assert!(rt; holds);
     Ok(())
 }
 
@@ -493,7 +504,6 @@ fn errors_of_keys_have_their_index(rt: HostRuntime) -> Result<(), Fail> {
 #[test]
 fn errors_after_items_of_each_kind_have_their_index(rt: HostRuntime) -> Result<(), Fail> {
     let alloc = rt.alloc();
-    let mut holds = true;
     for &value in OLDER {
         for &count in &[0, 1, 2, 9, 10, 11, 64, 65, 300] {
             let item = field_of(alloc, (value, ";k#~", "", ""), OLDER, count)?;
@@ -506,10 +516,9 @@ fn errors_after_items_of_each_kind_have_their_index(rt: HostRuntime) -> Result<(
                 (";a=\"\n", ErrorKind::InvalidStringCharacter, 1),
             ] {
                 let text = format!(in alloc; "{item}{end}")?;
-                holds &= is_rejected(alloc, "item", text.as_str(), (kind, back, false), 0);
+                reject(alloc, "item", text.as_str(), (kind, back, false), 0)?;
             }
         }
     }
-    assert!(rt; holds);
     Ok(())
 }

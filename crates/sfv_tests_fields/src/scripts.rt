@@ -105,7 +105,7 @@ fn lists_are_written_without_abandoned_inner_lists(rt: HostRuntime) {
         ("Z", "xx", "Z"),
     ];
     for &(front, words, wanted) in rows {
-        assert!(rt; is_list(rt.alloc(), front, words, wanted));
+        assert!(rt; is_list(rt.alloc(), front, words, wanted), "{words}");
     }
 }
 
@@ -156,7 +156,7 @@ fn dictionaries_are_written_without_abandoned_inner_lists(rt: HostRuntime) {
         ("", "a=1 b=2 a=3", "a=1, b=2, a=3"),
     ];
     for &(front, words, wanted) in rows {
-        assert!(rt; is_dictionary(rt.alloc(), front, words, wanted));
+        assert!(rt; is_dictionary(rt.alloc(), front, words, wanted), "{words}");
     }
 }
 

@@ -1,17 +1,16 @@
 //! Items, lists and dictionaries that are written whole, or part by part with single calls.
 
-use crate::common::{gives, has_text, is_text, value};
+use crate::common::{dictionary_of, gives, has_text, is_text, item_of, list_of, value};
 use sfv::{
-    BareItem, DictSerializer, Dictionary, FieldType, InnerList, InnerListSerializer, Item,
-    ItemSerializer, KeyRef, List, ListEntry, ListSerializer, Parameters, Parser, SerializeError,
-    Sink, Version, dictionary, key_ref,
+    BareItem, DictSerializer, FieldType, InnerList, InnerListSerializer, Item, ItemSerializer,
+    KeyRef, List, ListEntry, ListSerializer, Parameters, Parser, SerializeError, Sink, Version,
+    dictionary, key_ref,
 };
 use std::alloc::Global;
 
 /// Returns the parameters `;a;b=?0`.
 fn yes_and_no(alloc: Global) -> Option<Parameters> {
-    let item = Parser::new(b"1;a;b=?0").parse::<Item>(alloc).ok()?;
-    Some(item.params)
+    Some(item_of(alloc, Parser::new(b"1;a;b=?0"))?.params)
 }
 
 /// Returns the inner list `(?1 2;a;b=?0);a;b=?0`.
@@ -48,7 +47,7 @@ fn fields_give_their_canonical_text(rt: HostRuntime) {
         ("dict", "a=1, b=2, a=3", "a=3, b=2"),
     ];
     for &(field, input, wanted) in rows {
-        assert!(rt; gives(rt.alloc(), field, input, wanted));
+        assert!(rt; gives(rt.alloc(), field, input, wanted), "{input}");
     }
 }
 
@@ -195,7 +194,7 @@ fn serializers_may_be_let_go(rt: HostRuntime) {
 
 /// Returns the text of the members of a list.
 fn list_again(alloc: Global, input: &str) -> Option<String> {
-    let list = Parser::new(input.as_bytes()).parse::<List>(alloc).ok()?;
+    let list = list_of(alloc, Parser::new(input.as_bytes()))?;
     let mut text = String::new(alloc);
     let mut serializer = ListSerializer::with_buffer(&mut text);
     serializer.members(list[..].iter()).ok()?;
@@ -212,8 +211,7 @@ fn members_of_a_list_are_written(rt: HostRuntime) {
 
 /// Returns the text of the members of a dictionary.
 fn dictionary_again(alloc: Global, input: &str) -> Option<String> {
-    let parser = Parser::new(input.as_bytes());
-    let dictionary = parser.parse::<Dictionary>(alloc).ok()?;
+    let dictionary = dictionary_of(alloc, Parser::new(input.as_bytes()))?;
     let mut text = String::new(alloc);
     let mut serializer = DictSerializer::with_buffer(&mut text);
     let first = serializer.members(dictionary.iter());

@@ -6,6 +6,7 @@ use crate::owned::is_field_held;
 use crate::sizes::holds_for;
 use sfv::{BareItem, KeyRef, Parser, RefBareItem, StringFromInput, TokenRef, Version};
 use sfv_random::Random;
+use sfv_random::rows::row;
 use sfv_random::texts::{bytes_of, filled, short_texts, value_of, written};
 use std::alloc::{AllocError, Global};
 use std::test::Fail;
@@ -44,153 +45,172 @@ fn starts(alloc: Global, place: &str, text: &str) -> Result<Vec<usize>, AllocErr
     Ok(starts)
 }
 
-/// Returns `true` if the fields with this text in the place of each `$` are read, copied and written by each call. Each
-/// text, in its turn, is written without room for it.
+/// Fails unless the fields with this text in the place of each `$` are read, copied and written by each call. Each text,
+/// in its turn, is written without room for it.
 fn are_held(
     alloc: Global,
     places: &[(&str, &str)],
     version: Version,
     text: &str,
-) -> Result<bool, Fail> {
-    let mut all = true;
+) -> Result<(), Fail> {
     for &(field, place) in places {
         let (whole, starts) = (filled(alloc, place, text)?, starts(alloc, place, text)?);
         let parser = Parser::new(whole.as_bytes()).with_version(version);
         let rooms = (whole.len(), starts.as_slice());
-        all &= holds_for(alloc, field, version, whole.as_str())
-            & grows_with(alloc, field, version, rooms, whole.as_str())
-            & (is_field_held(alloc, field, parser, false) == Some(true));
+        holds_for(alloc, field, version, whole.as_str())?;
+        grows_with(alloc, field, version, rooms, whole.as_str())?;
+        let is_held = is_field_held(alloc, field, parser, false) == Some(true);
+        row(
+            field,
+            version,
+            whole.as_str(),
+            "little unused memory",
+            is_held,
+        )?;
     }
-    Ok(all)
+    Ok(())
 }
 
-/// Returns the version for this row. The versions take turns, if RFC 8941 has the kind.
-fn version_for(row: usize, kind: &str) -> Version {
-    if kind == "display" || row % 2 == 0 {
+/// Returns the version for this turn. The versions take turns, if RFC 8941 has the kind.
+fn version_for(turn: usize, kind: &str) -> Version {
+    if kind == "display" || turn % 2 == 0 {
         Version::Rfc9651
     } else {
         Version::Rfc8941
     }
 }
 
+/// Returns `true` if the input parses to this token.
+fn is_token(alloc: Global, parser: Parser<'_>, value: RefBareItem<'_>) -> bool {
+    match parser.parse_item::<TokenRef<'_>>(alloc) {
+        Ok(token) => RefBareItem::from(token) == value,
+        Err(_) => false,
+    }
+}
+
+/// Returns `true` if the input parses to this string.
+fn is_string(alloc: Global, parser: Parser<'_>, value: RefBareItem<'_>) -> bool {
+    match parser.parse_item::<StringFromInput<'_>>(alloc) {
+        Ok(string) => RefBareItem::from(string.as_string_ref()) == value,
+        Err(_) => false,
+    }
+}
+
+/// Returns `true` if the input parses to these bytes.
+fn is_bytes(alloc: Global, parser: Parser<'_>, value: RefBareItem<'_>) -> bool {
+    match parser.parse_item::<Vec<u8>>(alloc) {
+        Ok(bytes) => RefBareItem::from(bytes.as_slice()) == value,
+        Err(_) => false,
+    }
+}
+
+/// Returns `true` if the input parses to this bare item.
+fn is_any(alloc: Global, parser: Parser<'_>, value: RefBareItem<'_>) -> bool {
+    match parser.parse_item::<BareItem>(alloc) {
+        Ok(any) => any.as_ref_item() == value,
+        Err(_) => false,
+    }
+}
+
 /// Returns `true` if the input parses to this bare item, by the type of its kind and by that of every kind.
-fn is_expected(alloc: Global, kind: &str, input: &str, value: RefBareItem<'_>) -> Option<bool> {
+fn is_expected(alloc: Global, kind: &str, input: &str, value: RefBareItem<'_>) -> bool {
     let parser = Parser::new(input.as_bytes());
     let is_kind = match kind {
-        "token" => RefBareItem::from(parser.parse_item::<TokenRef<'_>>(alloc).ok()?) == value,
-        "string" => {
-            let string = parser.parse_item::<StringFromInput<'_>>(alloc).ok()?;
-            RefBareItem::from(string.as_string_ref()) == value
-        }
-        "bytes" => {
-            let bytes = parser.parse_item::<Vec<u8>>(alloc).ok()?;
-            RefBareItem::from(bytes.as_slice()) == value
-        }
+        "token" => is_token(alloc, parser, value),
+        "string" => is_string(alloc, parser, value),
+        "bytes" => is_bytes(alloc, parser, value),
         _ => true,
     };
-    let any = parser.parse_item::<BareItem>(alloc).ok()?;
-    Some(is_kind && any.as_ref_item() == value)
+    is_kind & is_any(alloc, parser, value)
 }
 
-/// Appends the canonical text of a value. Returns `true` if that parses to the value.
-fn push_value(all: &mut String, kind: &str, content: &str) -> Result<bool, Fail> {
+/// Appends the canonical text of a value. Fails unless that parses to the value.
+fn push_value(all: &mut String, kind: &str, content: &str) -> Result<(), Fail> {
     let alloc = *all.allocator();
     let bytes = bytes_of(alloc, content)?;
-    let Some(value) = value_of(kind, content, bytes.as_slice()) else {
-        return Ok(false);
-    };
+    let value = value_of(kind, content, bytes.as_slice()).ok_or("no value")?;
     let text = written(alloc, value)?;
     all.push_str(text.as_str())?;
-    Ok(is_expected(alloc, kind, text.as_str(), value) == Some(true))
+    let holds = is_expected(alloc, kind, text.as_str(), value);
+    row(kind, Version::Rfc9651, text.as_str(), "the value", holds)
 }
 
-/// Returns `true` if values of this kind, with random texts before `end`, are read, copied and written in each place of a
+/// Fails unless values of this kind, with random texts before `end`, are read, copied and written in each place of a
 /// field.
-fn values_hold(alloc: Global, kind: &str, end: &str) -> Result<bool, Fail> {
-    let mut all = true;
-    for (row, content) in Random::new(1).texts(alloc, kind)?.iter().enumerate() {
+fn values_hold(alloc: Global, kind: &str, end: &str) -> Result<(), Fail> {
+    for (turn, content) in Random::new(1).texts(alloc, kind)?.iter().enumerate() {
         let content = format!(in alloc; "{content}{end}")?;
         let mut text = String::new(alloc);
-        all &= push_value(&mut text, kind, content.as_str())?;
-        all &= are_held(alloc, VALUES, version_for(row, kind), text.as_str())?;
+        push_value(&mut text, kind, content.as_str())?;
+        are_held(alloc, VALUES, version_for(turn, kind), text.as_str())?;
     }
-    Ok(all)
+    Ok(())
 }
 
 #[test]
 fn random_tokens_are_read_and_written(rt: HostRuntime) -> Result<(), Fail> {
-    assert!(rt; values_hold(rt.alloc(), "token", "")?);
-    Ok(())
+    values_hold(rt.alloc(), "token", "")
 }
 
 #[test]
 fn random_strings_are_read_and_written(rt: HostRuntime) -> Result<(), Fail> {
-    assert!(rt; values_hold(rt.alloc(), "string", "")?);
-    Ok(())
+    values_hold(rt.alloc(), "string", "")
 }
 
 // Each text has an escape after it.
 #[test]
 fn random_strings_with_escapes_are_read_and_written(rt: HostRuntime) -> Result<(), Fail> {
-    assert!(rt; values_hold(rt.alloc(), "string", "\"")?);
-    Ok(())
+    values_hold(rt.alloc(), "string", "\"")
 }
 
 #[test]
 fn random_display_strings_are_read_and_written(rt: HostRuntime) -> Result<(), Fail> {
-    assert!(rt; values_hold(rt.alloc(), "display", "")?);
-    Ok(())
+    values_hold(rt.alloc(), "display", "")
 }
 
 #[test]
 fn random_display_strings_with_escapes_are_read_and_written(rt: HostRuntime) -> Result<(), Fail> {
-    assert!(rt; values_hold(rt.alloc(), "display", "\"")?);
-    Ok(())
+    values_hold(rt.alloc(), "display", "\"")
 }
 
 #[test]
 fn random_byte_sequences_are_read_and_written(rt: HostRuntime) -> Result<(), Fail> {
-    assert!(rt; values_hold(rt.alloc(), "bytes", "")?);
-    Ok(())
+    values_hold(rt.alloc(), "bytes", "")
 }
 
-/// Returns `true` if lists of all short texts of this kind are read, copied and written. Each text is a member and its
+/// Fails unless lists of all short texts of this kind are read, copied and written. Each text is a member and its
 /// parameter.
-fn short_texts_hold(alloc: Global, kind: &str) -> Result<bool, Fail> {
-    let mut all = true;
-    for (row, texts) in short_texts(alloc, kind)?.chunks(64).enumerate() {
+fn short_texts_hold(alloc: Global, kind: &str) -> Result<(), Fail> {
+    for (turn, texts) in short_texts(alloc, kind)?.chunks(64).enumerate() {
         let mut list = String::from_str(alloc, "first-member")?;
         for content in texts.iter() {
             list.push_str(", ")?;
-            all &= push_value(&mut list, kind, content.as_str())?;
+            push_value(&mut list, kind, content.as_str())?;
             list.push_str(";k=")?;
-            all &= push_value(&mut list, kind, content.as_str())?;
+            push_value(&mut list, kind, content.as_str())?;
         }
-        all &= are_held(
+        are_held(
             alloc,
             &[("list", "$")],
-            version_for(row, kind),
+            version_for(turn, kind),
             list.as_str(),
         )?;
     }
-    Ok(all)
+    Ok(())
 }
 
 #[test]
 fn short_texts_are_read_and_written(rt: HostRuntime) -> Result<(), Fail> {
-    let alloc = rt.alloc();
-    assert!(rt; short_texts_hold(alloc, "token")? & short_texts_hold(alloc, "string")?);
-    Ok(())
+    short_texts_hold(rt.alloc(), "token")?;
+    short_texts_hold(rt.alloc(), "string")
 }
 
 #[test]
 fn random_keys_are_read_and_written(rt: HostRuntime) -> Result<(), Fail> {
     let alloc = rt.alloc();
-    let mut all = true;
-    for (row, key) in Random::new(1).texts(alloc, "key")?.iter().enumerate() {
-        all &= KeyRef::from_str(key.as_str()).is_ok();
-        all &= are_held(alloc, KEYS, version_for(row, "key"), key.as_str())?;
+    for (turn, key) in Random::new(1).texts(alloc, "key")?.iter().enumerate() {
+        let _ = KeyRef::from_str(key.as_str())?;
+        are_held(alloc, KEYS, version_for(turn, "key"), key.as_str())?;
     }
-    assert!(rt; all);
     Ok(())
 }

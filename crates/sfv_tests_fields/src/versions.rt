@@ -1,10 +1,12 @@
 //! Serialization for a version.
 
-use crate::common::{counted, has_text, is_text, numbers, value};
+use crate::common::{counted, has_text, is_text, list_of, numbers, value};
 use sfv::{
     BareItemType, Dictionary, Error, FieldType, Item, ItemSerializer, List, ListEntry,
     ListSerializer, Parser, SerializeError, Version, append_inner_list, append_member,
 };
+use sfv_random::rows::row;
+use sfv_random::texts::filled;
 use std::alloc::Global;
 use std::test::Fail;
 
@@ -73,17 +75,22 @@ fn is_left_by_field<T: FieldType>(alloc: Global, input: &str) -> Option<bool> {
 #[test]
 fn a_field_that_the_version_lacks_is_not_appended(rt: HostRuntime) {
     let alloc = rt.alloc();
-    let mut all = true;
     for &item in &["@1", "1;a=%\"q\""] {
-        all &= is_left_by_field::<Item>(alloc, item) == Some(true);
+        assert!(rt;
+            is_left_by_field::<Item>(alloc, item) == Some(true),
+            "{item}"
+        );
     }
     for &list in &["1, @2", "(1 2;x=@1)"] {
-        all &= is_left_by_field::<List>(alloc, list) == Some(true);
+        assert!(rt;
+            is_left_by_field::<List>(alloc, list) == Some(true),
+            "{list}"
+        );
     }
     for &dictionary in &["a=1, b=(@2)", "a=1, b;x=@1"] {
-        all &= is_left_by_field::<Dictionary>(alloc, dictionary) == Some(true);
+        let holds = is_left_by_field::<Dictionary>(alloc, dictionary) == Some(true);
+        assert!(rt; holds, "{dictionary}");
     }
-    assert!(rt; all);
 }
 
 /// Appends a member, and an inner list again without its entry. Appends an exclamation mark for each date.
@@ -103,7 +110,7 @@ fn append_alone(member: &ListEntry, text: &mut String) -> Option<()> {
 
 /// Returns the texts of the members of a list.
 fn members_alone(alloc: Global, input: &str) -> Option<String> {
-    let list = Parser::new(input.as_bytes()).parse::<List>(alloc).ok()?;
+    let list = list_of(alloc, Parser::new(input.as_bytes()))?;
     let mut text = String::new(alloc);
     for member in list.iter() {
         append_alone(member, &mut text)?;
@@ -118,22 +125,22 @@ fn members_are_appended_alone(rt: HostRuntime) {
     assert!(rt; has_text(members_alone(rt.alloc(), input), wanted));
 }
 
+/// Fails unless the only member of a list is appended as this text.
+fn is_appended_alone(alloc: Global, input: &str, wanted: &str) -> Result<(), Fail> {
+    let holds = has_text(members_alone(alloc, input), wanted);
+    row("list", Version::Rfc8941, input, wanted, holds)
+}
+
 #[test]
 fn members_of_many_sizes_are_appended_alone(rt: HostRuntime) -> Result<(), Fail> {
     let alloc = rt.alloc();
     for &count in numbers(alloc, 40, 20_000)?.iter() {
         let item = counted(alloc, "a", ";k", "", "", count)?;
-        let wanted = format!(in alloc; "|{item}")?;
-        assert!(rt;
-            has_text(members_alone(alloc, item.as_str()), wanted.as_str()),
-            "{count}"
-        );
+        let wanted = filled(alloc, "|$", item.as_str())?;
+        is_appended_alone(alloc, item.as_str(), wanted.as_str())?;
         let list = counted(alloc, "(", "k", " ", ");x", count)?;
-        let wanted = format!(in alloc; "|{list}={list}")?;
-        assert!(rt;
-            has_text(members_alone(alloc, list.as_str()), wanted.as_str()),
-            "{count}"
-        );
+        let wanted = filled(alloc, "|$=$", list.as_str())?;
+        is_appended_alone(alloc, list.as_str(), wanted.as_str())?;
     }
     Ok(())
 }

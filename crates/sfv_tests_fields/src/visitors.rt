@@ -4,6 +4,7 @@ use crate::common::{has_text, repeated};
 use linked_list_allocator::LocalHeap;
 use sfv::visitor::{Event, Visitor};
 use sfv::{BareItemFromInput, GenericBareItem, ParseError, Parser, StringFromInput, Version};
+use sfv_random::rows::row;
 use std::alloc::{AllocError, Allocator, Global};
 use std::borrow::CowStr;
 use std::fmt::Write;
@@ -145,7 +146,7 @@ fn texts_of(alloc: Global, field: &str, input: &str) -> Option<String> {
 }
 
 #[test]
-fn texts_without_an_escape_are_borrowed(rt: HostRuntime) {
+fn texts_without_an_escape_are_borrowed(rt: HostRuntime) -> Result<(), Fail> {
     let rows = &[
         ("item", r#""a%b""#, "=borrowed a%b"),
         ("item", r#""""#, "=borrowed "),
@@ -175,8 +176,10 @@ fn texts_without_an_escape_are_borrowed(rt: HostRuntime) {
         ),
     ];
     for &(field, input, texts) in rows {
-        assert!(rt; has_text(texts_of(rt.alloc(), field, input), texts));
+        let holds = has_text(texts_of(rt.alloc(), field, input), texts);
+        row(field, Version::Rfc9651, input, texts, holds)?;
     }
+    Ok(())
 }
 
 // 33,333 times `a\"`, and then `a`, between quotes. The string has 66,667 characters, here after `=owned `.
@@ -205,16 +208,12 @@ fn events_stand_in_their_order(rt: HostRuntime) {
         alloc,
         new_teller(alloc),
     );
-    let holds = has_text(item.ok(), "bare 1, a=true, b=2, a=3, end")
-        & has_text(
-            list.ok(),
-            "; entry item bare 1, a=true, end; entry list  list end, end",
-        )
-        & has_text(
-            dictionary.ok(),
-            "; entry a list item bare 1, enditem bare x, y=true, end list end, end; entry b item bare true, end",
-        );
-    assert!(rt; holds);
+    assert!(rt; has_text(item.ok(), "bare 1, a=true, b=2, a=3, end"));
+    let wanted = "; entry item bare 1, a=true, end; entry list  list end, end";
+    assert!(rt; has_text(list.ok(), wanted));
+    let wanted =
+        "; entry a list item bare 1, enditem bare x, y=true, end list end, end; entry b item bare true, end";
+    assert!(rt; has_text(dictionary.ok(), wanted));
 }
 
 /// Returns the result of a visitor on a heap of this size: `true` if it wrote all events, `false` if memory ran out.
@@ -235,7 +234,7 @@ fn want_of_memory_is_the_visitors_answer(rt: HostRuntime) {
         match told_on_heap(rt.alloc(), size) {
             Some(true) => was_answered = true,
             Some(false) => was_out_of_memory = true,
-            None => assert!(rt; false),
+            None => assert!(rt; false, "{size}"),
         }
     }
     assert!(rt; was_out_of_memory && was_answered);
@@ -307,21 +306,29 @@ fn stops(
 /// More than the events of a field.
 pub const MOST: usize = 1_000_000;
 
-/// Returns `true` if a visitor of this field may fail at each of its first 60 events, and in `finish`, and is dropped.
+/// Fails unless a visitor of this field may fail at each of its first 60 events, and in `finish`, and is dropped.
 pub fn stops_at_each_event(
     alloc: Global,
     field: &str,
     version: Version,
     input: &str,
-) -> Result<bool, Fail> {
+) -> Result<(), Fail> {
     let held = Rc::new(alloc, 1u8)?;
     let left = stops(alloc, field, version, input, (MOST, &held))?.unwrap_or(0);
     let events = MOST.saturating_sub(left);
-    let mut holds = stops(alloc, field, version, input, (events, &held))?.is_none();
+    let holds = stops(alloc, field, version, input, (events, &held))?.is_none();
+    row(field, version, input, events, holds)?;
     for count in 0..events.min(60) {
-        holds &= stops(alloc, field, version, input, (count, &held))?.is_none();
+        let holds = stops(alloc, field, version, input, (count, &held))?.is_none();
+        row(field, version, input, count, holds)?;
     }
-    Ok(holds && Rc::strong_count(&held) == 1)
+    row(
+        field,
+        version,
+        input,
+        "no visitor left",
+        Rc::strong_count(&held) == 1,
+    )
 }
 
 /// Fields with escaped texts and byte sequences.
@@ -341,13 +348,11 @@ const EVENTS: &[(&str, &str)] = &[
 
 #[test]
 fn a_visitor_may_fail_at_each_event(rt: HostRuntime) -> Result<(), Fail> {
-    let mut holds = true;
     for &(field, input) in EVENTS {
         for &version in &[Version::Rfc8941, Version::Rfc9651] {
-            holds &= stops_at_each_event(rt.alloc(), field, version, input)?;
+            stops_at_each_event(rt.alloc(), field, version, input)?;
         }
     }
-    assert!(rt; holds);
     Ok(())
 }
 
@@ -366,7 +371,6 @@ const REJECTED: &[(&str, &str, usize)] = &[
 fn a_visitor_is_dropped_after_an_error(rt: HostRuntime) -> Result<(), Fail> {
     let alloc = rt.alloc();
     let held = Rc::new(alloc, 1u8)?;
-    let mut holds = true;
     for &(field, input, count) in REJECTED {
         for left in 0..count.saturating_add(3) {
             let finishes = usize::from(input == ":aGk=:;a !");
@@ -375,10 +379,10 @@ fn a_visitor_is_dropped_after_an_error(rt: HostRuntime) -> Result<(), Fail> {
             } else {
                 Some(usize::MAX)
             };
-            holds &= stops(alloc, field, Version::Rfc9651, input, (left, &held))? == wanted;
-            holds &= Rc::strong_count(&held) == 1;
+            let stopped = stops(alloc, field, Version::Rfc9651, input, (left, &held))?;
+            let holds = stopped == wanted && Rc::strong_count(&held) == 1;
+            row(field, Version::Rfc9651, input, left, holds)?;
         }
     }
-    assert!(rt; holds);
     Ok(())
 }

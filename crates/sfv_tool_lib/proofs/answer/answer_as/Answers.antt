@@ -4,10 +4,9 @@ use Rattle.sfv_tool_lib.proofs.Lines.{serialized_line, answered, write_fails}
 use Rattle.sfv_tool_lib.proofs.answer.answer_as.Goals as goal
 
 pub returns-in_err-text-clause-failed : goal.returns-in_err-text-clause-failed
-returns-in_err-text-clause-failed g c =
-    write_fails c.args.reading c.args.writing g.T.FieldType.kind c.args.input.now (g.T.FieldType.tree c.in_ok-value.value)
-    c.from_residual-in_err-text.result c.in_err-text.field-0.0 c.from_residual-in_err-text.ensures.1 c.in_ok-value.ensures.read
-    c.in_err-text.ensures.unsupported
+returns-in_err-text-clause-failed g c = write_fails c.args.reading c.args.writing g.T.FieldType.kind c.args.input.now
+    (g.T.FieldType.tree c.in_ok-value.value) c.from_residual-in_err-text.result c.in_err-text.field-0.0
+    c.from_residual-in_err-text.ensures.1 c.in_ok-value.ensures.read c.in_err-text.ensures.unsupported
 
 pub returns-in_err-line-clause-failed : goal.returns-in_err-line-clause-failed
 returns-in_err-line-clause-failed g c =

@@ -15,14 +15,12 @@ returns-clause-accepted c =
     }
 
 pub returns-in_err-write_priority-clause-failed : goal.returns-in_err-write_priority-clause-failed
-returns-in_err-write_priority-clause-failed c =
-    priority_unwritten c.args.version c.args.input.now (value_of c.in_ok-priority.priority)
-    c.from_residual-in_err-write_priority.result c.from_residual-in_err-write_priority.ensures.1
-    (rw c.without_newline.ensures at c.in_ok-priority.ensures.read)
+returns-in_err-write_priority-clause-failed c = priority_unwritten c.args.version c.args.input.now
+    (value_of c.in_ok-priority.priority) c.from_residual-in_err-write_priority.result
+    c.from_residual-in_err-write_priority.ensures.1 (rw c.without_newline.ensures at c.in_ok-priority.ensures.read)
 
 pub returns-in_err-text-clause-failed : goal.returns-in_err-text-clause-failed
-returns-in_err-text-clause-failed c =
-    priority_unwritten c.args.version c.args.input.now (value_of c.in_ok-priority.priority)
-    c.from_residual-in_err-text.result
+returns-in_err-text-clause-failed c = priority_unwritten c.args.version c.args.input.now
+    (value_of c.in_ok-priority.priority) c.from_residual-in_err-text.result
     (rw c.in_err-text.ensures.out_of_memory at c.from_residual-in_err-text.ensures.1)
     (rw c.without_newline.ensures at c.in_ok-priority.ensures.read)
