@@ -21,10 +21,7 @@ none_more p xs x h is = grind (arith, common_steps, h)
 
 module _ (strict : Bool) (field : Field) where
   pub field_failed : has_error field ≡ true → IsFailed strict (field ∷ []) true
-  field_failed bad = record {
-    with_error = λ e. refl;
-    only = λ e. sym (any_one has_error field ∙ bad);
-  }
+  field_failed bad = record { with_error = λ e. refl; only = λ e. sym (any_one has_error field ∙ bad) }
 
   pub only_if_strict : (failed : Bool) → has_error field ≡ false → (strict ≡ false → failed ≡ false)
       → IsFailed strict (field ∷ []) failed
