@@ -4,7 +4,7 @@
 ghost use Rattle.std.specs.Prelude.{◌≡◌, ◌⊎◌, if◌then◌else◌};
 ghost use Rattle.sfv_lint_args.specs.Options.{has_colors};
 ghost use Rattle.sfv_lint_head.specs.declared.paint.Colors.TheVariants as colors;
-ghost use Rattle.sfv_lint.specs.Status.{is_set, IsWritten, IsReported, IsLinted};
+ghost use Rattle.sfv_lint.specs.Status.{is_set, run_status, IsWritten, IsReported, IsLinted};
 
 use sfv::{HashSeed, random_seed};
 use sfv_lint_args::options::{ColorChoice, Options, parse_arguments};
@@ -76,6 +76,13 @@ fn write_failure<W: Write>(errors: &mut W, failure: Failure) -> u8
     WRONG
 }
 
+/// Returns the exit status of a run with an output.
+fn status_of(failed: bool) -> u8
+    ensures { result ≡ run_status failed }
+{
+    if failed { 1 } else { 0 }
+}
+
 /// Writes the report on an input. Returns the exit status.
 fn report<O: Write, E: Write>(
     alloc: Global,
@@ -89,7 +96,7 @@ fn report<O: Write, E: Write>(
     ensures { (result ≡ 2) ⊎ IsReported options.now colors input.now (O.contents output.old) (O.contents output.new) result }
 {
     match run(alloc, seed, options, colors, input) {
-        Ok(report) => write(output, report.text.as_str(), u8::from(report.failed)),
+        Ok(report) => write(output, report.text.as_str(), status_of(report.failed)),
         Err(failure) => write_failure(errors, failure),
     }
 }
